@@ -5,6 +5,7 @@ They are read off the layout of `rt fmt`: a function begins in the first column 
 
 import re
 from dataclasses import dataclass
+from functools import cache
 
 FUNCTION = re.compile(r"( {4}|)(?:pub(?:\([^)]*\))? )?(?:const |unsafe |extern \"C\" )*fn (\w+)")
 OWNER = re.compile(r"(?:unsafe )?impl\b|(?:pub(?:\([^)]*\))? )?(?:unsafe )?trait (\w+)")
@@ -41,6 +42,7 @@ def owner(lines, at):
     return last_words[-1] + "".join(it for it in last_words[:-1] if it != "Drop")
 
 
+@cache
 def functions_in(file, text):
     """Lists the functions of this file, a path as src/a/b.rt."""
     lines, found, of = text.split("\n"), [], ""

@@ -1,5 +1,8 @@
 #!/usr/bin/env python3
-"""Writes the captures of the gateway beside this script: Ethernet, one for each interface and direction, and what is sent of them."""
+"""Writes the captures of the gateway beside this script: Ethernet, one for each interface and direction, and what is sent of them.
+
+They have what the filter meets, so what goes out is as it was before any translation. tcpdump on a live gateway records it behind the filter.
+"""
 from packets import ETHERNET, echo, frame, tcp, udp, write_capture, write_sent
 
 INNER, RESOLVER, OUTER = ("10.1.1.7", 40000), ("198.51.100.7", 53), "203.0.113.1"

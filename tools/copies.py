@@ -1,12 +1,22 @@
-"""Copies of the sources, in which rt works side by side: it has one command at a time work in a checkout's crates."""
+"""This checkout, and copies of its sources, in which rt works side by side: it has one command at a time work in a checkout's crates."""
 
 import filecmp
 import os
 import shutil
+import subprocess
+import sys
 from pathlib import Path
 
 TOP = Path(__file__).resolve().parent.parent
 MEMORY_OF_A_CHECK = 3 << 30
+
+
+def git(*words):
+    """Returns the bytes that git says of this checkout, and ends with its fault where it fails."""
+    ran = subprocess.run(["git", "-C", TOP, *words], capture_output=True)
+    if ran.returncode:
+        sys.exit(f"git: {ran.stderr.decode(errors='replace').strip()}")
+    return ran.stdout
 
 
 def checks_at_a_time():

@@ -22,6 +22,8 @@ from pathlib import Path
 from queue import SimpleQueue
 
 from copies import TOP, checks_at_a_time, files_below, renew
+from times import PROVED as TIMES
+from times import in_minutes, keep, watched
 
 CRATES = TOP / "crates"
 PROVED = ("src", "specs", "proofs")
@@ -50,6 +52,15 @@ def crates_below(name, named):
         found |= new
         rest += new
     return found
+
+
+def crates_above(names, named):
+    """Returns the crates that stand on one of these, and these, lowest first."""
+    found = set(names)
+    for name in named:
+        # crates.txt has each crate behind those that it names
+        found |= {name} if found.intersection(named[name]) else set()
+    return [it for it in named if it in found]
 
 
 @cache
@@ -180,8 +191,7 @@ def time_left(seconds, done, whole):
     # the small crates come first, and by them alone it would seem far too long
     if not whole <= 4 * done < 4 * whole:
         return ""
-    minutes = max(1, round(seconds * (whole - done) / done / 60))
-    return f", about {minutes} minute{'s' if minutes > 1 else ''} left"
+    return f", {in_minutes(seconds * (whole - done) / done)} left"
 
 
 def prove_all(wanted, say):
@@ -193,7 +203,8 @@ def prove_all(wanted, say):
     began, done, running, failed = time.monotonic(), set(kept), set(), {}
     if kept:
         say(f"{len(kept)} of {len(wanted)} crates are proved")
-    with tempfile.TemporaryDirectory(prefix="npfctl-prove-") as folder, ThreadPoolExecutor(checks_at_a_time()) as pool:
+    workers = ThreadPoolExecutor(checks_at_a_time())
+    with watched(os.getpid()) as sums, tempfile.TemporaryDirectory(prefix="npfctl-prove-") as folder, workers as pool:
         free = free_copies(Path(folder), len(waiting))
         while running or (waiting and not failed):
             ready = {it for it in waiting if done.issuperset(named[it])} if not failed else set()
@@ -211,4 +222,5 @@ def prove_all(wanted, say):
                 kept |= {name} if was_proved else set()
                 left = time_left(time.monotonic() - began, sum(map(sizes.get, done - kept)), sum(map(sizes.get, wanted - kept)))
                 say(f"proved {name} ({len(done)} of {len(wanted)}{left})")
+    keep(TIMES, {(name, kind): much for (name, kind), much in sums.items() if name in done - kept})
     return failed

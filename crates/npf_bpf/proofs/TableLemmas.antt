@@ -2,10 +2,8 @@
 use Rattle.std.proofs.Common.{◌≡◌, Some, refl}
 use Rattle.npf_bpf.specs.declared.operation.Operand.TheVariants.{Constant, Index}
 use Rattle.npf_bpf.specs.declared.operation.Arithmetic.TheVariants.{Add, Subtract, Multiply, Divide, Or, And, ShiftLeft, ShiftRight}
-use Rattle.npf_bpf.specs.declared.operation.Comparison.TheVariants.{Equal, Greater, GreaterOrEqual, AnyBit}
-use Rattle.npf_bpf.specs.declared.operation.Operation.{Operation}
-use Rattle.npf_bpf.specs.declared.operation.Operation.TheVariants.{LoadAbsolute, LoadIndirect, Calculate, JumpIf}
-use Rattle.npf_bpf.specs.declared.operation.Width.TheVariants.{Word, Half, Byte}
+use Rattle.npf_bpf.specs.declared.operation.{Comparison.TheVariants.{Equal, Greater, GreaterOrEqual, AnyBit}, Operation.Operation}
+use Rattle.npf_bpf.specs.declared.operation.{Operation.TheVariants.{LoadAbsolute, LoadIndirect, Calculate, JumpIf}, Width.TheVariants.{Word, Half, Byte}}
 use Rattle.npf_bpf.specs.Table.{decoded, insn_of}
 
 pub insn_decodes : (operation : Operation) → decoded (insn_of operation) ≡ Some operation

@@ -2,18 +2,11 @@
 -- instructions.
 use Rattle.std.proofs.Common.{◌≡◌, ℕ, zero, suc, ◌+◌, ◌-◌, ◌<◌, ◌≤◌, ◌⊎◌, List, [], ◌∷◌, ◌++◌, length, Option, Some, None, IsSomeAnd, refl, ap, subst, ◌∙◌, ⊎_elim, arith}
 use Rattle.std.specs.Prelude.{slice_get, ⊤}
-use Rattle.npf_bpf.specs.declared.insn.Insn.{Insn}
-use Rattle.npf_bpf.specs.declared.operation.Operation.{Operation}
+use Rattle.npf_bpf.specs.declared.{insn.Insn.Insn, operation.Operation.Operation}
 use Rattle.npf_bpf.specs.declared.operation.Operation.TheVariants.{LoadAbsolute, LoadIndirect, LoadIndexHeader, Calculate, Jump, JumpIf, ReturnConstant, ReturnAccumulator}
-use Rattle.npf_bpf.specs.Table.{decoded}
-use Rattle.npf_bpf.specs.Validity.{IsAllowed}
-use Rattle.npf_bpf.specs.State.{BpfState}
-use Rattle.npf_bpf.specs.Coprocessor.{Coprocessor}
-use Rattle.npf_bpf.specs.Load.{loaded, header_length_at}
-use Rattle.npf_bpf.specs.Arithmetic.{calculated}
+use Rattle.npf_bpf.specs.{Table.decoded, Validity.IsAllowed, State.BpfState, Coprocessor.Coprocessor, Load.{loaded, header_length_at}, Arithmetic.calculated}
 use Rattle.npf_bpf.specs.Effect.{Effect, Returns, Continues, with_accumulator, with_index, or_return_0, operand_value, effect_of}
-use Rattle.npf_bpf.specs.Value.{executed, followed, value_from, steps_from}
-use Rattle.npf_bpf.specs.ValueLaw.{TellsValueBehind, StepsWithinLength}
+use Rattle.npf_bpf.specs.{Value.{executed, followed, value_from, steps_from}, ValueLaw.{TellsValueBehind, StepsWithinLength}}
 
 -- what comes after an effect is seen from a place or from the one before it
 followed-shift : (e : Effect) (f g : ℕ → BpfState → ℕ)

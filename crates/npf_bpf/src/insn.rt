@@ -1,3 +1,5 @@
+// Instructions of classic BPF (bpf(4)).
+
 /// One instruction, as bpf(4)'s `struct bpf_insn` has it.
 #[derive(Clone, Copy, PartialEq, Eq, Debug)]
 pub struct Insn {

@@ -1,30 +1,17 @@
 -- The tests of addresses.
 use Rattle.std.proofs.Common.{◌≡◌, ℕ, suc, ◌+◌, ◌-◌, ◌<◌, ◌≤◌, Bool, true, false, List, [], ◌∷◌, ◌++◌, length, get_or, drop, Some, None, refl, sym, ap, subst, ◌∙◌, arith}
-use Rattle.std.specs.List.{list_any, sum_by}
-use Rattle.std.specs.Prelude.{◌/◌, ◌%◌, ◌^◌, ◌*◌, ◌==◌, ◌&&◌, if◌then◌else◌, min, nat_le, nat_lt}
-use Rattle.std.proofs.Math.Nat.{min-le_right}
-use Rattle.std.proofs.lemmas.Bool.{eq-eqb, le-leb, lt-leb}
-use Rattle.std.proofs.lemmas.List.Sums.{sum_by-drop_more}
-use Rattle.npf_types.specs.declared.address.Addr.{Addr}
-use Rattle.npf_types.specs.declared.address.Addr.TheVariants.{V4, V6}
-use Rattle.npf_types.specs.declared.facts.Facts.{Facts}
-use Rattle.npf_types.specs.Address.{first_bits, shares_first}
+use Rattle.std.{specs.{List.{list_any, sum_by}, Prelude.{◌/◌, ◌%◌, ◌^◌, ◌*◌, ◌==◌, ◌&&◌, if◌then◌else◌, min, nat_le, nat_lt}}, proofs.Math.Nat.min-le_right}
+use Rattle.std.proofs.lemmas.{Bool.{eq-eqb, le-leb, lt-leb}, List.Sums.sum_by-drop_more}
+use Rattle.npf_types.specs.{declared.{address.Addr.{Addr, TheVariants.{V4, V6}}, facts.Facts.Facts}, Address.{first_bits, shares_first}}
 use Rattle.npf_fields.specs.Field.{number32, number64, number128}
-use Rattle.npf_model.specs.declared.ends.AddrItem.{AddrItem}
-use Rattle.npf_model.specs.declared.ends.AddrItem.TheVariants.{Net, InTable}
-use Rattle.npf_model.specs.Describes.{Tables, fits_addrs, item_has, table_has}
-use Rattle.npf_packet.specs.PacketField.{HasIpHeader}
-use Rattle.npf_packet.specs.Place.{least_ip_header}
-use Rattle.npf_bpf.specs.declared.insn.Insn.{Insn}
-use Rattle.npf_bpf.specs.Coprocessor.{Coprocessor}
-use Rattle.npf_bpfgen.specs.declared.endpoint.Endpoint.{Endpoint}
-use Rattle.npf_bpfgen.specs.declared.endpoint.Endpoint.TheVariants.{Source, Destination}
+use Rattle.npf_model.specs.{declared.ends.AddrItem.{AddrItem, TheVariants.{Net, InTable}}, Describes.{Tables, fits_addrs, item_has, table_has}}
+use Rattle.npf_packet.specs.{PacketField.HasIpHeader, Place.least_ip_header}
+use Rattle.npf_bpf.specs.{declared.insn.Insn.Insn, Coprocessor.Coprocessor}
+use Rattle.npf_bpfgen.specs.declared.endpoint.Endpoint.{Endpoint, TheVariants.{Source, Destination}}
 use Rattle.npf_bpfgen.specs.Endpoint.{address_of, asked_table, ipv4_place, ipv6_place}
 use Rattle.npf_bpfgen.specs.Instruction.{ask_member, first_bits_of_half, first_bits_of_word, if_equal, jump, load_constant, load_memory, shift_right}
-use Rattle.npf_bpfgen.specs.Premise.{AreBytes, BranchesOnPacket, GuardsPacket, Tells, header_words, ip_version}
-use Rattle.npf_bpfgen.specs.ProgramLength.{block_length, item_length}
-use Rattle.npf_bpfgen.specs.Tail.{Extends, Yields}
-use Rattle.npf_bpfgen.proofs.StepLemmas.{asks_member, equal, forget, is_equal, is_unequal, loads_version, loads_word, shifts}
+use Rattle.npf_bpfgen.specs.{Premise.{AreBytes, BranchesOnPacket, GuardsPacket, Tells, header_words, ip_version}, ProgramLength.{block_length, item_length}}
+use Rattle.npf_bpfgen.{specs.Tail.{Extends, Yields}, proofs.StepLemmas.{asks_member, equal, forget, is_equal, is_unequal, loads_version, loads_word, shifts}}
 use Rattle.npf_bpfgen.proofs.TailLemmas.{any_more, member_extended, member_guards}
 use Rattle.npf_bpfgen.proofs.WordLemmas.{eq_turned, number32_below, number64_below, shared_by_words, shifted_word, word_loaded}
 

@@ -1,28 +1,14 @@
 -- The tests of a segment's control bits.
 use Rattle.std.proofs.Common.{◌≡◌, ◌≢◌, ℕ, ◌+◌, ◌≤◌, Bool, true, false, List, [], ◌∷◌, ◌++◌, length, Some, None, refl, sym, ap, subst, ◌∙◌, arith}
-use Rattle.std.specs.Prelude.{◌==◌, if◌then◌else◌, bit_and}
-use Rattle.std.proofs.lemmas.Bool.{eq-eqb, ne_eqb, false≢true}
-use Rattle.npf_types.specs.declared.address.Addr.{Addr}
-use Rattle.npf_types.specs.declared.address.Addr.TheVariants.{V4, V6}
-use Rattle.npf_types.specs.declared.facts.L4.{L4}
-use Rattle.npf_types.specs.declared.facts.L4.TheVariants.{Tcp, Udp, Icmp, Icmp6, Other}
-use Rattle.npf_types.specs.declared.decision.Decision.{Decision}
-use Rattle.npf_types.specs.declared.decision.Decision.TheVariants.{Pass, Block}
-use Rattle.npf_model.specs.declared.rule.StateOpt.{StateOpt}
-use Rattle.npf_model.specs.declared.rule.StateOpt.TheVariants.{Not, OnInterface, Everywhere}
-use Rattle.npf_model.specs.Describes.{fits_flags, opens_if_tcp, shows_flags}
-use Rattle.npf_packet.specs.PacketField.{HasProtocol, HasUpperFields}
-use Rattle.npf_packet.specs.Place.{least_upper_header}
-use Rattle.npf_bpf.specs.declared.insn.Insn.{Insn}
-use Rattle.npf_bpf.specs.declared.operation.Width.TheVariants.{Byte}
-use Rattle.npf_bpf.specs.Coprocessor.{Coprocessor}
-use Rattle.npf_bpf.specs.Load.{loaded}
-use Rattle.npf_bpfgen.specs.Condition.{asks_opening}
-use Rattle.npf_bpfgen.specs.Instruction.{if_equal, load_byte_behind, load_index, load_memory, mask_with, return_number}
-use Rattle.npf_bpfgen.specs.Premise.{GuardsPacket, header_words}
-use Rattle.npf_bpfgen.specs.Tail.{Yields}
-use Rattle.npf_bpfgen.proofs.StepLemmas.{equal, forget, is_equal, is_unequal, loads_byte_behind, loads_protocol, masks, returns}
-use Rattle.npf_bpfgen.proofs.WordLemmas.{byte_loaded}
+use Rattle.std.{specs.Prelude.{◌==◌, if◌then◌else◌, bit_and}, proofs.lemmas.Bool.{eq-eqb, ne_eqb, false≢true}}
+use Rattle.npf_types.specs.declared.{address.Addr.{Addr, TheVariants.{V4, V6}}, facts.L4.{L4, TheVariants.{Tcp, Udp, Icmp, Icmp6, Other}}}
+use Rattle.npf_types.specs.declared.decision.Decision.{Decision, TheVariants.{Pass, Block}}
+use Rattle.npf_model.specs.{declared.rule.StateOpt.{StateOpt, TheVariants.{Not, OnInterface, Everywhere}}, Describes.{fits_flags, opens_if_tcp, shows_flags}}
+use Rattle.npf_packet.specs.{PacketField.{HasProtocol, HasUpperFields}, Place.least_upper_header}
+use Rattle.npf_bpf.specs.{declared.{insn.Insn.Insn, operation.Width.TheVariants.Byte}, Coprocessor.Coprocessor, Load.loaded}
+use Rattle.npf_bpfgen.specs.{Condition.asks_opening, Instruction.{if_equal, load_byte_behind, load_index, load_memory, mask_with, return_number}}
+use Rattle.npf_bpfgen.specs.{Premise.{GuardsPacket, header_words}, Tail.Yields}
+use Rattle.npf_bpfgen.proofs.{StepLemmas.{equal, forget, is_equal, is_unequal, loads_byte_behind, loads_protocol, masks, returns}, WordLemmas.byte_loaded}
 
 abbrev pub bits_test : ℕ → ℕ → List Insn
 bits_test mask wanted =

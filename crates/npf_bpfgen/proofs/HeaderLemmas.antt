@@ -1,18 +1,13 @@
 -- The tests of the header words: the family and the protocols.
 use Rattle.std.proofs.Common.{◌≡◌, ◌≢◌, ℕ, ◌+◌, Bool, true, false, List, [], ◌∷◌, ◌++◌, Some, None, refl, sym, ap, subst, ◌∙◌, suc, ◌-◌, ◌<◌, length, get_or, drop, arith}
-use Rattle.std.specs.List.{list_any}
-use Rattle.std.specs.Prelude.{◌==◌, ◌*◌, if◌then◌else◌}
-use Rattle.npf_types.specs.declared.address.Addr.{Addr}
-use Rattle.npf_types.specs.declared.address.Addr.TheVariants.{V4, V6}
+use Rattle.std.specs.{List.list_any, Prelude.{◌==◌, ◌*◌, if◌then◌else◌}}
+use Rattle.npf_types.specs.declared.address.Addr.{Addr, TheVariants.{V4, V6}}
 use Rattle.npf_model.specs.Describes.{fits_family, fits_protocol}
 use Rattle.npf_bpf.specs.declared.insn.Insn.{Insn}
-use Rattle.npf_bpfgen.specs.Instruction.{if_equal, jump, load_memory, return_number}
-use Rattle.npf_bpfgen.specs.Premise.{GuardsPacket, header_words, ip_version}
-use Rattle.npf_bpfgen.specs.ProgramLength.{protocols_length}
-use Rattle.npf_bpfgen.specs.Tail.{Yields, Extends, BranchesOnNumber, GuardsNumber}
+use Rattle.npf_bpfgen.specs.{Instruction.{if_equal, jump, load_memory, return_number}, Premise.{GuardsPacket, header_words, ip_version}}
+use Rattle.npf_bpfgen.specs.{ProgramLength.protocols_length, Tail.{Yields, Extends, BranchesOnNumber, GuardsNumber}}
 use Rattle.npf_bpfgen.proofs.StepLemmas.{equal, forget, loads_protocol, loads_version, returns}
-use Rattle.npf_bpfgen.proofs.TailLemmas.{any_more, extended, member_extended, member_guards}
-use Rattle.npf_bpfgen.proofs.WordLemmas.{eq_turned}
+use Rattle.npf_bpfgen.proofs.{TailLemmas.{any_more, extended, member_extended, member_guards}, WordLemmas.eq_turned}
 
 -- the number that stands for a family
 abbrev pub version_of_family : Bool → ℕ

@@ -1,21 +1,12 @@
 -- The tests of ICMP's type and code.
 use Rattle.std.proofs.Common.{◌≡◌, ◌≢◌, ℕ, ◌+◌, ◌≤◌, Bool, true, false, List, [], ◌∷◌, ◌++◌, length, Option, Some, None, refl, sym, ap, subst, ◌∙◌, arith, ⊎_elim}
-use Rattle.std.specs.Prelude.{◌==◌, ◌&&◌, if◌then◌else◌}
-use Rattle.std.proofs.lemmas.Bool.{cases_eq, eq-eqb, ne_eqb}
-use Rattle.npf_types.specs.declared.address.Addr.{Addr}
-use Rattle.npf_types.specs.declared.address.Addr.TheVariants.{V4, V6}
-use Rattle.npf_types.specs.declared.facts.L4.{L4}
-use Rattle.npf_types.specs.declared.facts.L4.TheVariants.{Tcp, Udp, Icmp, Icmp6, Other}
+use Rattle.std.{specs.Prelude.{◌==◌, ◌&&◌, if◌then◌else◌}, proofs.lemmas.Bool.{cases_eq, eq-eqb, ne_eqb}}
+use Rattle.npf_types.specs.declared.{address.Addr.{Addr, TheVariants.{V4, V6}}, facts.L4.{L4, TheVariants.{Tcp, Udp, Icmp, Icmp6, Other}}}
 use Rattle.npf_model.specs.Describes.{fits_icmp, is_message}
-use Rattle.npf_packet.specs.PacketField.{HasProtocol, HasUpperFields}
-use Rattle.npf_packet.specs.Place.{least_upper_header}
-use Rattle.npf_bpf.specs.declared.insn.Insn.{Insn}
-use Rattle.npf_bpf.specs.declared.operation.Width.TheVariants.{Byte}
-use Rattle.npf_bpf.specs.Coprocessor.{Coprocessor}
-use Rattle.npf_bpf.specs.Load.{loaded}
+use Rattle.npf_packet.specs.{PacketField.{HasProtocol, HasUpperFields}, Place.least_upper_header}
+use Rattle.npf_bpf.specs.{declared.{insn.Insn.Insn, operation.Width.TheVariants.Byte}, Coprocessor.Coprocessor, Load.loaded}
 use Rattle.npf_bpfgen.specs.Instruction.{if_equal, if_message, if_version_4, if_version_6, load_byte_behind, load_index, return_number}
-use Rattle.npf_bpfgen.specs.Premise.{GuardsPacket, header_words, ip_version}
-use Rattle.npf_bpfgen.specs.Tail.{Yields}
+use Rattle.npf_bpfgen.specs.{Premise.{GuardsPacket, header_words, ip_version}, Tail.Yields}
 use Rattle.npf_bpfgen.proofs.StepLemmas.{equal, forget, is_equal, is_unequal, loads_byte_behind, loads_protocol, loads_version, returns}
 use Rattle.npf_bpfgen.proofs.WordLemmas.{byte_loaded, eq_turned}
 

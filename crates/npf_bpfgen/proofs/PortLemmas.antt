@@ -1,28 +1,16 @@
 -- The tests of ports.
 use Rattle.std.proofs.Common.{◌≡◌, ◌≢◌, ℕ, ◌+◌, ◌<◌, ◌≤◌, Bool, true, false, List, [], ◌∷◌, ◌++◌, length, get_or, drop, suc, ◌-◌, Some, None, refl, sym, ap, subst, ◌∙◌, arith}
-use Rattle.std.specs.List.{list_any}
-use Rattle.std.specs.Prelude.{◌==◌, ◌&&◌, not, ◌*◌, if◌then◌else◌, nat_lt, nat_le}
+use Rattle.std.specs.{List.list_any, Prelude.{◌==◌, ◌&&◌, not, ◌*◌, if◌then◌else◌, nat_lt, nat_le}}
 use Rattle.std.proofs.lemmas.Bool.{eq-eqb, leb-true, le-leb, le-ltb, ltb-false, ne_eqb, not-true, not_from_false}
-use Rattle.npf_types.specs.declared.address.Addr.{Addr}
-use Rattle.npf_types.specs.declared.address.Addr.TheVariants.{V4, V6}
-use Rattle.npf_types.specs.declared.facts.L4.{L4}
-use Rattle.npf_types.specs.declared.facts.L4.TheVariants.{Tcp, Udp, Icmp, Icmp6, Other}
+use Rattle.npf_types.specs.declared.{address.Addr.{Addr, TheVariants.{V4, V6}}, facts.L4.{L4, TheVariants.{Tcp, Udp, Icmp, Icmp6, Other}}}
 use Rattle.npf_model.specs.Describes.{fits_ports, in_range, source_of}
-use Rattle.npf_packet.specs.PacketField.{HasProtocol, HasUpperFields}
-use Rattle.npf_packet.specs.Place.{least_upper_header}
-use Rattle.npf_bpf.specs.declared.insn.Insn.{Insn}
-use Rattle.npf_bpf.specs.declared.operation.Width.TheVariants.{Half}
-use Rattle.npf_bpf.specs.Coprocessor.{Coprocessor}
-use Rattle.npf_bpf.specs.Load.{loaded}
-use Rattle.npf_bpfgen.specs.declared.endpoint.Endpoint.{Endpoint}
-use Rattle.npf_bpfgen.specs.declared.endpoint.Endpoint.TheVariants.{Source, Destination}
-use Rattle.npf_bpfgen.specs.Endpoint.{port_of, port_place}
+use Rattle.npf_packet.specs.{PacketField.{HasProtocol, HasUpperFields}, Place.least_upper_header}
+use Rattle.npf_bpf.specs.{declared.{insn.Insn.Insn, operation.Width.TheVariants.Half}, Coprocessor.Coprocessor, Load.loaded}
+use Rattle.npf_bpfgen.specs.{declared.endpoint.Endpoint.{Endpoint, TheVariants.{Source, Destination}}, Endpoint.{port_of, port_place}}
 use Rattle.npf_bpfgen.specs.Instruction.{if_at_least, if_equal, if_greater, load_half_behind, load_index, load_memory, jump, return_number}
-use Rattle.npf_bpfgen.specs.Premise.{GuardsPacket, header_words}
-use Rattle.npf_bpfgen.specs.Tail.{Yields, Extends, BranchesOnNumber, GuardsNumber}
+use Rattle.npf_bpfgen.specs.{Premise.{GuardsPacket, header_words}, Tail.{Yields, Extends, BranchesOnNumber, GuardsNumber}}
 use Rattle.npf_bpfgen.proofs.StepLemmas.{at_least, forget, greater, is_equal, is_unequal, loads_half_behind, loads_protocol, returns}
-use Rattle.npf_bpfgen.proofs.TailLemmas.{any_more, extended, member_extended, member_guards}
-use Rattle.npf_bpfgen.proofs.WordLemmas.{half_loaded, same_test}
+use Rattle.npf_bpfgen.proofs.{TailLemmas.{any_more, extended, member_extended, member_guards}, WordLemmas.{half_loaded, same_test}}
 
 not_above : (a b : ℕ) → nat_le b a ≡ not (nat_lt a b)
 not_above a b = same_test (nat_le b a) (not (nat_lt a b))

@@ -1,15 +1,10 @@
 -- The conditions of a rule one behind the other, and the program that they make.
-use Rattle.std.proofs.Common.{◌≡◌, ℕ, Bool, true, false, List, [], ◌∷◌, None, refl, sym, ap, subst, ◌∙◌}
-use Rattle.std.specs.Prelude.{◌&&◌, if◌then◌else◌}
+use Rattle.std.{proofs.Common.{◌≡◌, ℕ, Bool, true, false, List, [], ◌∷◌, None, refl, sym, ap, subst, ◌∙◌}, specs.Prelude.{◌&&◌, if◌then◌else◌}}
 use Rattle.npf_types.specs.declared.facts.Facts.{Facts}
 use Rattle.npf_model.specs.declared.rule.Rule.{Rule}
 use Rattle.npf_model.specs.Describes.{Tables, fits_ends, fits_family, fits_flags, fits_icmp, fits_protocol, source_of, destination_of}
-use Rattle.npf_bpf.specs.declared.insn.Insn.{Insn}
-use Rattle.npf_bpf.specs.Value.{program_value}
-use Rattle.npf_bpfgen.specs.Instruction.{ask_header, return_number}
-use Rattle.npf_bpfgen.specs.Premise.{GuardsPacket, header_words}
-use Rattle.npf_bpfgen.specs.Program.{IsProgramOf}
-use Rattle.npf_bpfgen.specs.Tail.{Yields}
+use Rattle.npf_bpf.specs.{declared.insn.Insn.Insn, Value.program_value}
+use Rattle.npf_bpfgen.specs.{Instruction.{ask_header, return_number}, Premise.{GuardsPacket, header_words}, Program.IsProgramOf, Tail.Yields}
 use Rattle.npf_bpfgen.proofs.StepLemmas.{begins, returns}
 
 two_guards : (a b : Bool) (x : ℕ) → (if a then (if b then x else 0) else 0) ≡ (if a && b then x else 0)

@@ -1,17 +1,8 @@
 -- A program is no longer than its rule weighs.
-use Rattle.std.proofs.Common.{ℕ, ◌+◌, ◌≤◌, Bool, true, false, Option, Some, None, List, [], ◌∷◌, length, arith}
-use Rattle.std.specs.Prelude.{◌*◌, if◌then◌else◌}
-use Rattle.std.specs.List.{sum_by}
-use Rattle.std.proofs.lemmas.List.Sums.{sum_by-cons}
-use Rattle.npf_types.specs.declared.address.Addr.{Addr}
-use Rattle.npf_types.specs.declared.address.Addr.TheVariants.{V4, V6}
-use Rattle.npf_types.specs.declared.decision.Decision.{Decision}
-use Rattle.npf_model.specs.declared.ends.AddrItem.{AddrItem}
-use Rattle.npf_model.specs.declared.ends.AddrItem.TheVariants.{Net, InTable}
-use Rattle.npf_model.specs.declared.ends.Ends.{Ends}
-use Rattle.npf_model.specs.declared.rule.Rule.{Rule}
-use Rattle.npf_model.specs.declared.rule.StateOpt.{StateOpt}
-use Rattle.npf_model.specs.Count.{listed}
+use Rattle.std.{proofs.Common.{ℕ, ◌+◌, ◌≤◌, Bool, true, false, Option, Some, None, List, [], ◌∷◌, length, arith}, specs.Prelude.{◌*◌, if◌then◌else◌}}
+use Rattle.std.{specs.List.sum_by, proofs.lemmas.List.Sums.sum_by-cons}
+use Rattle.npf_types.specs.declared.{address.Addr.{Addr, TheVariants.{V4, V6}}, decision.Decision.Decision}
+use Rattle.npf_model.specs.{declared.{ends.{AddrItem.{AddrItem, TheVariants.{Net, InTable}}, Ends.Ends}, rule.{Rule.Rule, StateOpt.StateOpt}}, Count.listed}
 use Rattle.npf_bpfgen.specs.Condition.{asks_opening}
 use Rattle.npf_bpfgen.specs.ProgramLength.{addrs_length, block_length, ends_length, family_length, flags_length, icmp_length, item_length, ports_length, program_length, protocols_length}
 use Rattle.npf_bpfgen.specs.RuleWeight.{block_weight, ends_weight, item_weight, items_weight, weight_of}

@@ -1,15 +1,10 @@
 -- What each instruction does to the number that a program's end yields.
 use Rattle.std.proofs.Common.{◌≡◌, ℕ, ◌+◌, Bool, true, false, List, ◌∷◌, Option, Some, None, refl, ap, ◌∙◌}
 use Rattle.std.specs.Prelude.{◌/◌, ◌%◌, ◌^◌, ◌==◌, if◌then◌else◌, nat_lt, nat_le, slice_index, slice_set, replicate, bit_and}
-use Rattle.npf_bpf.specs.declared.insn.Insn.{Insn}
-use Rattle.npf_bpf.specs.declared.operation.Width.TheVariants.{Word, Half, Byte}
-use Rattle.npf_bpf.specs.Coprocessor.{Coprocessor}
-use Rattle.npf_bpf.specs.Effect.{or_return_0, with_accumulator}
-use Rattle.npf_bpf.specs.Load.{loaded}
-use Rattle.npf_bpf.specs.State.{BpfState}
-use Rattle.npf_bpf.specs.Value.{followed, value_from, program_value}
-use Rattle.npf_bpfgen.specs.Instruction.{load_word, load_half_behind, load_byte_behind, load_constant, load_memory, load_index, mask_with, shift_right, jump, if_equal, if_greater, if_at_least, return_number, ask_header, ask_member}
-use Rattle.npf_bpfgen.specs.Tail.{Yields}
+use Rattle.npf_bpf.specs.{declared.{insn.Insn.Insn, operation.Width.TheVariants.{Word, Half, Byte}}, Coprocessor.Coprocessor}
+use Rattle.npf_bpf.specs.{Effect.{or_return_0, with_accumulator}, Load.loaded, State.BpfState, Value.{followed, value_from, program_value}}
+use Rattle.npf_bpfgen.specs.Instruction.{load_word, load_half_behind, load_byte_behind, load_constant, load_memory, load_index, mask_with, shift_right, jump}
+use Rattle.npf_bpfgen.specs.{Instruction.{if_equal, if_greater, if_at_least, return_number, ask_header, ask_member}, Tail.Yields}
 
 module _ (p : List ℕ) (cop : Coprocessor) (header : ℕ × ℕ × ℕ) where
   -- nothing need be known of A

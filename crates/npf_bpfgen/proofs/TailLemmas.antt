@@ -1,23 +1,13 @@
 -- What is put in front of a program's end: whether it stays valid, and lists of members.
-use Rattle.std.proofs.Common.{◌≡◌, ℕ, zero, suc, ◌+◌, ◌-◌, ◌<◌, ◌≤◌, Bool, true, false, List, [], ◌∷◌, ◌++◌, length, Option, Some, None, IsSomeAnd, refl, sym, ap, subst, ◌∙◌, append_assoc, inl, inr, arith, get_or, drop}
-use Rattle.std.specs.List.{list_any}
-use Rattle.std.specs.Prelude.{◌&&◌, ◌||◌, if◌then◌else◌, nat_lt, slice_get}
-use Rattle.std.proofs.Math.Seq.{drop-cons}
-use Rattle.std.proofs.lemmas.List.{length-append}
+use Rattle.std.proofs.Common.{◌≡◌, ℕ, zero, suc, ◌+◌, ◌-◌, ◌<◌, ◌≤◌, Bool, true, false, List, [], ◌∷◌, ◌++◌, length, Option, Some, None}
+use Rattle.std.{proofs.Common.{IsSomeAnd, refl, sym, ap, subst, ◌∙◌, append_assoc, inl, inr, arith, get_or, drop}, specs.List.list_any}
+use Rattle.std.{specs.Prelude.{◌&&◌, ◌||◌, if◌then◌else◌, nat_lt, slice_get}, proofs.{Math.Seq.drop-cons, lemmas.List.length-append}}
 use Rattle.std.proofs.lemmas.Bool.{and_parts, false≢true, ltb-true}
-use Rattle.npf_bpf.specs.declared.insn.Insn.{Insn}
-use Rattle.npf_bpf.specs.declared.operation.Arithmetic.TheVariants.{And, ShiftRight}
-use Rattle.npf_bpf.specs.declared.operation.Operand.TheVariants.{Constant}
-use Rattle.npf_bpf.specs.declared.operation.Operation.{Operation}
+use Rattle.npf_bpf.specs.declared.{insn.Insn.Insn, operation.{Arithmetic.TheVariants.{And, ShiftRight}, Operand.TheVariants.Constant, Operation.Operation}}
 use Rattle.npf_bpf.specs.declared.operation.Operation.TheVariants.{LoadAbsolute, LoadIndirect, LoadConstant, LoadMemory, LoadIndexMemory, Calculate, JumpIf, ReturnConstant, AskHeader, AskMember}
-use Rattle.npf_bpf.specs.Coprocessor.{Coprocessor}
-use Rattle.npf_bpf.specs.Table.{decoded}
-use Rattle.npf_bpf.specs.Validity.{IsAllowed, IsInOrder, IsValid, KeepsRules}
-use Rattle.npf_bpf.specs.Value.{value_from}
+use Rattle.npf_bpf.specs.{Coprocessor.Coprocessor, Table.decoded, Validity.{IsAllowed, IsInOrder, IsValid, KeepsRules}, Value.value_from}
 use Rattle.npf_bpf.proofs.ValueLemmas.{value_behind}
-use Rattle.npf_bpfgen.specs.Instruction.{jump, return_number}
-use Rattle.npf_bpfgen.specs.Tail.{IsValidEnd, Extends, Yields, Guards, Branches}
-use Rattle.npf_bpfgen.proofs.StepLemmas.{jumps, returns}
+use Rattle.npf_bpfgen.{specs.{Instruction.{jump, return_number}, Tail.{IsValidEnd, Extends, Yields, Guards, Branches}}, proofs.StepLemmas.{jumps, returns}}
 
 -- a test that an operation may stand in front of so many instructions, or of more
 abbrev keeps : Operation → ℕ → Bool

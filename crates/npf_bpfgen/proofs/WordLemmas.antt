@@ -7,8 +7,7 @@ use Rattle.std.proofs.lemmas.Nat.{pow-add, pow_pos, div-mul-add, div_below, same
 use Rattle.std.proofs.lemmas.Bool.{and_from, and_parts, cases_lt, eq-eqb, eqb-true, false≢true, le-leb, lt-ltb}
 use Rattle.npf_types.specs.Address.{first_bits}
 use Rattle.npf_fields.specs.Field.{number16, number32, number64}
-use Rattle.npf_bpf.specs.declared.operation.Width.TheVariants.{Word, Half, Byte}
-use Rattle.npf_bpf.specs.Load.{loaded}
+use Rattle.npf_bpf.specs.{declared.operation.Width.TheVariants.{Word, Half, Byte}, Load.loaded}
 use Rattle.npf_bpfgen.specs.Premise.{AreBytes}
 
 -- two tests that hold together are one

@@ -1,3 +1,4 @@
+// Why a rule can't be compiled.
 ghost use Rattle.std.specs.Prelude.{◌≡◌};
 
 use npf_types::NoMemory;

@@ -1,3 +1,4 @@
+// A rule's program: the tests of its parts, one behind the other.
 ghost use Rattle.std.specs.Prelude.{◌≡◌, ◌≤◌, ◌<◌, ◌+◌, ◌*◌, ◌↔◌, [], IfOk, IfErr, OnOk, length};
 ghost use Rattle.std.specs.Result.{IsErrOf};
 ghost use Rattle.npf_model.specs.Describes.{fits_addrs, fits_ends, fits_ports};

@@ -1,3 +1,4 @@
+// How many instructions a rule takes at most, counted before any is written.
 ghost use Rattle.std.specs.Prelude.{◌≡◌, ◌≤◌, ◌*◌, ◌^◌, ◌<◌, length};
 ghost use Rattle.std.specs.List.{sum_by};
 ghost use Rattle.npf_model.specs.Count.{listed};

@@ -1,3 +1,3 @@
 pub mod Cells
 pub mod Telling
-pub mod Stepping
+pub mod Step

@@ -1,3 +1,4 @@
+// The table's words, and the calls that make it and part it among passes.
 ghost use Rattle.std.specs.Prelude.{◌≡◌, ◌≤◌, ◌<◌, ◌^◌, ◌+◌, ◌-◌, ◌++◌, ℕ, IfOk, None, length, replicate, slice_index, take, drop};
 ghost use Rattle.npf_connections.specs.Pass.{all_places};
 ghost use Rattle.npf_cells_words.specs.Layout.{pool_words, word_count};
@@ -8,9 +9,9 @@ use crate::hints::Hints;
 use crate::kinds::{
     AdvancesEpoch, LoadsEpoch, PinsReader, ProtectsReader, ScansReader, UnpinsReader,
 };
-use crate::passing::{GetsBorn, Gives, Reads, TakesIn};
+use crate::moves::{GetsBorn, Gives, Reads, TakesIn};
 use crate::rule::CellsRule;
-use crate::told::Told;
+use crate::told::StepTold;
 use arrayvec::ArrayVec;
 use atomic_table::{Refused, Seat, Table};
 use bumpalo::Bump;
@@ -282,7 +283,7 @@ impl<L: Law, H: KeyHash> Cells<L, H> {
         self.scan_reader_as::<Brand>(pass, reader)
     }
 
-    fn scan_reader_as<W: Told>(&self, pass: &mut CellPass<L>, reader: u32) -> u64
+    fn scan_reader_as<W: StepTold>(&self, pass: &mut CellPass<L>, reader: u32) -> u64
         requires own { IsPassIn self.now pass.old }
         requires reader { reader < all_places }
         requires aim { W.told.layout ≡ self.now.table.shared.key }

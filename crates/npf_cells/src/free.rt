@@ -1,9 +1,10 @@
+// A connection is freed, and the notes of epochs are cleared.
 ghost use Rattle.std.specs.Prelude.{◌≡◌};
 
 use crate::cells::{CellPass, Cells};
 use crate::pools::place_bit;
 use crate::rule::Running;
-use crate::told::Told;
+use crate::told::StepTold;
 use atomic_table::Play;
 use npf_cells_rule::CellView;
 use npf_cells_words::{Pool, note_field};
@@ -16,7 +17,7 @@ pub(crate) struct ClearsEpoch<W> {
     aim: PhantomData<W>,
 }
 
-impl<F, S, A, R, W: Told> Play<F, CellView<S, A, R>> for ClearsEpoch<W> {
+impl<F, S, A, R, W: StepTold> Play<F, CellView<S, A, R>> for ClearsEpoch<W> {
     ghost use Rattle.npf_cells_takes.specs.PrivateKinds.{ClearsNote};
 
     ghost then = { ClearsNote W.told.id };
@@ -28,7 +29,7 @@ pub(crate) struct FreesConnection<L: Law, H: KeyHash, W> {
     aim: PhantomData<W>,
 }
 
-impl<L: Law, H: KeyHash, W: Told> Play<Running<L::State>, CellView<L::State, L::Arg, L::Reply>>
+impl<L: Law, H: KeyHash, W: StepTold> Play<Running<L::State>, CellView<L::State, L::Arg, L::Reply>>
     for FreesConnection<L, H, W> {
     ghost use Rattle.npf_cells_takes.specs.SlotKinds.{FreesSlot};
 
@@ -56,7 +57,7 @@ impl<L: Law, H: KeyHash> Cells<L, H> {
         self.clear_note_as::<Brand>(pass, id);
     }
 
-    fn clear_note_as<W: Told>(&self, pass: &mut CellPass<L>, id: ConnId)
+    fn clear_note_as<W: StepTold>(&self, pass: &mut CellPass<L>, id: ConnId)
         requires own { IsPassIn self.now pass.old }
         requires slot { id.slot < self.now.table.shared.key.slots }
         requires may { MayClear pass.old.seat.me.0 id }
@@ -85,7 +86,7 @@ impl<L: Law, H: KeyHash> Cells<L, H> {
         self.free_slot_as::<Brand>(pass, id);
     }
 
-    fn free_slot_as<W: Told>(&self, pass: &mut CellPass<L>, id: ConnId)
+    fn free_slot_as<W: StepTold>(&self, pass: &mut CellPass<L>, id: ConnId)
         requires own { IsPassIn self.now pass.old }
         requires slot { id.slot < self.now.table.shared.key.slots }
         requires may { MayGiveBack pass.old.seat.me.0 id }

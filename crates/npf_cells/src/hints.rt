@@ -1,3 +1,4 @@
+// What a pass remembers so that it needn't search.
 use npf_cells_words::{Layout, Pool, READERS};
 
 /// What a pass remembers so that it needn't search. Any numbers are hints, so no clause speaks of them.

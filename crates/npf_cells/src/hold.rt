@@ -1,8 +1,9 @@
+// A place is loaded by who is to hold a key there.
 ghost use Rattle.std.specs.Prelude.{◌≡◌};
 
 use crate::cells::{CellPass, Cells};
 use crate::rule::Running;
-use crate::told::Told;
+use crate::told::StepTold;
 use atomic_table::Play;
 use npf_cells_rule::CellView;
 use npf_core::{ConnId, Law};
@@ -16,7 +17,7 @@ pub(crate) struct LoadsToHold<L: Law, H: KeyHash, W> {
     aim: PhantomData<W>,
 }
 
-impl<L: Law, H: KeyHash, W: Told> Play<Running<L::State>, CellView<L::State, L::Arg, L::Reply>>
+impl<L: Law, H: KeyHash, W: StepTold> Play<Running<L::State>, CellView<L::State, L::Arg, L::Reply>>
     for LoadsToHold<L, H, W> {
     ghost use Rattle.npf_cells_holds.specs.HoldKinds.{LoadsForHold};
 
@@ -32,7 +33,7 @@ impl<L: Law, H: KeyHash> Cells<L, H> {
     ghost use Rattle.npf_cells_words.specs.Places.{IsInTrie};
 
     // Loads a place of the path of a key that is to be held.
-    pub(crate) fn hold_place<W: Told>(
+    pub(crate) fn hold_place<W: StepTold>(
         &self,
         pass: &mut CellPass<L>,
         place: Place,

@@ -1,5 +1,6 @@
+// The kinds of steps on epochs: loads, pins and raises.
 use crate::rule::Running;
-use crate::told::Told;
+use crate::told::StepTold;
 use atomic_table::Play;
 use npf_cells_rule::CellView;
 use npf_core::Law;
@@ -49,7 +50,7 @@ pub(crate) struct ScansReader<L: Law, H: KeyHash, W> {
     aim: PhantomData<W>,
 }
 
-impl<L: Law, H: KeyHash, W: Told> Play<Running<L::State>, CellView<L::State, L::Arg, L::Reply>>
+impl<L: Law, H: KeyHash, W: StepTold> Play<Running<L::State>, CellView<L::State, L::Arg, L::Reply>>
     for ScansReader<L, H, W> {
     ghost use Rattle.npf_cells_moves.specs.Kinds.{Scans};
 

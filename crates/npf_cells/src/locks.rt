@@ -1,8 +1,9 @@
+// The locks of places: a try, and a store that gives the lock back.
 ghost use Rattle.std.specs.Prelude.{◌≡◌};
 
 use crate::cells::{CellPass, Cells};
 use crate::rule::Running;
-use crate::told::Told;
+use crate::told::StepTold;
 use atomic_table::Play;
 use npf_cells_rule::CellView;
 use npf_core::Law;
@@ -20,7 +21,7 @@ pub(crate) struct GetsLock<L: Law, H: KeyHash, W> {
     aim: PhantomData<W>,
 }
 
-impl<L: Law, H: KeyHash, W: Told> Play<Running<L::State>, CellView<L::State, L::Arg, L::Reply>>
+impl<L: Law, H: KeyHash, W: StepTold> Play<Running<L::State>, CellView<L::State, L::Arg, L::Reply>>
     for GetsLock<L, H, W> {
     ghost use Rattle.npf_cells_holds.specs.LockKinds.{TriesLock};
 
@@ -31,7 +32,7 @@ pub(crate) struct StoresNode<W> {
     aim: PhantomData<W>,
 }
 
-impl<F, S, A, R, W: Told> Play<F, CellView<S, A, R>> for StoresNode<W> {
+impl<F, S, A, R, W: StepTold> Play<F, CellView<S, A, R>> for StoresNode<W> {
     ghost use Rattle.npf_cells_holds.specs.LockKinds.{StoresState};
 
     ghost then = { StoresState W.told.layout W.told.lock W.told.state };
@@ -58,7 +59,7 @@ impl<L: Law, H: KeyHash> Cells<L, H> {
         self.try_lock_as::<Brand>(pass, lock)
     }
 
-    fn try_lock_as<W: Told>(&self, pass: &mut CellPass<L>, lock: Lock) -> bool
+    fn try_lock_as<W: StepTold>(&self, pass: &mut CellPass<L>, lock: Lock) -> bool
         requires own { IsPassIn self.now pass.old }
         requires lock { IsLockOf self.now.table.shared.key lock }
         requires protected { IsProtected pass.old.seat.me.0.epochs.pin }
@@ -89,7 +90,7 @@ impl<L: Law, H: KeyHash> Cells<L, H> {
         self.store_node_as::<Brand>(pass, lock, state);
     }
 
-    fn store_node_as<W: Told>(&self, pass: &mut CellPass<L>, lock: Lock, state: u64)
+    fn store_node_as<W: StepTold>(&self, pass: &mut CellPass<L>, lock: Lock, state: u64)
         requires own { IsPassIn self.now pass.old }
         requires lock { IsLockOf self.now.table.shared.key lock }
         requires locked { Contains pass.old.seat.me.0.trie.locks lock }

@@ -1,8 +1,9 @@
+// A place and a leaf's key are loaded by who looks for a key.
 ghost use Rattle.std.specs.Prelude.{◌≡◌};
 
 use crate::cells::{CellPass, Cells};
 use crate::rule::Running;
-use crate::told::Told;
+use crate::told::StepTold;
 use atomic_table::Play;
 use npf_cells_holds::Aim;
 use npf_cells_rule::CellView;
@@ -18,7 +19,7 @@ pub(crate) struct LooksAtPlace<L: Law, H: KeyHash, W> {
     aim: PhantomData<W>,
 }
 
-impl<L: Law, H: KeyHash, W: Told> Play<Running<L::State>, CellView<L::State, L::Arg, L::Reply>>
+impl<L: Law, H: KeyHash, W: StepTold> Play<Running<L::State>, CellView<L::State, L::Arg, L::Reply>>
     for LooksAtPlace<L, H, W> {
     ghost use Rattle.npf_cells_holds.specs.LookKinds.{LoadsPlace};
 
@@ -31,7 +32,7 @@ pub(crate) struct LoadsKeyWord<L: Law, H: KeyHash, W> {
     aim: PhantomData<W>,
 }
 
-impl<L: Law, H: KeyHash, W: Told> Play<Running<L::State>, CellView<L::State, L::Arg, L::Reply>>
+impl<L: Law, H: KeyHash, W: StepTold> Play<Running<L::State>, CellView<L::State, L::Arg, L::Reply>>
     for LoadsKeyWord<L, H, W> {
     ghost use Rattle.npf_cells_holds.specs.LookKinds.{LoadsKey};
 
@@ -65,7 +66,13 @@ impl<L: Law, H: KeyHash> Cells<L, H> {
         }
     }
 
-    fn look_place<W: Told>(&self, pass: &mut CellPass<L>, place: Place, n: u64, key: &Key) -> Cell
+    fn look_place<W: StepTold>(
+        &self,
+        pass: &mut CellPass<L>,
+        place: Place,
+        n: u64,
+        key: &Key,
+    ) -> Cell
         requires own { IsPassIn self.now pass.old }
         requires place { IsInTrie self.now.table.shared.key place }
         requires protected { IsProtected pass.old.seat.me.0.epochs.pin }
@@ -98,7 +105,13 @@ impl<L: Law, H: KeyHash> Cells<L, H> {
         self.load_key_as::<Brand>(pass, slot, way, word)
     }
 
-    fn load_key_as<W: Told>(&self, pass: &mut CellPass<L>, slot: u32, way: Way, word: u32) -> u64
+    fn load_key_as<W: StepTold>(
+        &self,
+        pass: &mut CellPass<L>,
+        slot: u32,
+        way: Way,
+        word: u32,
+    ) -> u64
         requires own { IsPassIn self.now pass.old }
         requires slot { slot < self.now.table.shared.key.slots }
         requires word { word < 5 }

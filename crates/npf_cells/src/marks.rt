@@ -4,7 +4,7 @@ ghost use Rattle.npf_cells_words.specs.MarkWords.{mark_word};
 
 use crate::cells::{CellPass, Cells};
 use crate::rule::Running;
-use crate::told::Told;
+use crate::told::StepTold;
 use atomic_table::Play;
 use npf_cells_rule::CellView;
 use npf_cells_words::{PARENT, Pool, STATE};
@@ -27,7 +27,7 @@ pub(crate) struct LoadsCellWord<L: Law, H: KeyHash, W> {
     aim: PhantomData<W>,
 }
 
-impl<L: Law, H: KeyHash, W: Told> Play<Running<L::State>, CellView<L::State, L::Arg, L::Reply>>
+impl<L: Law, H: KeyHash, W: StepTold> Play<Running<L::State>, CellView<L::State, L::Arg, L::Reply>>
     for LoadsCellWord<L, H, W> {
     ghost use Rattle.npf_cells_returns.specs.LoadKinds.{LoadsCell};
 
@@ -40,7 +40,7 @@ pub(crate) struct LoadsParentWord<L: Law, H: KeyHash, W> {
     aim: PhantomData<W>,
 }
 
-impl<L: Law, H: KeyHash, W: Told> Play<Running<L::State>, CellView<L::State, L::Arg, L::Reply>>
+impl<L: Law, H: KeyHash, W: StepTold> Play<Running<L::State>, CellView<L::State, L::Arg, L::Reply>>
     for LoadsParentWord<L, H, W> {
     ghost use Rattle.npf_cells_returns.specs.LoadKinds.{LoadsParent};
 
@@ -53,7 +53,7 @@ pub(crate) struct LoadsStateWord<L: Law, H: KeyHash, W> {
     aim: PhantomData<W>,
 }
 
-impl<L: Law, H: KeyHash, W: Told> Play<Running<L::State>, CellView<L::State, L::Arg, L::Reply>>
+impl<L: Law, H: KeyHash, W: StepTold> Play<Running<L::State>, CellView<L::State, L::Arg, L::Reply>>
     for LoadsStateWord<L, H, W> {
     ghost use Rattle.npf_cells_returns.specs.LoadKinds.{LoadsState};
 
@@ -73,7 +73,7 @@ pub(crate) struct PutsMark<W> {
     aim: PhantomData<W>,
 }
 
-impl<F, S, A, R, W: Told> Play<F, CellView<S, A, R>> for PutsMark<W> {
+impl<F, S, A, R, W: StepTold> Play<F, CellView<S, A, R>> for PutsMark<W> {
     ghost use Rattle.npf_cells_returns.specs.MarkKinds.{MarksPlace};
 
     ghost then = { MarksPlace W.told.number };
@@ -83,7 +83,7 @@ pub(crate) struct ClearsPlace<W> {
     aim: PhantomData<W>,
 }
 
-impl<F, S, A, R, W: Told> Play<F, CellView<S, A, R>> for ClearsPlace<W> {
+impl<F, S, A, R, W: StepTold> Play<F, CellView<S, A, R>> for ClearsPlace<W> {
     ghost use Rattle.npf_cells_returns.specs.MarkKinds.{RegainsNode};
 
     ghost then = { RegainsNode W.told.place W.told.number };
@@ -93,7 +93,7 @@ pub(crate) struct FreesState<W> {
     aim: PhantomData<W>,
 }
 
-impl<F, S, A, R, W: Told> Play<F, CellView<S, A, R>> for FreesState<W> {
+impl<F, S, A, R, W: StepTold> Play<F, CellView<S, A, R>> for FreesState<W> {
     ghost use Rattle.npf_cells_returns.specs.MarkKinds.{FreesNode};
 
     ghost then = { FreesNode W.told.number };
@@ -125,7 +125,7 @@ impl<L: Law, H: KeyHash> Cells<L, H> {
         self.load_cell_as::<Brand>(pass, place)
     }
 
-    fn load_cell_as<W: Told>(&self, pass: &mut CellPass<L>, place: Place) -> u64
+    fn load_cell_as<W: StepTold>(&self, pass: &mut CellPass<L>, place: Place) -> u64
         requires own { IsPassIn self.now pass.old }
         requires place { IsInTrie self.now.table.shared.key place }
         requires locked { Contains pass.old.seat.me.0.trie.locks (lock_of place) }
@@ -153,7 +153,7 @@ impl<L: Law, H: KeyHash> Cells<L, H> {
         self.load_parent_as::<Brand>(pass, node)
     }
 
-    fn load_parent_as<W: Told>(&self, pass: &mut CellPass<L>, node: u32) -> u64
+    fn load_parent_as<W: StepTold>(&self, pass: &mut CellPass<L>, node: u32) -> u64
         requires own { IsPassIn self.now pass.old }
         requires exists { node < self.now.table.shared.key.nodes }
         requires aim { (W.told.layout ≡ self.now.table.shared.key) × (W.told.number ≡ node) }
@@ -179,7 +179,7 @@ impl<L: Law, H: KeyHash> Cells<L, H> {
         self.load_state_as::<Brand>(pass, node)
     }
 
-    fn load_state_as<W: Told>(&self, pass: &mut CellPass<L>, node: u32) -> u64
+    fn load_state_as<W: StepTold>(&self, pass: &mut CellPass<L>, node: u32) -> u64
         requires own { IsPassIn self.now pass.old }
         requires exists { node < self.now.table.shared.key.nodes }
         requires aim { (W.told.layout ≡ self.now.table.shared.key) × (W.told.number ≡ node) }
@@ -208,8 +208,9 @@ impl<L: Law, H: KeyHash> Cells<L, H> {
             .store::<MarksState>(&mut pass.seat, word, MARKED);
     }
 
-    /// Puts the mark of a node that the pass marked in the place where the node hangs, whose lock the pass has. From then on a walk that comes
-    /// to the place ends there. The pass forgets the epoch that it loaded.
+    /// Puts the mark of a node that the pass marked in the place where the node hangs, under the lock of that place. While the mark stands
+    /// there, a walk that comes to the place ends. The pass forgets the epoch that it loaded with what it scanned since, and what it saw last in
+    /// the trie.
     pub fn mark_place(&self, pass: &mut CellPass<L>, place: Place, node: u32)
         requires own { IsPassIn self.now pass.old }
         requires place { IsInTrie self.now.table.shared.key place }
@@ -220,7 +221,7 @@ impl<L: Law, H: KeyHash> Cells<L, H> {
         self.mark_place_as::<Brand>(pass, place, node);
     }
 
-    fn mark_place_as<W: Told>(&self, pass: &mut CellPass<L>, place: Place, node: u32)
+    fn mark_place_as<W: StepTold>(&self, pass: &mut CellPass<L>, place: Place, node: u32)
         requires own { IsPassIn self.now pass.old }
         requires place { IsInTrie self.now.table.shared.key place }
         requires may { MayMarkPlace pass.old.seat.me.0 place node }
@@ -246,7 +247,7 @@ impl<L: Law, H: KeyHash> Cells<L, H> {
         self.clear_mark_as::<Brand>(pass, place, node);
     }
 
-    fn clear_mark_as<W: Told>(&self, pass: &mut CellPass<L>, place: Place, node: u32)
+    fn clear_mark_as<W: StepTold>(&self, pass: &mut CellPass<L>, place: Place, node: u32)
         requires own { IsPassIn self.now pass.old }
         requires place { IsInTrie self.now.table.shared.key place }
         requires may { MayClearMark pass.old.seat.me.0 place node }
@@ -271,7 +272,7 @@ impl<L: Law, H: KeyHash> Cells<L, H> {
         self.free_node_as::<Brand>(pass, node);
     }
 
-    fn free_node_as<W: Told>(&self, pass: &mut CellPass<L>, node: u32)
+    fn free_node_as<W: StepTold>(&self, pass: &mut CellPass<L>, node: u32)
         requires own { IsPassIn self.now pass.old }
         requires exists { node < self.now.table.shared.key.nodes }
         requires regained { Contains pass.old.seat.me.0.pools.unfreed node }

@@ -1,8 +1,9 @@
+// The word of a note is loaded.
 ghost use Rattle.std.specs.Prelude.{◌≡◌};
 
 use crate::cells::{CellPass, Cells};
 use crate::rule::Running;
-use crate::told::Told;
+use crate::told::StepTold;
 use atomic_table::Play;
 use npf_cells_rule::CellView;
 use npf_cells_words::{Pool, note_field};
@@ -17,7 +18,7 @@ pub(crate) struct LoadsNoteWord<L: Law, H: KeyHash, W> {
     aim: PhantomData<W>,
 }
 
-impl<L: Law, H: KeyHash, W: Told> Play<Running<L::State>, CellView<L::State, L::Arg, L::Reply>>
+impl<L: Law, H: KeyHash, W: StepTold> Play<Running<L::State>, CellView<L::State, L::Arg, L::Reply>>
     for LoadsNoteWord<L, H, W> {
     ghost use Rattle.npf_cells_turns.specs.NoteKinds.{LoadsNote};
 
@@ -51,7 +52,7 @@ impl<L: Law, H: KeyHash> Cells<L, H> {
         self.load_note_as::<Brand>(pass, slot, way)
     }
 
-    fn load_note_as<W: Told>(&self, pass: &mut CellPass<L>, slot: u32, way: Way) -> u64
+    fn load_note_as<W: StepTold>(&self, pass: &mut CellPass<L>, slot: u32, way: Way) -> u64
         requires own { IsPassIn self.now pass.old }
         requires slot { slot < self.now.table.shared.key.slots }
         requires turn { HasSlotTurn pass.old.seat.me.0 slot }

@@ -1,9 +1,10 @@
+// Connections and nodes are claimed from their pools, and given back.
 ghost use Rattle.std.specs.Prelude.{◌≡◌, ◌-◌, ◌*◌, ◌%◌, ◌^◌, ◌==◌};
 ghost use Rattle.std.specs.Int.{bit_at};
 
 use crate::cells::{CellPass, Cells};
 use crate::rule::Running;
-use crate::told::Told;
+use crate::told::StepTold;
 use atomic_table::Play;
 use npf_cells_rule::CellView;
 use npf_cells_words::Pool;
@@ -17,7 +18,7 @@ pub(crate) struct SweepsPool<L: Law, H: KeyHash, W> {
     aim: PhantomData<W>,
 }
 
-impl<L: Law, H: KeyHash, W: Told> Play<Running<L::State>, CellView<L::State, L::Arg, L::Reply>>
+impl<L: Law, H: KeyHash, W: StepTold> Play<Running<L::State>, CellView<L::State, L::Arg, L::Reply>>
     for SweepsPool<L, H, W> {
     ghost use Rattle.npf_cells_takes.specs.PoolKinds.{Sweeps};
 
@@ -30,7 +31,7 @@ pub(crate) struct TakesNode<L: Law, H: KeyHash, W> {
     aim: PhantomData<W>,
 }
 
-impl<L: Law, H: KeyHash, W: Told> Play<Running<L::State>, CellView<L::State, L::Arg, L::Reply>>
+impl<L: Law, H: KeyHash, W: StepTold> Play<Running<L::State>, CellView<L::State, L::Arg, L::Reply>>
     for TakesNode<L, H, W> {
     ghost use Rattle.npf_cells_takes.specs.PoolKinds.{ClaimsNode};
 
@@ -43,7 +44,7 @@ pub(crate) struct ReturnsNode<L: Law, H: KeyHash, W> {
     aim: PhantomData<W>,
 }
 
-impl<L: Law, H: KeyHash, W: Told> Play<Running<L::State>, CellView<L::State, L::Arg, L::Reply>>
+impl<L: Law, H: KeyHash, W: StepTold> Play<Running<L::State>, CellView<L::State, L::Arg, L::Reply>>
     for ReturnsNode<L, H, W> {
     ghost use Rattle.npf_cells_takes.specs.PoolKinds.{GivesNodeBack};
 
@@ -76,7 +77,7 @@ impl<L: Law, H: KeyHash> Cells<L, H> {
         self.load_pool_as::<Brand>(pass, pool, word)
     }
 
-    fn load_pool_as<W: Told>(&self, pass: &mut CellPass<L>, pool: Pool, word: u32) -> u64
+    fn load_pool_as<W: StepTold>(&self, pass: &mut CellPass<L>, pool: Pool, word: u32) -> u64
         requires own { IsPassIn self.now pass.old }
         requires word { word < pool_words (pool_places self.now.table.shared.key pool) }
         requires aim { (W.told.layout ≡ self.now.table.shared.key) × (W.told.pool ≡ pool) × (W.told.word ≡ word) }
@@ -126,7 +127,7 @@ impl<L: Law, H: KeyHash> Cells<L, H> {
         self.claim_node_as::<Brand>(pass, node)
     }
 
-    fn claim_node_as<W: Told>(&self, pass: &mut CellPass<L>, node: u32) -> bool
+    fn claim_node_as<W: StepTold>(&self, pass: &mut CellPass<L>, node: u32) -> bool
         requires own { IsPassIn self.now pass.old }
         requires node { node < self.now.table.shared.key.nodes }
         requires aim { (W.told.layout ≡ self.now.table.shared.key) × (W.told.number ≡ node) }
@@ -157,7 +158,7 @@ impl<L: Law, H: KeyHash> Cells<L, H> {
         self.give_back_as::<Brand>(pass, pool, place);
     }
 
-    fn give_back_as<W: Told>(&self, pass: &mut CellPass<L>, pool: Pool, place: u32)
+    fn give_back_as<W: StepTold>(&self, pass: &mut CellPass<L>, pool: Pool, place: u32)
         requires own { IsPassIn self.now pass.old }
         requires pool { pool ≡ Nodes }
         requires place { place < self.now.table.shared.key.nodes }

@@ -1,8 +1,9 @@
+// Words that only their owner writes: a slot's incarnation, its own words, its notes.
 ghost use Rattle.std.specs.Prelude.{◌≡◌};
 
 use crate::cells::{CellPass, Cells};
 use crate::rule::Running;
-use crate::told::Told;
+use crate::told::StepTold;
 use atomic_table::Play;
 use npf_cells_rule::CellView;
 use npf_cells_words::{INCARNATION, Pool, note_field};
@@ -15,7 +16,7 @@ pub(crate) struct LoadsIncarnation<W> {
     aim: PhantomData<W>,
 }
 
-impl<F, S, A, R, W: Told> Play<F, CellView<S, A, R>> for LoadsIncarnation<W> {
+impl<F, S, A, R, W: StepTold> Play<F, CellView<S, A, R>> for LoadsIncarnation<W> {
     ghost use Rattle.npf_cells_takes.specs.PrivateKinds.{LoadsInc};
 
     ghost then = { LoadsInc W.told.number };
@@ -27,7 +28,7 @@ pub(crate) struct StoresInOwn<L: Law, H: KeyHash, W> {
     aim: PhantomData<W>,
 }
 
-impl<L: Law, H: KeyHash, W: Told> Play<Running<L::State>, CellView<L::State, L::Arg, L::Reply>>
+impl<L: Law, H: KeyHash, W: StepTold> Play<Running<L::State>, CellView<L::State, L::Arg, L::Reply>>
     for StoresInOwn<L, H, W> {
     ghost use Rattle.npf_cells_takes.specs.PrivateKinds.{StoresPrivate};
 
@@ -38,7 +39,7 @@ pub(crate) struct StoresInNote<W> {
     aim: PhantomData<W>,
 }
 
-impl<F, S, A, R, W: Told> Play<F, CellView<S, A, R>> for StoresInNote<W> {
+impl<F, S, A, R, W: StepTold> Play<F, CellView<S, A, R>> for StoresInNote<W> {
     ghost use Rattle.npf_cells_takes.specs.PrivateKinds.{StoresAhead};
 
     ghost then = { StoresAhead W.told.way };
@@ -67,7 +68,7 @@ impl<L: Law, H: KeyHash> Cells<L, H> {
         self.load_inc_as::<Brand>(pass, slot)
     }
 
-    fn load_inc_as<W: Told>(&self, pass: &mut CellPass<L>, slot: u32) -> u64
+    fn load_inc_as<W: StepTold>(&self, pass: &mut CellPass<L>, slot: u32) -> u64
         requires own { IsPassIn self.now pass.old }
         requires slot { slot < self.now.table.shared.key.slots }
         requires aim { W.told.number ≡ slot }
@@ -106,7 +107,7 @@ impl<L: Law, H: KeyHash> Cells<L, H> {
         self.store_private_as::<Brand>(pass, pool, place, field, value);
     }
 
-    fn store_private_as<W: Told>(
+    fn store_private_as<W: StepTold>(
         &self,
         pass: &mut CellPass<L>,
         pool: Pool,
@@ -140,7 +141,7 @@ impl<L: Law, H: KeyHash> Cells<L, H> {
         self.note_ahead_as::<Brand>(pass, slot, way, value);
     }
 
-    fn note_ahead_as<W: Told>(&self, pass: &mut CellPass<L>, slot: u32, way: Way, value: u64)
+    fn note_ahead_as<W: StepTold>(&self, pass: &mut CellPass<L>, slot: u32, way: Way, value: u64)
         requires own { IsPassIn self.now pass.old }
         requires slot { slot < self.now.table.shared.key.slots }
         requires may { MayStoreAhead pass.old.seat.me.0 slot way value }

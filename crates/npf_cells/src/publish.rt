@@ -1,8 +1,9 @@
+// A key is published at a place, or a place is stored as it was.
 ghost use Rattle.std.specs.Prelude.{◌≡◌};
 
 use crate::cells::{CellPass, Cells};
 use crate::rule::Running;
-use crate::told::Told;
+use crate::told::StepTold;
 use atomic_table::Play;
 use npf_cells_holds::Aim;
 use npf_cells_rule::CellView;
@@ -17,7 +18,7 @@ pub(crate) struct PublishesKey<L: Law, H: KeyHash, W> {
     aim: PhantomData<W>,
 }
 
-impl<L: Law, H: KeyHash, W: Told> Play<Running<L::State>, CellView<L::State, L::Arg, L::Reply>>
+impl<L: Law, H: KeyHash, W: StepTold> Play<Running<L::State>, CellView<L::State, L::Arg, L::Reply>>
     for PublishesKey<L, H, W> {
     ghost use Rattle.npf_cells_holds.specs.PublishKinds.{PublishesFor};
 
@@ -79,7 +80,7 @@ impl<L: Law, H: KeyHash> Cells<L, H> {
             .store::<StoresSame>(&mut pass.seat, word, cell.word());
     }
 
-    fn publish_key<W: Told>(
+    fn publish_key<W: StepTold>(
         &self,
         pass: &mut CellPass<L>,
         place: Place,

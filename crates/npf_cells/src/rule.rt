@@ -1,3 +1,4 @@
+// The rule of the table, which each step keeps.
 use atomic_table::TableRule;
 use npf_cells_rule::CellView;
 use npf_cells_words::Layout;

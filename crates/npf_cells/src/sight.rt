@@ -1,3 +1,4 @@
+// A pass sees the whole history.
 use crate::cells::{CellPass, Cells};
 use crate::rule::Running;
 use atomic_table::Play;

@@ -1,9 +1,10 @@
+// A slot is claimed.
 ghost use Rattle.std.specs.Prelude.{◌≡◌};
 
 use crate::cells::{CellPass, Cells};
 use crate::pools::{is_clear, place_bit};
 use crate::rule::Running;
-use crate::told::Told;
+use crate::told::StepTold;
 use atomic_table::Play;
 use npf_cells_rule::CellView;
 use npf_cells_words::Pool;
@@ -17,7 +18,7 @@ pub(crate) struct TakesSlot<L: Law, H: KeyHash, W> {
     aim: PhantomData<W>,
 }
 
-impl<L: Law, H: KeyHash, W: Told> Play<Running<L::State>, CellView<L::State, L::Arg, L::Reply>>
+impl<L: Law, H: KeyHash, W: StepTold> Play<Running<L::State>, CellView<L::State, L::Arg, L::Reply>>
     for TakesSlot<L, H, W> {
     ghost use Rattle.npf_cells_takes.specs.SlotKinds.{ClaimsSlot};
 
@@ -48,7 +49,7 @@ impl<L: Law, H: KeyHash> Cells<L, H> {
         self.claim_slot_as::<Brand>(pass, slot, n)
     }
 
-    fn claim_slot_as<W: Told>(&self, pass: &mut CellPass<L>, slot: u32, n: u64) -> bool
+    fn claim_slot_as<W: StepTold>(&self, pass: &mut CellPass<L>, slot: u32, n: u64) -> bool
         requires own { IsPassIn self.now pass.old }
         requires slot { slot < self.now.table.shared.key.slots }
         requires protected { IsProtected pass.old.seat.me.0.epochs.pin }

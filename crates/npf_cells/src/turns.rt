@@ -1,8 +1,9 @@
+// The turn of a slot: a try to take it, and its end.
 ghost use Rattle.std.specs.Prelude.{◌≡◌};
 
 use crate::cells::{CellPass, Cells};
 use crate::rule::Running;
-use crate::told::Told;
+use crate::told::StepTold;
 use atomic_table::Play;
 use npf_cells_rule::CellView;
 use npf_cells_turns::TurnAct;
@@ -22,7 +23,7 @@ pub(crate) struct TakesTurn<L: Law, H: KeyHash, W> {
     aim: PhantomData<W>,
 }
 
-impl<L: Law, H: KeyHash, W: Told> Play<Running<L::State>, CellView<L::State, L::Arg, L::Reply>>
+impl<L: Law, H: KeyHash, W: StepTold> Play<Running<L::State>, CellView<L::State, L::Arg, L::Reply>>
     for TakesTurn<L, H, W> {
     ghost use Rattle.npf_cells_turns.specs.TurnKinds.{TriesTurn};
 
@@ -76,7 +77,7 @@ impl<L: Law, H: KeyHash> Cells<L, H> {
         self.try_turn_as::<Brand>(pass, slot)
     }
 
-    fn try_turn_as<W: Told>(&self, pass: &mut CellPass<L>, slot: u32) -> bool
+    fn try_turn_as<W: StepTold>(&self, pass: &mut CellPass<L>, slot: u32) -> bool
         requires own { IsPassIn self.now pass.old }
         requires slot { slot < self.now.table.shared.key.slots }
         requires turnless { pass.old.seat.me.0.turn ≡ None }

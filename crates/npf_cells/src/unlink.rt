@@ -1,8 +1,9 @@
+// A key is taken off its place.
 ghost use Rattle.std.specs.Prelude.{◌≡◌};
 
 use crate::cells::{CellPass, Cells};
 use crate::rule::Running;
-use crate::told::Told;
+use crate::told::StepTold;
 use atomic_table::Play;
 use npf_cells_rule::CellView;
 use npf_core::{ConnId, Law};
@@ -18,7 +19,7 @@ pub(crate) struct UnlinksLeaf<L: Law, W> {
     aim: PhantomData<W>,
 }
 
-impl<L: Law, W: Told> Play<Running<L::State>, CellView<L::State, L::Arg, L::Reply>>
+impl<L: Law, W: StepTold> Play<Running<L::State>, CellView<L::State, L::Arg, L::Reply>>
     for UnlinksLeaf<L, W> {
     ghost use Rattle.npf_cells_holds.specs.UnlinkKinds.{Unlinks};
 
@@ -43,7 +44,7 @@ impl<L: Law, H: KeyHash> Cells<L, H> {
         self.unlink_as::<Brand>(pass, place, id, way)
     }
 
-    fn unlink_as<W: Told>(&self, pass: &mut CellPass<L>, place: Place, id: ConnId, way: Way)
+    fn unlink_as<W: StepTold>(&self, pass: &mut CellPass<L>, place: Place, id: ConnId, way: Way)
         requires own { IsPassIn self.now pass.old }
         requires place { IsInTrie self.now.table.shared.key place }
         requires may { MayUnlink pass.old.seat.me.0 place id way }

@@ -1,8 +1,9 @@
+// A field of a slot is loaded.
 ghost use Rattle.std.specs.Prelude.{◌≡◌};
 
 use crate::cells::{CellPass, Cells};
 use crate::rule::Running;
-use crate::told::Told;
+use crate::told::StepTold;
 use atomic_table::Play;
 use npf_cells_rule::CellView;
 use npf_cells_words::Pool;
@@ -16,7 +17,7 @@ pub(crate) struct LoadsField<L: Law, H: KeyHash, W> {
     aim: PhantomData<W>,
 }
 
-impl<L: Law, H: KeyHash, W: Told> Play<Running<L::State>, CellView<L::State, L::Arg, L::Reply>>
+impl<L: Law, H: KeyHash, W: StepTold> Play<Running<L::State>, CellView<L::State, L::Arg, L::Reply>>
     for LoadsField<L, H, W> {
     ghost use Rattle.npf_cells_turns.specs.WordKinds.{LoadsWord};
 
@@ -48,7 +49,7 @@ impl<L: Law, H: KeyHash> Cells<L, H> {
         self.load_word_as::<Brand>(pass, pool, place, field)
     }
 
-    fn load_word_as<W: Told>(
+    fn load_word_as<W: StepTold>(
         &self,
         pass: &mut CellPass<L>,
         pool: Pool,

@@ -2,13 +2,12 @@
 use Rattle.std.proofs.Common.{◌≡◌, ℕ, List, set, arith}
 use mathlib.Core.Option.{some}
 use lib.ListN.{get_elem?}
-use Rattle.npf_seats.proofs.PrefixLemmas.{none_listed}
-use Rattle.npf_seats.proofs.SumLemmas.{sum-set}
-use Rattle.npf_cells_pins.specs.Epochs.{ReaderView, Epochs, pin_place}
-use Rattle.npf_cells_pins.proofs.EpochLemmas.{changed}
+use Rattle.npf_seats.proofs.{PrefixLemmas.none_listed, SumLemmas.sum-set}
+use Rattle.npf_cells_pins.{specs.Epochs.{ReaderView, Epochs, pin_place}, proofs.EpochLemmas.changed}
 use Rattle.npf_cells_rule.specs.Views.{unloaded}
 
-pub epochs_forgot : (now : ℕ) (reader : ℕ → ℕ) (readings : List ReaderView) (id : ℕ) (r : ReaderView) → Epochs now reader readings → get_elem? readings id ≡ some r → Epochs now reader (set readings id (record r { side = unloaded r.side }))
+pub epochs_forgot : (now : ℕ) (reader : ℕ → ℕ) (readings : List ReaderView) (id : ℕ) (r : ReaderView) → Epochs now reader readings →
+    get_elem? readings id ≡ some r → Epochs now reader (set readings id (record r { side = unloaded r.side }))
 epochs_forgot now reader readings id r kept there =
     let fits = kept.each id r there in
     changed now now reader reader readings id (record r { side = unloaded r.side }) kept (record {

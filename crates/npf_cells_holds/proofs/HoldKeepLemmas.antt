@@ -4,67 +4,37 @@ use Rattle.std.proofs.Common.{◌≡◌, ℕ, ◌+◌, ◌≤◌, Bool, cond, tr
 use Rattle.std.proofs.lemmas.List.{set-get_or}
 use mathlib.Core.Option.{some}
 use lib.ListN.{get_elem?}
-use Rattle.atomic_table.specs.Seated.{TableId}
-use Rattle.atomic_table.specs.Table.{State, Me, Step, Allows, Act, Valid, carried_after, stepped, keeps}
-use Rattle.atomic_table.proofs.Lists.{at_map}
-use Rattle.npf_types.specs.declared.key.Key.{Key}
-use Rattle.npf_types.specs.declared.key.Way.{Way}
-use Rattle.npf_core.specs.declared.act.Act.TheVariants.{Hold}
-use Rattle.npf_core.specs.declared.conn_id.ConnId.{ConnId}
-use Rattle.npf_core.specs.declared.entry.Entry.{Entry}
-use Rattle.npf_core.specs.declared.found.Found.{Found}
-use Rattle.npf_core.specs.declared.held.Held.{Held}
-use Rattle.npf_core.specs.declared.reply.Reply.TheVariants.{ToHold}
-use Rattle.npf_core.specs.declared.stage.Stage.TheVariants.{Building}
-use Rattle.npf_core.specs.History.{MayFollow, after, Legal, state_of}
-use Rattle.npf_core.specs.Machine.{Machine, stage_of, IsClaimed, is_key}
-use Rattle.npf_core.specs.Meaning.{Meaning}
-use Rattle.npf_core.specs.NextState.{holder_or}
-use Rattle.npf_core.specs.Replies.{held_by}
-use Rattle.npf_core.proofs.EqualityLemmas.{is_key-Decides}
-use Rattle.npf_core.proofs.HistoryLemmas.{state_of-append, Legal-append}
-use Rattle.npf_core.proofs.HolderLemmas.{claimed_by, holders_claimed}
+use Rattle.atomic_table.{specs.{Seated.TableId, Table.{State, Me, Step, Allows, Act, Valid, carried_after, stepped, keeps}}, proofs.Lists.at_map}
+use Rattle.npf_types.specs.declared.key.{Key.Key, Way.Way}
+use Rattle.npf_shelf.proofs.OptionLemmas.{Some-injective}
+use Rattle.npf_core.specs.declared.{act.Act.TheVariants.Hold, conn_id.ConnId.ConnId, entry.Entry.Entry, found.Found.Found, held.Held.Held}
+use Rattle.npf_core.specs.{declared.{reply.Reply.TheVariants.ToHold, stage.Stage.TheVariants.Building}, History.{MayFollow, after, Legal, state_of}}
+use Rattle.npf_core.specs.{Machine.{Machine, stage_of, IsClaimed, is_key}, Meaning.Meaning, NextState.holder_or, Replies.held_by}
+use Rattle.npf_core.proofs.{EqualityLemmas.is_key-Decides, HistoryLemmas.{state_of-append, Legal-append}, HolderLemmas.{claimed_by, holders_claimed}}
 use Rattle.npf_connections.specs.Adding.{AddsOwn}
-use Rattle.npf_paths.specs.declared.cell.Cell.{Cell}
-use Rattle.npf_paths.specs.declared.cell.Cell.TheVariants.{Empty, Leaf, Node, Mark}
+use Rattle.npf_paths.specs.{declared.{cell.Cell.{Cell, TheVariants.{Empty, Leaf, Node, Mark}}, place.Place.Place}, CellWords.cell_of, Paths.IsOnPath}
 use Rattle.npf_paths.specs.declared.place.Lock.TheVariants as Locking
-use Rattle.npf_paths.specs.declared.place.Place.{Place}
-use Rattle.npf_paths.specs.CellWords.{cell_of}
-use Rattle.npf_paths.specs.Paths.{IsOnPath}
 use Rattle.npf_paths.specs.Paths.IsOnPath.{further}
-use Rattle.npf_cells_words.specs.declared.layout.Layout.{Layout}
-use Rattle.npf_cells_words.specs.Places.{IsInTrie, place_at}
-use Rattle.npf_cells_words.proofs.WordLemmas.{place_behind}
-use Rattle.npf_seats.specs.Seats.{FitsSeats}
-use Rattle.npf_seats.proofs.PrefixLemmas.{cons_cases, none_listed}
+use Rattle.npf_cells_words.{specs.{declared.layout.Layout.Layout, Places.{IsInTrie, place_at}}, proofs.WordLemmas.place_behind}
+use Rattle.npf_seats.{specs.Seats.FitsSeats, proofs.PrefixLemmas.{cons_cases, none_listed}}
 use Rattle.npf_cells_pins.proofs.EpochLemmas.{within_last}
-use Rattle.npf_cells_leaves.specs.declared.trie.LoadedLeaf.{LoadedLeaf}
-use Rattle.npf_cells_leaves.specs.declared.trie.PathPlace.{PathPlace}
-use Rattle.npf_cells_leaves.specs.declared.trie.TrieSide.{TrieSide}
+use Rattle.npf_cells_leaves.specs.declared.trie.{LoadedLeaf.LoadedLeaf, PathPlace.PathPlace, TrieSide.TrieSide}
 use Rattle.npf_cells_leaves.specs.Trie.{digits_of, TrieWords, trie_words, leaf_found, IsRightLeaf, StaysLeaf, FitsTrie, Trie}
 use Rattle.npf_cells_leaves.proofs.TrieLemmas.{grown-set, KeepsTrie, knows_same, keeps_words, fits_kept, fits-set, fits_all, trie_kept, are_digits}
-use Rattle.npf_cells_lives.specs.Conns.{inc_word, entry_seat}
-use Rattle.npf_cells_lives.specs.Deaths.{IsKeyless}
-use Rattle.npf_cells_lives.specs.Pools.{taken}
-use Rattle.npf_cells_lives.proofs.BuiltLemmas.{bare_in_log}
-use Rattle.npf_cells_lives.proofs.ConnLemmas.{BuildsIn, builds-kept, unstored-set}
-use Rattle.npf_cells_lives.proofs.DeathLemmas.{Spares, spares_held, RestsNoMore}
-use Rattle.npf_cells_lives.proofs.PoolLemmas.{pools-same, taken-set}
-use Rattle.npf_cells_rule.specs.declared.view.CellView.{CellView}
-use Rattle.npf_cells_rule.specs.Cells.{IsCells}
-use Rattle.npf_cells_rule.specs.Passes.{IsProtected, cell_pass, IsPassOf}
+use Rattle.npf_cells_lives.{specs.{Conns.{inc_word, entry_seat}, Deaths.IsKeyless, Pools.taken}, proofs.BuiltLemmas.bare_in_log}
+use Rattle.npf_cells_lives.proofs.{ConnLemmas.{BuildsIn, builds-kept, unstored-set}, DeathLemmas.{Spares, spares_held, RestsNoMore}}
+use Rattle.npf_cells_lives.{proofs.PoolLemmas.{pools-same, taken-set}, specs.Turns.Running}
+use Rattle.npf_cells_rule.specs.{declared.view.CellView.CellView, Cells.IsCells, Passes.{IsProtected, cell_pass, IsPassOf}}
 use Rattle.npf_cells_rule.specs.Views.{seat_side, reader_view, with_trie, pool_side, trie_side, leaf_id, death_side}
-use Rattle.npf_cells_rule.proofs.DeathFrames.{rests_or_holds, holder_keyed}
-use Rattle.npf_cells_rule.proofs.EntryLemmas.{adds_entry, sole_entries}
-use Rattle.npf_cells_rule.proofs.Frames.{alone_within, entry_step}
+use Rattle.npf_cells_rule.proofs.{DeathFrames.{rests_or_holds, holder_keyed}, EntryLemmas.{adds_entry, sole_entries}, Frames.{alone_within, entry_step}}
 use Rattle.npf_cells_rule.proofs.PassLemmas.{pinned_in}
 use Rattle.npf_cells_holds.specs.HoldKinds.{MayHoldSo, renewed, leaf_holder, meeting, taken_by, HasMetHolder, MeetsLeaf, HoldsAt, LoadsForHold}
 use Rattle.npf_cells_holds.specs.LookKinds.{StandsOnPath, level_at, sighting, descending, FitsLayout}
-use Rattle.npf_cells_holds.proofs.LookKeepLemmas.{some_same, load_step, on, shown, sees, marks_seen, marks_led, fits_table, shallow}
-use Rattle.npf_cells_lives.specs.Turns.{Running}
+use Rattle.npf_cells_holds.proofs.LookKeepLemmas.{load_step, on, shown, sees, marks_seen, marks_led, fits_table, shallow}
 
 -- a hold of a key that has a holder changes no holder
-holder_stays : {S : Type 0} (k : Machine S) (key : Key) (holder asks : Found) → k.holder key ≡ Some holder → (other : Key) → (same : Bool) → is_key key other ≡ same → cond same (holder_or (k.holder other) asks) (k.holder other) ≡ k.holder other
+holder_stays : {S : Type 0} (k : Machine S) (key : Key) (holder asks : Found) → k.holder key ≡ Some holder → (other : Key) → (same : Bool) →
+    is_key key other ≡ same → cond same (holder_or (k.holder other) asks) (k.holder other) ≡ k.holder other
 holder_stays k key holder asks held other true e =
     let is : k.holder other ≡ Some holder = ap k.holder (sym ((is_key-Decides key other).0 e)) ∙ held in
     ap (λ x. holder_or x asks) is ∙ sym is
@@ -72,7 +42,8 @@ holder_stays k key holder asks held other false e = refl
 
 module _ {S A R : Type 0} (m : Meaning S A R) (digest : Key → ℕ) (layout : Layout) where
   module _ (s : State (Running S) (CellView S A R)) (id : ℕ) (me : Me (Running S) (CellView S A R)) (kept : IsCells m digest layout s) (at : get_elem? s.views id ≡ some me.0)
-      (lives : me.0.seats.lives ≡ true) (settled : me.0.seats.theirs ≡ []) (place : 1 ≤ length me.0.seats.readers) (stays : IsProtected me.0.epochs.pin) (key : Key) (p : Place) (inside : IsInTrie layout p) (stands : StandsOnPath digest me.0.trie key p) where
+      (lives : me.0.seats.lives ≡ true) (settled : me.0.seats.theirs ≡ []) (place : 1 ≤ length me.0.seats.readers) (stays : IsProtected me.0.epochs.pin)
+      (key : Key) (p : Place) (inside : IsInTrie layout p) (stands : StandsOnPath digest me.0.trie key p) where
     abbrev word : ℕ
     word = place_at layout p
 
@@ -106,14 +77,18 @@ module _ {S A R : Type 0} (m : Meaning S A R) (digest : Key → ℕ) (layout : L
         rests)
 
     -- a node leads on
-    pub leads : (node : ℕ) → shows ≡ Node node → IsCells m digest layout (stepped s word (slice_index s.words word) id me.1 (record me.0 { trie = descending digest key p level node (renewed me.0.trie) }) keeps)
+    pub leads : (node : ℕ) → shows ≡ Node node →
+        IsCells m digest layout (stepped s word (slice_index s.words word) id me.1 (record me.0 { trie = descending digest key p level node (renewed me.0.trie) }) keeps)
     leads node is = load_step m digest layout s word id me.1 me.0 (descending digest key p level node (renewed me.0.trie)) kept at (place_behind layout p) (record {
-      stands = λ point e. subst (λ (x : PathPlace). IsOnPath (digits_of digest x.key) t.cell x.level x.place) (some_same _ _ e) (further level p node here (shown m digest layout s id me kept at lives settled place stays 0 key p inside stands (Node node) is (λ no. absurd cc)));
+      stands = λ point e. subst (λ (x : PathPlace). IsOnPath (digits_of digest x.key) t.cell x.level x.place) (Some-injective _ _ e)
+          (further level p node here (shown m digest layout s id me kept at lives settled place stays 0 key p inside stands (Node node) is (λ no. absurd cc)));
       leaf = was.leaf;
       seen = sees m digest layout s id me kept at lives settled place stays 0 key p inside stands (Node node) is;
       claimed = λ i c. absurd (none_listed i c);
-    }) refl refl refl (fewer_rests (descending digest key p level node (renewed me.0.trie)) refl refl) (alone_within (record me.0 { trie = descending digest key p level node (renewed me.0.trie) }) place stays)
-        (marks_led m digest layout s id me kept at lives settled place stays 0 key p inside stands (record me.0 { trie = descending digest key p level node (renewed me.0.trie) }) node (digits_of digest key (level + 1)) is refl)
+    }) refl refl refl (fewer_rests (descending digest key p level node (renewed me.0.trie)) refl refl)
+        (alone_within (record me.0 { trie = descending digest key p level node (renewed me.0.trie) }) place stays)
+        (marks_led m digest layout s id me kept at lives settled place stays 0 key p inside stands
+        (record me.0 { trie = descending digest key p level node (renewed me.0.trie) }) node (digits_of digest key (level + 1)) is refl)
 
     -- where nothing stands only that is seen
     pub sights : IsCells m digest layout (stepped s word (slice_index s.words word) id me.1 (record me.0 { trie = sighting key level p shows (renewed me.0.trie) }) keeps)
@@ -130,13 +105,14 @@ module _ {S A R : Type 0} (m : Meaning S A R) (digest : Key → ℕ) (layout : L
       leaf = record { slot = slot; way = leaf_way; key = t.key slot leaf_way; inc = t.inc slot }
 
       right : IsRightLeaf layout.slots k.holder t slot leaf_way
-      right = kept.trie.leaves (digits_of digest key) level p slot leaf_way (are_digits digest key) here (shown m digest layout s id me kept at lives settled place stays 0 key p inside stands (Leaf slot leaf_way) is (λ no. absurd cc))
+      right = kept.trie.leaves (digits_of digest key) level p slot leaf_way (are_digits digest key) here
+          (shown m digest layout s id me kept at lives settled place stays 0 key p inside stands (Leaf slot leaf_way) is (λ no. absurd cc))
 
       leaf_stays : (x : LoadedLeaf) → Some leaf ≡ Some x → StaysLeaf layout.slots k t x
-      leaf_stays x e = subst (StaysLeaf layout.slots k t) (some_same _ _ e) (record { right = inl right; key = refl; inc = refl })
+      leaf_stays x e = subst (StaysLeaf layout.slots k t) (Some-injective _ _ e) (record { right = inl right; key = refl; inc = refl })
 
       leaf_keyed : (i : ConnId) → leaf_id (Some leaf) ≡ Some i → ¬ (IsKeyless k i)
-      leaf_keyed i e = subst (λ (x : ConnId). ¬ (IsKeyless k x)) (some_same _ _ e) (holder_keyed k (t.key slot leaf_way) (leaf_found t slot leaf_way) right.held)
+      leaf_keyed i e = subst (λ (x : ConnId). ¬ (IsKeyless k x)) (Some-injective _ _ e) (holder_keyed k (t.key slot leaf_way) (leaf_found t slot leaf_way) right.held)
 
       meeter_rests : RestsNoMore k (death_side me.0) (death_side (record me.0 { trie = meeting key p shows level leaf me.0.trie }))
       meeter_rests = rests_or_holds k (death_side me.0) (death_side (record me.0 { trie = meeting key p shows level leaf me.0.trie })) refl (λ i rests. inr (⊎_elim
@@ -171,7 +147,8 @@ module _ {S A R : Type 0} (m : Meaning S A R) (digest : Key → ℕ) (layout : L
         follows = record {
           allowed = record {
             built = (kept.connections.each id me.0 at).building conn may.built;
-            none = bare_in_log m layout.slots me.0.seats.history kept.log id conn way kept.connections.legal fits.seen (fits.lives lives).own ((kept.connections.each id me.0 at).building conn may.built) may.bare;
+            none = bare_in_log m layout.slots me.0.seats.history kept.log id conn way kept.connections.legal fits.seen
+                (fits.lives lives).own ((kept.connections.each id me.0 at).building conn may.built) may.bare;
           };
           replied = ap (λ x. ToHold (held_by x)) (sym held);
         }
@@ -217,7 +194,8 @@ module _ {S A R : Type 0} (m : Meaning S A R) (digest : Key → ℕ) (layout : L
         pub takes : IsCells m digest layout (stepped s word (slice_index s.words word) id me.1 asker keeps)
         takes =
             let words = set-get_or s.words word 0 in
-            entry_step m digest layout s word (slice_index s.words word) id me.1 me.0 asker kept at lives place entry refl follows refl refl (kept.stored id me.0 at) refl refl (λ slot. inl refl) keeps_trie.holder refl spares (λ slot. refl) asker_rests refl (λ i c. c) (alone_within asker place stays)
+            entry_step m digest layout s word (slice_index s.words word) id me.1 me.0 asker kept at lives place entry refl follows refl refl
+            (kept.stored id me.0 at) refl refl (λ slot. inl refl) keeps_trie.holder refl spares (λ slot. refl) asker_rests refl (λ i c. c) (alone_within asker place stays)
             (record { before = λ j h. ap (λ ws. slice_index ws j) words; behind = λ j h. ap (λ ws. slice_index ws j) words })
             (pools-same layout (taken pool_side kept.published k s.views) (taken pool_side kept.published k' (set s.views id asker)) s.words (set s.words word (slice_index s.words word)) kept.pools
             (length-set s.words word (slice_index s.words word)) (λ j h. ap (λ ws. slice_index ws j) words) (taken-set pool_side kept.published k s.views id me.0 asker at refl refl))
@@ -232,7 +210,8 @@ module _ {S A R : Type 0} (m : Meaning S A R) (digest : Key → ℕ) (layout : L
             let there = at_map seat_side s.views id me.0 at in
             let number = (fits.lives lives).number in
             record {
-              adds = subst (AddsOwn (cell_pass me.0) (kept.log ++ entry ∷ [])) (ap (λ n. record entry { seat = n } ∷ []) (sym number)) (adds_entry layout.slots kept.log (map seat_side s.views) id me.0 kept.seats there lives place entry refl);
+              adds = subst (AddsOwn (cell_pass me.0) (kept.log ++ entry ∷ [])) (ap (λ n. record entry { seat = n } ∷ []) (sym number))
+                  (adds_entry layout.slots kept.log (map seat_side s.views) id me.0 kept.seats there lives place entry refl);
               legal = record {
                 legal = subst (λ slots. Legal m slots (kept.log ++ entry ∷ [])) (sym (fits.sized place)) (Legal-append m layout.slots kept.log entry kept.connections.legal follows);
                 stays = λ i c. subst (λ n. IsClaimed (stage_of n i)) (sym (state_of-append m kept.log entry)) (asker_fits.claimed i c);
@@ -245,7 +224,8 @@ module _ {S A R : Type 0} (m : Meaning S A R) (digest : Key → ℕ) (layout : L
               is = refl;
             }
 
-  pub may_load_for_hold : (st : Step (Running S)) (id n : ℕ) (conn : ConnId) (key : Key) (way : Way) (p : Place) (me : Me (Running S) (CellView S A R)) → IsInTrie layout p → me.0.seats.lives ≡ true → me.0.seats.theirs ≡ [] → 1 ≤ length me.0.seats.readers → IsProtected me.0.epochs.pin →
+  pub may_load_for_hold : (st : Step (Running S)) (id n : ℕ) (conn : ConnId) (key : Key) (way : Way) (p : Place) (me : Me (Running S) (CellView S A R)) →
+      IsInTrie layout p → me.0.seats.lives ≡ true → me.0.seats.theirs ≡ [] → 1 ≤ length me.0.seats.readers → IsProtected me.0.epochs.pin →
       StandsOnPath digest me.0.trie key p → MayHoldSo m me.0 conn way → Allows (IsCells m digest layout) n id me (place_at layout p) (λ x. x) (LoadsForHold m digest layout conn key way p st me)
   may_load_for_hold st id n conn key way p me inside lives settled place stays stands may s kept homes at bound = by_cell (cell_of (slice_index s.words (place_at layout p))) refl
     where
@@ -262,7 +242,8 @@ module _ {S A R : Type 0} (m : Meaning S A R) (digest : Key → ℕ) (layout : L
       told w holds = record { holds = holds }
 
       Loaded : Type 0
-      Loaded = (w : CellView S A R) × (a : Act (Running S)) × Valid s.homes me.1 a × IsCells m digest layout (stepped s (place_at layout p) number id me.1 w a) × LoadsForHold m digest layout conn key way p st me number (w, carried_after me.1 a)
+      Loaded = (w : CellView S A R) × (a : Act (Running S)) × Valid s.homes me.1 a × IsCells m digest layout (stepped s (place_at layout p) number id me.1 w a) ×
+          LoadsForHold m digest layout conn key way p st me number (w, carried_after me.1 a)
 
       at_nothing : ((slot : ℕ) (leaf_way : Way) → ¬ (cell_of number ≡ Leaf slot leaf_way)) → ((node : ℕ) → ¬ (cell_of number ≡ Node node)) → Loaded
       at_nothing no_leaf no_node = (
@@ -273,7 +254,8 @@ module _ {S A R : Type 0} (m : Meaning S A R) (digest : Key → ℕ) (layout : L
         told _ (record { fits = fits'; leads = λ node e. absurd (no_node node e); meets = λ slot leaf_way e. absurd (no_leaf slot leaf_way e); nothing = λ _. refl }),
       )
 
-      at_leaf : (slot : ℕ) (leaf_way : Way) → cell_of number ≡ Leaf slot leaf_way → (w : CellView S A R) → MeetsLeaf m conn key way p (cell_of number) slot leaf_way me (w, me.1) → HoldsAt m digest layout conn key way p (cell_of number) me (w, me.1)
+      at_leaf : (slot : ℕ) (leaf_way : Way) → cell_of number ≡ Leaf slot leaf_way → (w : CellView S A R) →
+          MeetsLeaf m conn key way p (cell_of number) slot leaf_way me (w, me.1) → HoldsAt m digest layout conn key way p (cell_of number) me (w, me.1)
       at_leaf slot leaf_way e w met = record {
         fits = fits';
         leads = λ node is. let no : Leaf slot leaf_way ≡ Node node = sym e ∙ is in absurd cc;
@@ -331,7 +313,8 @@ module _ {S A R : Type 0} (m : Meaning S A R) (digest : Key → ℕ) (layout : L
       )
 
   -- a pass in a stay that has seen more, and knows more of the trie under the same locks, is still one of the table
-  pass_stays : (table seat : TableId) (readers : List ℕ) (me : Me (Running S) (CellView S A R)) (history : List (Entry S A R)) (side : TrieSide) → IsProtected me.0.epochs.pin → side.locks ≡ me.0.trie.locks → side.marks ≡ me.0.trie.marks → IsPassOf layout table seat readers me →
+  pass_stays : (table seat : TableId) (readers : List ℕ) (me : Me (Running S) (CellView S A R)) (history : List (Entry S A R)) (side : TrieSide) →
+      IsProtected me.0.epochs.pin → side.locks ≡ me.0.trie.locks → side.marks ≡ me.0.trie.marks → IsPassOf layout table seat readers me →
       IsPassOf layout table seat readers (record me.0 { seats = record me.0.seats { history = history }; trie = side }, me.1)
   pass_stays table seat readers me history side stays locks marks own = record {
     same = own.same;
@@ -351,7 +334,8 @@ module _ {S A R : Type 0} (m : Meaning S A R) (digest : Key → ℕ) (layout : L
   }
 
   -- so is one that loaded a place to hold a key
-  pub own_after : (table seat : TableId) (readers : List ℕ) (conn : ConnId) (key : Key) (way : Way) (p : Place) (cell : Cell) (old now : Me (Running S) (CellView S A R)) → IsProtected old.0.epochs.pin → IsPassOf layout table seat readers old →
+  pub own_after : (table seat : TableId) (readers : List ℕ) (conn : ConnId) (key : Key) (way : Way) (p : Place) (cell : Cell) (old now : Me (Running S) (CellView S A R)) →
+      IsProtected old.0.epochs.pin → IsPassOf layout table seat readers old →
       HoldsAt m digest layout conn key way p cell old now → IsPassOf layout table seat readers now
   own_after table seat readers conn key way p cell old now stays own holds = by_cell cell refl
     where
@@ -359,7 +343,8 @@ module _ {S A R : Type 0} (m : Meaning S A R) (digest : Key → ℕ) (layout : L
       with_side side locks marks is = subst (IsPassOf layout table seat readers) (sym is) (pass_stays table seat readers old old.0.seats.history side stays locks marks own)
 
       by_key : (slot : ℕ) (leaf_way : Way) (met : MeetsLeaf m conn key way p cell slot leaf_way old now) (b : Bool) → is_key met.leaf.key key ≡ b → IsPassOf layout table seat readers now
-      by_key slot leaf_way met true e = subst (IsPassOf layout table seat readers) (sym (met.same e).is) (pass_stays table seat readers old now.0.seats.history (taken_by old.0 key p cell now.0.seats.history met.leaf).trie stays refl refl own)
+      by_key slot leaf_way met true e = subst (IsPassOf layout table seat readers) (sym (met.same e).is)
+          (pass_stays table seat readers old now.0.seats.history (taken_by old.0 key p cell now.0.seats.history met.leaf).trie stays refl refl own)
       by_key slot leaf_way met false e = with_side _ refl refl (met.other e)
 
       by_cell : (c : Cell) → cell ≡ c → IsPassOf layout table seat readers now

@@ -1,75 +1,41 @@
 -- Kind 11 with its look, and kind 12, keep the rule.
 use Rattle.std.specs.List.{Contains}
-use Rattle.std.proofs.Common.{◌≡◌, ◌⊎◌, ℕ, zero, suc, ◌+◌, ◌/◌, ◌%◌, ◌^◌, ◌<◌, ◌≤◌, cond, eqb, eq-eqb, ne_eqb, ◌≢◌, true, true≢false, Option, Some, None, List, [], ◌∷◌, ◌++◌, map, set, length, slice_index, refl, sym, ap, ◌∙◌, subst, ⊎_elim, inl, inr, arith, length-set}
-use Rattle.std.proofs.lemmas.List.{set-get_or}
+use Rattle.std.proofs.Common.{◌≡◌, ◌⊎◌, ℕ, zero, suc, ◌+◌, ◌/◌, ◌%◌, ◌^◌, ◌<◌, ◌≤◌, cond, eqb, eq-eqb, ne_eqb, ◌≢◌, true, true≢false, Option, Some, None, List, [], ◌∷◌}
+use Rattle.std.proofs.{Common.{◌++◌, map, set, length, slice_index, refl, sym, ap, ◌∙◌, subst, ⊎_elim, inl, inr, arith, length-set}, lemmas.List.set-get_or}
 use mathlib.Core.Option.{some}
 use lib.ListN.{get_elem?}
-use Rattle.atomic_table.specs.Table.{State, Me, Step, Allows, Act, Valid, carried_after, stepped, keeps}
-use Rattle.atomic_table.proofs.Lists.{at_map}
-use Rattle.npf_types.specs.declared.key.Key.{Key}
-use Rattle.npf_types.specs.declared.key.Way.{Way}
-use Rattle.npf_core.specs.declared.act.Act.TheVariants.{Look}
-use Rattle.npf_core.specs.declared.conn_id.ConnId.{ConnId}
-use Rattle.npf_core.specs.declared.entry.Entry.{Entry}
-use Rattle.npf_core.specs.declared.found.Found.{Found}
-use Rattle.npf_core.specs.declared.reply.Reply.TheVariants.{ToLook}
-use Rattle.npf_core.specs.declared.stage.Stage.TheVariants.{Building}
-use Rattle.npf_core.specs.History.{MayFollow, Legal, state_of}
-use Rattle.npf_core.specs.Machine.{Machine, stage_of, IsClaimed}
-use Rattle.npf_core.specs.Meaning.{Meaning}
-use Rattle.npf_core.proofs.HistoryLemmas.{state_of-append, Legal-append}
-use Rattle.npf_core.proofs.HolderLemmas.{holders_claimed}
-use Rattle.npf_connections.specs.Adding.{AddsOwn}
-use Rattle.npf_connections.specs.Answered.{found_ids}
-use Rattle.npf_paths.specs.declared.cell.Cell.{Cell}
-use Rattle.npf_paths.specs.declared.cell.Cell.TheVariants.{Empty, Leaf, Node, Mark}
-use Rattle.npf_paths.specs.declared.place.Place.{Place}
+use Rattle.atomic_table.{specs.Table.{State, Me, Step, Allows, Act, Valid, carried_after, stepped, keeps}, proofs.Lists.at_map}
+use Rattle.npf_types.specs.declared.key.{Key.Key, Way.Way}
+use Rattle.npf_shelf.proofs.OptionLemmas.{Some-injective}
+use Rattle.npf_core.specs.declared.{act.Act.TheVariants.Look, conn_id.ConnId.ConnId, entry.Entry.Entry, found.Found.Found, reply.Reply.TheVariants.ToLook}
+use Rattle.npf_core.specs.{declared.stage.Stage.TheVariants.Building, History.{MayFollow, Legal, state_of}, Machine.{Machine, stage_of, IsClaimed}}
+use Rattle.npf_core.{specs.Meaning.Meaning, proofs.{HistoryLemmas.{state_of-append, Legal-append}, HolderLemmas.holders_claimed}}
+use Rattle.npf_connections.specs.{Adding.AddsOwn, Answered.found_ids}
+use Rattle.npf_paths.specs.declared.{cell.Cell.{Cell, TheVariants.{Empty, Leaf, Node, Mark}}, place.Place.Place}
 use Rattle.npf_paths.specs.declared.place.Place.TheVariants as Places
-use Rattle.npf_paths.specs.CellWords.{way_numbered, cell_of, IsCellWord}
-use Rattle.npf_paths.specs.Paths.{IsOnPath, IsEnd}
-use Rattle.npf_paths.specs.Paths.IsOnPath.{at_root, further}
-use Rattle.npf_cells_words.specs.declared.layout.Layout.{Layout}
-use Rattle.npf_cells_words.specs.declared.layout.Pool.TheVariants.{Slots}
-use Rattle.npf_cells_words.specs.Layout.{root_at, key_field, field_at}
-use Rattle.npf_cells_words.specs.Places.{IsInTrie, IsPlaceIn, place_at}
-use Rattle.npf_cells_words.proofs.WordLemmas.{place_behind}
-use Rattle.npf_seats.specs.Seats.{FitsSeats}
-use Rattle.npf_seats.proofs.PrefixLemmas.{cons_cases}
+use Rattle.npf_paths.specs.{CellWords.{way_numbered, cell_of, IsCellWord}, Paths.{IsOnPath, IsEnd, IsOnPath.{at_root, further}}}
+use Rattle.npf_cells_words.specs.{declared.layout.{Layout.Layout, Pool.TheVariants.Slots}, Layout.{root_at, key_field, field_at}}
+use Rattle.npf_cells_words.{specs.Places.{IsInTrie, IsPlaceIn, place_at}, proofs.WordLemmas.place_behind}
+use Rattle.npf_seats.{specs.Seats.FitsSeats, proofs.PrefixLemmas.cons_cases}
 use Rattle.npf_cells_pins.proofs.EpochLemmas.{within_last}
-use Rattle.npf_cells_leaves.specs.declared.trie.LoadedLeaf.{LoadedLeaf}
-use Rattle.npf_cells_leaves.specs.declared.trie.PathPlace.{PathPlace}
-use Rattle.npf_cells_leaves.specs.declared.trie.SeenCell.{SeenCell}
-use Rattle.npf_cells_leaves.specs.declared.trie.TrieSide.{TrieSide}
+use Rattle.npf_cells_leaves.specs.declared.trie.{LoadedLeaf.LoadedLeaf, PathPlace.PathPlace, SeenCell.SeenCell, TrieSide.TrieSide}
 use Rattle.npf_cells_leaves.specs.Trie.{key_in, digits_of, TrieWords, trie_words, leaf_found, holder_at, StaysLeaf, StaysSighted, FitsTrie, Trie}
 use Rattle.npf_cells_leaves.proofs.TrieLemmas.{are_digits, trie_moved}
-use Rattle.npf_cells_lives.specs.Conns.{inc_word, entry_seat}
-use Rattle.npf_cells_lives.specs.Deaths.{IsKeyless, last_id}
-use Rattle.npf_cells_lives.specs.Pools.{taken}
-use Rattle.npf_cells_lives.proofs.ConnLemmas.{builds-kept, unstored-set}
-use Rattle.npf_cells_lives.proofs.DeathLemmas.{spares_all, RestsNoMore}
-use Rattle.npf_cells_lives.proofs.PoolLemmas.{pools-same, taken-set}
-use Rattle.npf_cells_marks.specs.Marks.{MarkSide, IsSomePlaceIn, RestsIn, HasMark, Marks}
-use Rattle.npf_cells_marks.specs.Steps.{LeavesMarks}
-use Rattle.npf_cells_marks.proofs.StepLemmas.{marks-same}
-use Rattle.npf_cells_rule.specs.declared.view.CellView.{CellView}
-use Rattle.npf_cells_rule.specs.Cells.{FitsAlone, IsCells}
-use Rattle.npf_cells_rule.specs.Passes.{IsProtected, cell_pass}
+use Rattle.npf_cells_lives.{specs.{Conns.{inc_word, entry_seat}, Deaths.{IsKeyless, last_id}, Pools.taken}, proofs.ConnLemmas.{builds-kept, unstored-set}}
+use Rattle.npf_cells_lives.{proofs.{DeathLemmas.{spares_all, RestsNoMore}, PoolLemmas.{pools-same, taken-set}}, specs.Turns.Running}
+use Rattle.npf_cells_marks.{specs.{Marks.{MarkSide, IsSomePlaceIn, RestsIn, HasMark, Marks}, Steps.LeavesMarks}, proofs.StepLemmas.marks-same}
+use Rattle.npf_cells_rule.specs.{declared.view.CellView.CellView, Cells.{FitsAlone, IsCells}, Passes.{IsProtected, cell_pass}}
 use Rattle.npf_cells_rule.specs.Views.{seat_side, reader_view, with_trie, pool_side, trie_side, leaf_id, death_side, mark_side, point_place}
-use Rattle.npf_cells_rule.proofs.DeathFrames.{rests_or_holds, holder_keyed, deaths_load}
-use Rattle.npf_cells_rule.proofs.EntryLemmas.{adds_entry, sole_entries}
+use Rattle.npf_cells_rule.proofs.{DeathFrames.{rests_or_holds, holder_keyed, deaths_load}, EntryLemmas.{adds_entry, sole_entries}}
 use Rattle.npf_cells_rule.proofs.Frames.{notes_still, alone_still, alone_within, conns_apart, stored_apart, locks_apart, turns_behind, entry_step, private_step}
-use Rattle.npf_cells_rule.proofs.MarkFrames.{words_loaded, marks_on}
-use Rattle.npf_cells_rule.proofs.MarkMetLemmas.{mark_said, real_there, mark_holds_none, hangs_unmarked}
+use Rattle.npf_cells_rule.proofs.{MarkFrames.{words_loaded, marks_on}, MarkMetLemmas.{mark_said, real_there, mark_holds_none, hangs_unmarked}}
 use Rattle.npf_cells_rule.proofs.PassLemmas.{pinned_in}
 use Rattle.npf_cells_holds.specs.LookKinds.{StandsOnPath, level_of, level_at, descending, TellsHolder, looked, HasLooked, FitsLayout, LooksAt, LoadsPlace, reading, LoadsKey}
 use Rattle.npf_cells_holds.proofs.StandingLemmas.{stands_at_end}
-use Rattle.npf_cells_lives.specs.Turns.{Running}
-
-pub some_same : {X : Type 0} (x y : X) → Some x ≡ Some y → x ≡ y
-some_same x y e = cc
 
 -- a word of a key in its place
-pub word_of : (layout : Layout) (words : List ℕ) (slot : ℕ) (way : Way) (place : ℕ) → place < 5 → slice_index words (field_at layout Slots slot (key_field way + place)) ≡ slice_index (key_in layout words slot way).0 place
+pub word_of : (layout : Layout) (words : List ℕ) (slot : ℕ) (way : Way) (place : ℕ) → place < 5 →
+    slice_index words (field_at layout Slots slot (key_field way + place)) ≡ slice_index (key_in layout words slot way).0 place
 word_of layout words slot way zero h = refl
 word_of layout words slot way (suc zero) h = refl
 word_of layout words slot way (suc (suc zero)) h = refl
@@ -91,7 +57,8 @@ leaf_after t (Leaf slot way) old = Some (record { slot = slot; way = way; key = 
 leaf_after t (Node node) old = old
 leaf_after t Mark old = old
 
-tells : (t : TrieWords) (five : (slot : ℕ) (way : Way) → length (t.key slot way).0 ≡ 5) (cell : Cell) (key : Key) (old : Option LoadedLeaf) → IsEnd cell → TellsHolder cell key (holder_at t cell key) old (leaf_after t cell old)
+tells : (t : TrieWords) (five : (slot : ℕ) (way : Way) → length (t.key slot way).0 ≡ 5) (cell : Cell) (key : Key) (old : Option LoadedLeaf) →
+    IsEnd cell → TellsHolder cell key (holder_at t cell key) old (leaf_after t cell old)
 tells t five Empty key old ends = (refl, refl)
 tells t five (Leaf slot way) key old ends = (record { slot = slot; way = way; key = t.key slot way; inc = t.inc slot }, refl, record { slot_is = refl; way_is = refl; five = five slot way }, refl)
 tells t five (Node node) key old ends = absurd ends
@@ -100,9 +67,12 @@ tells t five Mark key old ends = (refl, refl)
 -- a cell of the table can be made from its word
 pub fits_word : (layout : Layout) (word : ℕ) → layout.slots < 2 ^ 32 → layout.nodes < 2 ^ 32 → FitsLayout layout (cell_of word) → IsCellWord word
 fits_word layout word slots nodes fits = record {
-  slot_fits = λ e. let leaf : word / 4 / 3 < layout.slots = subst (FitsLayout layout) (ap (λ b. cond b (Leaf (word / 4 / 3) (way_numbered (word / 4 % 3))) (cond (eqb (word % 4) 2) (Node (word / 4)) (cond (eqb (word % 4) 3) Mark Empty))) (eq-eqb (word % 4) 1 e)) fits in omega (arith, leaf, slots);
+  slot_fits = λ e. let leaf : word / 4 / 3 < layout.slots = subst (FitsLayout layout)
+      (ap (λ b. cond b (Leaf (word / 4 / 3) (way_numbered (word / 4 % 3))) (cond (eqb (word % 4) 2) (Node (word / 4)) (cond (eqb (word % 4) 3) Mark Empty))) (eq-eqb (word % 4) 1 e)) fits in
+      omega (arith, leaf, slots);
   node_fits = λ e.
-      let node : word / 4 < layout.nodes = subst (FitsLayout layout) ((λ i. cond (ne_eqb (word % 4) 1 (λ one. absurd (omega (arith, one, e))) i) (Leaf (word / 4 / 3) (way_numbered (word / 4 % 3))) (cond (eq-eqb (word % 4) 2 e i) (Node (word / 4)) (cond (eqb (word % 4) 3) Mark Empty)))) fits in
+      let node : word / 4 < layout.nodes = subst (FitsLayout layout) ((λ i. cond (ne_eqb (word % 4) 1 (λ one. absurd (omega (arith, one, e))) i)
+      (Leaf (word / 4 / 3) (way_numbered (word / 4 % 3))) (cond (eq-eqb (word % 4) 2 e i) (Node (word / 4)) (cond (eqb (word % 4) 3) Mark Empty)))) fits in
       omega (arith, node, nodes);
 }
 
@@ -114,13 +84,17 @@ fits_layout layout Mark leaf node = tt
 
 module _ {S A R : Type 0} (m : Meaning S A R) (digest : Key → ℕ) (layout : Layout) where
   -- a load of a word behind the pools', after which the seat still fits
-  pub load_step : (s : State (Running S) (CellView S A R)) (i id : ℕ) (c : List (ℕ × Running S)) (v : CellView S A R) (side : TrieSide) (kept : IsCells m digest layout s) → get_elem? s.views id ≡ some v → root_at layout ≤ i →
-      FitsTrie digest layout.slots (state_of m kept.log) (trie_words layout s.words) side → side.locks ≡ v.trie.locks → side.grown ≡ v.trie.grown → side.regained ≡ v.trie.regained → RestsNoMore (state_of m kept.log) (death_side v) (death_side (record v { trie = side })) → FitsAlone (record v { trie = side }) →
-      Marks mark_side layout kept.published (set s.words i (slice_index s.words i)) (set s.views id (record v { trie = side })) → IsCells m digest layout (stepped s i (slice_index s.words i) id c (record v { trie = side }) keeps)
+  pub load_step : (s : State (Running S) (CellView S A R)) (i id : ℕ) (c : List (ℕ × Running S)) (v : CellView S A R) (side : TrieSide) (kept : IsCells m digest layout s) →
+      get_elem? s.views id ≡ some v → root_at layout ≤ i →
+      FitsTrie digest layout.slots (state_of m kept.log) (trie_words layout s.words) side → side.locks ≡ v.trie.locks → side.grown ≡ v.trie.grown →
+      side.regained ≡ v.trie.regained → RestsNoMore (state_of m kept.log) (death_side v) (death_side (record v { trie = side })) → FitsAlone (record v { trie = side }) →
+      Marks mark_side layout kept.published (set s.words i (slice_index s.words i)) (set s.views id (record v { trie = side })) →
+      IsCells m digest layout (stepped s i (slice_index s.words i) id c (record v { trie = side }) keeps)
   load_step s i id c v side kept at behind fits locks grown back less alone marks =
       let w : CellView S A R = record v { trie = side } in
       private_step m digest layout s i (slice_index s.words i) id c v w kept at behind refl refl refl refl refl (λ conn killed. killed) alone
-      (subst (λ ws. Trie trie_side digest layout kept.published (state_of m kept.log) ws (set s.views id w)) (sym (set-get_or s.words i 0)) (trie_moved trie_side digest layout kept.published (state_of m kept.log) s.words s.views id v w kept.trie at grown back fits))
+      (subst (λ ws. Trie trie_side digest layout kept.published (state_of m kept.log) ws (set s.views id w)) (sym (set-get_or s.words i 0))
+      (trie_moved trie_side digest layout kept.published (state_of m kept.log) s.words s.views id v w kept.trie at grown back fits))
       (conns_apart m digest layout s i (slice_index s.words i) id v w kept at refl refl (λ j h. ap (λ ws. slice_index ws j) (set-get_or s.words i 0)))
       (stored_apart m digest layout s i (slice_index s.words i) id w kept (kept.stored id v at) (λ j h. ap (λ ws. slice_index ws j) (set-get_or s.words i 0)))
       (locks_apart m digest layout s i (slice_index s.words i) id v w kept at locks (λ j h. ap (λ ws. slice_index ws j) (set-get_or s.words i 0)))
@@ -130,7 +104,8 @@ module _ {S A R : Type 0} (m : Meaning S A R) (digest : Key → ℕ) (layout : L
       marks
 
   module _ (s : State (Running S) (CellView S A R)) (id : ℕ) (me : Me (Running S) (CellView S A R)) (kept : IsCells m digest layout s) (at : get_elem? s.views id ≡ some me.0)
-      (lives : me.0.seats.lives ≡ true) (settled : me.0.seats.theirs ≡ []) (place : 1 ≤ length me.0.seats.readers) (stays : IsProtected me.0.epochs.pin) (packet : ℕ) (key : Key) (p : Place) (inside : IsInTrie layout p) (stands : StandsOnPath digest me.0.trie key p) where
+      (lives : me.0.seats.lives ≡ true) (settled : me.0.seats.theirs ≡ []) (place : 1 ≤ length me.0.seats.readers) (stays : IsProtected me.0.epochs.pin)
+      (packet : ℕ) (key : Key) (p : Place) (inside : IsInTrie layout p) (stands : StandsOnPath digest me.0.trie key p) where
     abbrev word : ℕ
     word = place_at layout p
 
@@ -174,7 +149,7 @@ module _ {S A R : Type 0} (m : Meaning S A R) (digest : Key → ℕ) (layout : L
 
     -- what it then saw stands there
     pub sees : (cell : Cell) → shows ≡ cell → (x : SeenCell) → Some (record { key = key; level = level; place = p; cell = cell }) ≡ Some x → StaysSighted digest t me.0.trie.locks x
-    sees cell is x e = subst (StaysSighted digest t me.0.trie.locks) (some_same _ _ e) (record { on_path = on; locked = λ _ real. shown cell is real })
+    sees cell is x e = subst (StaysSighted digest t me.0.trie.locks) (Some-injective _ _ e) (record { on_path = on; locked = λ _ real. shown cell is real })
 
     -- who sees a place in a node stood there
     stood_in : (x : ℕ) → IsPlaceIn x p → IsSomePlaceIn x (point_place me.0.trie.stands)
@@ -185,7 +160,8 @@ module _ {S A R : Type 0} (m : Meaning S A R) (digest : Key → ℕ) (layout : L
         in_place (Places.Node node digit) (at_level, is) within' = subst (λ o. IsSomePlaceIn x (point_place o)) (sym is) within'
 
     -- the part on marks stays where only the place is seen, and where a node leads on: no mark of it stands
-    marks_loaded : (w : CellView S A R) (side : MarkSide) → mark_side w ≡ side → LeavesMarks layout kept.published kept.published s.words (set s.words word (slice_index s.words word)) (mark_side me.0) side → Marks mark_side layout kept.published (set s.words word (slice_index s.words word)) (set s.views id w)
+    marks_loaded : (w : CellView S A R) (side : MarkSide) → mark_side w ≡ side → LeavesMarks layout kept.published kept.published s.words
+        (set s.words word (slice_index s.words word)) (mark_side me.0) side → Marks mark_side layout kept.published (set s.words word (slice_index s.words word)) (set s.views id w)
     marks_loaded w side is leaves = marks-same mark_side layout kept.published kept.published s.words (set s.words word (slice_index s.words word)) s.views id me.0 w kept.marks at
         (subst (LeavesMarks layout kept.published kept.published s.words (set s.words word (slice_index s.words word)) (mark_side me.0)) (sym is) leaves)
 
@@ -208,21 +184,26 @@ module _ {S A R : Type 0} (m : Meaning S A R) (digest : Key → ℕ) (layout : L
           rests = λ x has within. (rests x has within, ap (λ (y : MarkSide). y.protecting) same);
         }
 
-    pub marks_seen : (w : CellView S A R) → mark_side w ≡ record (mark_side me.0) { saw = Some p } → Marks mark_side layout kept.published (set s.words word (slice_index s.words word)) (set s.views id w)
+    pub marks_seen : (w : CellView S A R) → mark_side w ≡ record (mark_side me.0) { saw = Some p } →
+        Marks mark_side layout kept.published (set s.words word (slice_index s.words word)) (set s.views id w)
     marks_seen w is = marks_loaded w (record (mark_side me.0) { saw = Some p }) is
-        (leaves_marks (record (mark_side me.0) { saw = Some p }) refl (λ x has rests. ⊎_elim (λ (there : IsSomePlaceIn x (point_place me.0.trie.stands)). inl there) (λ (saw : IsPlaceIn x p). inl (stood_in x saw)) rests))
+        (leaves_marks (record (mark_side me.0) { saw = Some p }) refl
+        (λ x has rests. ⊎_elim (λ (there : IsSomePlaceIn x (point_place me.0.trie.stands)). inl there) (λ (saw : IsPlaceIn x p). inl (stood_in x saw)) rests))
 
-    pub marks_led : (w : CellView S A R) (node digit : ℕ) → shows ≡ Node node → mark_side w ≡ record (mark_side me.0) { stands = Some (Places.Node node digit); saw = Some p } → Marks mark_side layout kept.published (set s.words word (slice_index s.words word)) (set s.views id w)
+    pub marks_led : (w : CellView S A R) (node digit : ℕ) → shows ≡ Node node → mark_side w ≡ record (mark_side me.0) { stands = Some (Places.Node node digit); saw = Some p } →
+        Marks mark_side layout kept.published (set s.words word (slice_index s.words word)) (set s.views id w)
     marks_led w node digit leads is = marks_loaded w (record (mark_side me.0) { stands = Some (Places.Node node digit); saw = Some p }) is
         (leaves_marks (record (mark_side me.0) { stands = Some (Places.Node node digit); saw = Some p }) refl (λ x has rests. ⊎_elim
-        (λ (same : node ≡ x). absurd (hangs_unmarked m digest layout s kept p inside (digits_of digest key) level node (are_digits digest key) on leads (subst (HasMark layout s.words) (sym same) has)))
+        (λ (same : node ≡ x).
+        absurd (hangs_unmarked m digest layout s kept p inside (digits_of digest key) level node (are_digits digest key) on leads (subst (HasMark layout s.words) (sym same) has)))
         (λ (saw : IsPlaceIn x p). inl (stood_in x saw))
         rests))
 
     -- a node leads on
-    pub descends : (node : ℕ) → shows ≡ Node node → IsCells m digest layout (stepped s word (slice_index s.words word) id me.1 (record me.0 { trie = descending digest key p level node me.0.trie }) keeps)
+    pub descends : (node : ℕ) → shows ≡ Node node →
+        IsCells m digest layout (stepped s word (slice_index s.words word) id me.1 (record me.0 { trie = descending digest key p level node me.0.trie }) keeps)
     descends node is = load_step s word id me.1 me.0 (descending digest key p level node me.0.trie) kept at (place_behind layout p) (record {
-      stands = λ point e. subst (λ (x : PathPlace). IsOnPath (digits_of digest x.key) t.cell x.level x.place) (some_same _ _ e) (further level p node on (shown (Node node) is (λ no. absurd cc)));
+      stands = λ point e. subst (λ (x : PathPlace). IsOnPath (digits_of digest x.key) t.cell x.level x.place) (Some-injective _ _ e) (further level p node on (shown (Node node) is (λ no. absurd cc)));
       leaf = (kept.trie.each id me.0 at).leaf;
       seen = sees (Node node) is;
       claimed = (kept.trie.each id me.0 at).claimed;
@@ -234,7 +215,7 @@ module _ {S A R : Type 0} (m : Meaning S A R) (digest : Key → ℕ) (layout : L
     leaf_fits Empty is leaf e = (kept.trie.each id me.0 at).leaf leaf e
     leaf_fits (Leaf slot way) is leaf e =
         let right = kept.trie.leaves (digits_of digest key) level p slot way (are_digits digest key) on (shown (Leaf slot way) is (λ no. absurd cc)) in
-        subst (StaysLeaf layout.slots k t) (some_same _ _ e) (record { right = inl right; key = refl; inc = refl })
+        subst (StaysLeaf layout.slots k t) (Some-injective _ _ e) (record { right = inl right; key = refl; inc = refl })
     leaf_fits (Node node) is leaf e = (kept.trie.each id me.0 at).leaf leaf e
     leaf_fits Mark is leaf e = (kept.trie.each id me.0 at).leaf leaf e
 
@@ -254,7 +235,7 @@ module _ {S A R : Type 0} (m : Meaning S A R) (digest : Key → ℕ) (layout : L
     leaf_holds Empty is i e = inl e
     leaf_holds (Leaf slot way) is i e =
         let right = kept.trie.leaves (digits_of digest key) level p slot way (are_digits digest key) on (shown (Leaf slot way) is (λ no. absurd cc)) in
-        inr (subst (λ (x : ConnId). ¬ (IsKeyless k x)) (some_same _ _ e) (holder_keyed k (t.key slot way) (leaf_found t slot way) right.held))
+        inr (subst (λ (x : ConnId). ¬ (IsKeyless k x)) (Some-injective _ _ e) (holder_keyed k (t.key slot way) (leaf_found t slot way) right.held))
     leaf_holds (Node node) is i e = inl e
     leaf_holds Mark is i e = inl e
 
@@ -277,11 +258,13 @@ module _ {S A R : Type 0} (m : Meaning S A R) (digest : Key → ℕ) (layout : L
     pub ends : IsCells m digest layout (stepped s word (slice_index s.words word) id me.1 looker keeps)
     ends =
         let words = set-get_or s.words word 0 in
-        entry_step m digest layout s word (slice_index s.words word) id me.1 me.0 looker kept at lives place entry refl follows refl refl (kept.stored id me.0 at) refl refl (λ slot. inl refl) (λ other. refl) refl (spares_all k) (λ slot. refl) looker_rests refl (λ i c. c) (alone_within looker place stays)
+        entry_step m digest layout s word (slice_index s.words word) id me.1 me.0 looker kept at lives place entry refl follows refl refl
+        (kept.stored id me.0 at) refl refl (λ slot. inl refl) (λ other. refl) refl (spares_all k) (λ slot. refl) looker_rests refl (λ i c. c) (alone_within looker place stays)
         (record { before = λ j h. ap (λ ws. slice_index ws j) words; behind = λ j h. ap (λ ws. slice_index ws j) words })
         (pools-same layout (taken pool_side kept.published k s.views) (taken pool_side kept.published k (set s.views id looker)) s.words (set s.words word (slice_index s.words word)) kept.pools
         (length-set s.words word (slice_index s.words word)) (λ j h. ap (λ ws. slice_index ws j) words) (taken-set pool_side kept.published k s.views id me.0 looker at refl refl))
-        (subst (λ ws. Trie trie_side digest layout kept.published k ws (set s.views id looker)) (sym words) (trie_moved trie_side digest layout kept.published k s.words s.views id me.0 looker kept.trie at refl refl looker_fits))
+        (subst (λ ws. Trie trie_side digest layout kept.published k ws (set s.views id looker)) (sym words)
+        (trie_moved trie_side digest layout kept.published k s.words s.views id me.0 looker kept.trie at refl refl looker_fits))
         (builds-kept pool_side k s.views id me.0 looker at refl refl kept.connections.each)
         (λ slot h. ap (λ n. inc_word layout s.words slot + n) (unstored-set pool_side s.views id me.0 looker at refl slot) ∙ kept.connections.incs slot h)
         (marks_seen looker refl)
@@ -302,7 +285,8 @@ module _ {S A R : Type 0} (m : Meaning S A R) (digest : Key → ℕ) (layout : L
     pub has_looked : IsEnd shows → HasLooked m packet key p shows me (looker, me.1)
     has_looked end = record {
       found = found;
-      adds = subst (AddsOwn (cell_pass me.0) (kept.log ++ entry ∷ [])) (ap (λ n. record entry { seat = n } ∷ []) (sym number)) (adds_entry layout.slots kept.log (map seat_side s.views) id me.0 kept.seats there lives place entry refl);
+      adds = subst (AddsOwn (cell_pass me.0) (kept.log ++ entry ∷ [])) (ap (λ n. record entry { seat = n } ∷ []) (sym number))
+          (adds_entry layout.slots kept.log (map seat_side s.views) id me.0 kept.seats there lives place entry refl);
       legal = record {
         legal = subst (λ slots. Legal m slots (kept.log ++ entry ∷ [])) (sym (fits.sized place)) (Legal-append m layout.slots kept.log entry kept.connections.legal follows);
         stays = λ i c. subst (λ n. IsClaimed (stage_of n i)) (sym (state_of-append m kept.log entry)) (looker_fits.claimed i c);
@@ -324,7 +308,8 @@ module _ {S A R : Type 0} (m : Meaning S A R) (digest : Key → ℕ) (layout : L
     pub shallow : (node : ℕ) → shows ≡ Node node → level < 94
     shallow node e = (kept.trie.nodes (digits_of digest key) level p node (are_digits digest key) on (shown (Node node) e (λ no. absurd cc))).within
 
-  pub may_look : (st : Step (Running S)) (id n packet : ℕ) (key : Key) (p : Place) (me : Me (Running S) (CellView S A R)) → IsInTrie layout p → me.0.seats.lives ≡ true → me.0.seats.theirs ≡ [] → 1 ≤ length me.0.seats.readers → IsProtected me.0.epochs.pin →
+  pub may_look : (st : Step (Running S)) (id n packet : ℕ) (key : Key) (p : Place) (me : Me (Running S) (CellView S A R)) → IsInTrie layout p →
+      me.0.seats.lives ≡ true → me.0.seats.theirs ≡ [] → 1 ≤ length me.0.seats.readers → IsProtected me.0.epochs.pin →
       StandsOnPath digest me.0.trie key p → Allows (IsCells m digest layout) n id me (place_at layout p) (λ x. x) (LoadsPlace m digest layout packet key p st me)
   may_look st id n packet key p me inside lives settled place stays stands s kept homes at bound = by_cell (cell_of (slice_index s.words (place_at layout p))) refl
     where
@@ -338,7 +323,8 @@ module _ {S A R : Type 0} (m : Meaning S A R) (digest : Key → ℕ) (layout : L
       told w looks = record { looks = looks }
 
       Loaded : Type 0
-      Loaded = (w : CellView S A R) × (a : Act (Running S)) × Valid s.homes me.1 a × IsCells m digest layout (stepped s (place_at layout p) number id me.1 w a) × LoadsPlace m digest layout packet key p st me number (w, carried_after me.1 a)
+      Loaded = (w : CellView S A R) × (a : Act (Running S)) × Valid s.homes me.1 a × IsCells m digest layout (stepped s (place_at layout p) number id me.1 w a) ×
+          LoadsPlace m digest layout packet key p st me number (w, carried_after me.1 a)
 
       at_end : IsEnd (cell_of number) → ((node : ℕ) → ¬ (cell_of number ≡ Node node)) → Loaded
       at_end end other = (
@@ -375,11 +361,24 @@ module _ {S A R : Type 0} (m : Meaning S A R) (digest : Key → ℕ) (layout : L
     keeps,
     tt,
     load_step s (field_at layout Slots slot (key_field way + place)) id me.1 me.0 (reading me.0.trie) kept at (omega arith)
-        (let fits = kept.trie.each id me.0 at in record { stands = fits.stands; leaf = fits.leaf; seen = fits.seen; claimed = fits.claimed }) refl refl refl (record { rests = λ i dead bare rests. (rests, refl) })
+        (let fits = kept.trie.each id me.0 at in record {
+          stands = fits.stands;
+          leaf = fits.leaf;
+          seen = fits.seen;
+          claimed = fits.claimed;
+        }) refl refl refl (record { rests = λ i dead bare rests. (rests, refl) })
         (alone_still me.0 (record me.0 { trie = reading me.0.trie }) (kept.alone id me.0 at) seated refl
         (λ none. record { stands = none.stands; leaf = none.leaf; seen = none.seen; meets = none.meets; answered = none.answered; locks = none.locks }))
-        (marks_on m digest layout s kept (set s.words (field_at layout Slots slot (key_field way + place)) (slice_index s.words (field_at layout Slots slot (key_field way + place)))) id me.0 (record me.0 { trie = reading me.0.trie }) at
-        (words_loaded layout kept.published s.words (field_at layout Slots slot (key_field way + place))) (record { stands = λ point e. e; seen = λ x e. e; locks = refl; marks = refl; emptied = λ e is. is; met_mark = λ x is. is }) refl (λ _. refl) refl),
+        (marks_on m digest layout s kept (set s.words (field_at layout Slots slot (key_field way + place)) (slice_index s.words (field_at layout Slots slot (key_field way + place)))) id me.0
+        (record me.0 { trie = reading me.0.trie }) at
+        (words_loaded layout kept.published s.words (field_at layout Slots slot (key_field way + place))) (record {
+          stands = λ point e. e;
+          seen = λ x e. e;
+          locks = refl;
+          marks = refl;
+          emptied = λ e is. is;
+          met_mark = λ x is. is;
+        }) refl (λ _. refl) refl),
     record {
       is = refl;
       stored = λ x e. (kept.stored id me.0 at).stands (field_at layout Slots slot (key_field way + place)) x e;

@@ -1,33 +1,19 @@
 -- Nodes that pass from who owned them to the trie, each once.
 use Rattle.std.specs.List.{Contains, list_any}
 use Rattle.std.proofs.Common.{◌≡◌, ◌⊎◌, ℕ, suc, ◌+◌, ◌%◌, ◌<◌, ◌≤◌, ◌==◌, ◌||◌, Bool, true, false, cond, eqb, List, [], ◌∷◌, ◌++◌, set, slice_index, refl, sym, ap, ◌∙◌, subst, ⊎_elim, inl, inr, arith}
-use Rattle.std.proofs.lemmas.Bool.{cases_lt}
-use Rattle.std.proofs.lemmas.Bool.Decides.{Decides-eqb}
-use Rattle.std.proofs.lemmas.List.{get_or_default}
-use Rattle.std.proofs.lemmas.List.Elements.{Contains-append_left, Contains-append_right, Contains-push}
-use Rattle.std.proofs.lemmas.List.Sums.{sum_by-append}
-use Rattle.std.proofs.lemmas.Nat.Bits.{bit_at-lt}
+use Rattle.std.proofs.lemmas.{Bool.{cases_lt, Decides.Decides-eqb}, List.get_or_default}
+use Rattle.std.proofs.lemmas.{List.{Elements.{Contains-append_left, Contains-append_right, Contains-push}, Sums.sum_by-append}, Nat.Bits.bit_at-lt}
 use mathlib.Core.Option.{some}
 use lib.ListN.{get_elem?}
 use Rattle.atomic_table.specs.Table.{State}
 use Rattle.npf_types.specs.declared.key.Key.{Key}
-use Rattle.npf_core.specs.Machine.{Machine}
-use Rattle.npf_core.specs.Meaning.{Meaning}
+use Rattle.npf_core.specs.{Machine.Machine, Meaning.Meaning}
 use Rattle.npf_paths.specs.LevelLaw.{AreApart}
-use Rattle.npf_cells_words.specs.declared.layout.Layout.{Layout}
-use Rattle.npf_cells_words.specs.declared.layout.Pool.{Pool}
-use Rattle.npf_cells_words.specs.declared.layout.Pool.TheVariants.{Slots, Nodes}
-use Rattle.npf_cells_words.specs.Layout.{place_word}
-use Rattle.npf_seats.specs.Sums.{occurs}
-use Rattle.npf_seats.proofs.ListLemmas.{one_where, occurs-cons, occurs_or, stands_once}
-use Rattle.npf_seats.proofs.SumLemmas.{sum-set, one_of_sum}
-use Rattle.npf_cells_lives.specs.Pools.{claim_bit, taken}
-use Rattle.npf_cells_lives.proofs.PoolLemmas.{unfreed-set}
-use Rattle.npf_cells_rule.specs.declared.view.CellView.{CellView}
-use Rattle.npf_cells_rule.specs.Cells.{IsCells}
-use Rattle.npf_cells_rule.specs.Views.{pool_side}
+use Rattle.npf_cells_words.specs.{declared.layout.{Layout.Layout, Pool.{Pool, TheVariants.{Slots, Nodes}}}, Layout.place_word}
+use Rattle.npf_seats.{specs.Sums.occurs, proofs.{ListLemmas.{one_where, occurs-cons, occurs_or, stands_once}, SumLemmas.{sum-set, one_of_sum}}}
+use Rattle.npf_cells_lives.{specs.{Pools.{claim_bit, taken}, Turns.Running}, proofs.PoolLemmas.unfreed-set}
+use Rattle.npf_cells_rule.specs.{declared.view.CellView.CellView, Cells.IsCells, Views.pool_side}
 use Rattle.npf_cells_holds.specs.PublishKinds.{nodes_but}
-use Rattle.npf_cells_lives.specs.Turns.{Running}
 
 -- a number stands in a list, as its test says
 any_or : (x : ℕ) (ns : List ℕ) → ((list_any (λ y. y == x) ns ≡ true) × Contains ns x) ⊎ ((list_any (λ y. y == x) ns ≡ false) × (occurs x ns ≡ 0))
@@ -39,7 +25,11 @@ any_or x (n ∷ ns) = by_test (any_or x ns) (eqb n x) refl
     by_test rest true e = inl (ap (λ b. b || list_any (λ y. y == x) ns) e, subst (λ y. Contains (n ∷ ns) y) ((Decides-eqb n x).0 e) (Contains-append_left (n ∷ []) ns n (Contains-push [] n)))
     by_test rest false e = ⊎_elim
         (λ there. inl (ap (λ b. b || list_any (λ y. y == x) ns) e ∙ there.0, Contains-append_right (n ∷ []) ns x there.1))
-        (λ none. inr (ap (λ b. b || list_any (λ y. y == x) ns) e ∙ none.0, let more = occurs-cons x n ns in let here : one_where (eqb n x) ≡ 0 = ap one_where e in let later = none.1 in omega (arith, more, here, later)))
+        (λ none. inr (
+          ap (λ b. b || list_any (λ y. y == x) ns) e ∙ none.0,
+          let more = occurs-cons x n ns in
+              let here : one_where (eqb n x) ≡ 0 = ap one_where e in let later = none.1 in omega (arith, more, here, later),
+        ))
         rest
 
 -- what is left of a list without some of its numbers
@@ -92,7 +82,8 @@ moved_once x ns xs apart owned = ⊎_elim
     (λ none. let left = but_same x ns xs none.0 in let no = none.1 in omega (arith, left, no))
     (any_or x ns)
 
-module _ {S A R : Type 0} (m : Meaning S A R) (digest : Key → ℕ) (layout : Layout) (s : State (Running S) (CellView S A R)) (kept : IsCells m digest layout s) (id : ℕ) (v : CellView S A R) (at : get_elem? s.views id ≡ some v) where
+module _ {S A R : Type 0} (m : Meaning S A R) (digest : Key → ℕ) (layout : Layout) (s : State (Running S) (CellView S A R))
+    (kept : IsCells m digest layout s) (id : ℕ) (v : CellView S A R) (at : get_elem? s.views id ≡ some v) where
   -- who owns a node owns one that the table has, and has it once
   pub owns_there : (node : ℕ) → Contains v.pools.nodes node → node < layout.nodes
   owns_there node owns = ⊎_elim
@@ -113,7 +104,8 @@ module _ {S A R : Type 0} (m : Meaning S A R) (digest : Key → ℕ) (layout : L
       omega (arith, bit, below, mine, one)
 
   -- as many places are taken as before
-  pub taken_moved : (k k' : Machine S) (w : CellView S A R) (nodes : List ℕ) → AreApart nodes → ((node : ℕ) → Contains nodes node → Contains v.pools.nodes node) → w.pools.nodes ≡ nodes_but nodes v.pools.nodes → w.pools.unfreed ≡ v.pools.unfreed → ((slot : ℕ) → k'.slot slot ≡ k.slot slot) →
+  pub taken_moved : (k k' : Machine S) (w : CellView S A R) (nodes : List ℕ) → AreApart nodes → ((node : ℕ) → Contains nodes node → Contains v.pools.nodes node) →
+      w.pools.nodes ≡ nodes_but nodes v.pools.nodes → w.pools.unfreed ≡ v.pools.unfreed → ((slot : ℕ) → k'.slot slot ≡ k.slot slot) →
       (pool : Pool) (place : ℕ) → taken pool_side (nodes ++ kept.published) k' (set s.views id w) pool place ≡ taken pool_side kept.published k s.views pool place
   taken_moved k k' w nodes apart owned left same slots Slots place = ap (λ x. claim_bit x.stage) (slots place)
   taken_moved k k' w nodes apart owned left same slots Nodes place =

@@ -1,33 +1,22 @@
 -- A store in a place of the trie that the pass has locked: of what stands in places it changes that alone, and no other word.
-use Rattle.std.specs.List.{Contains}
-use Rattle.std.proofs.Common.{◌≡◌, ◌≢◌, ℕ, ◌+◌, List, [], ◌∷◌, set, slice_index, ap, ◌∙◌, subst, ⊎_elim, arith}
+use Rattle.std.{specs.List.Contains, proofs.Common.{◌≡◌, ◌≢◌, ℕ, ◌+◌, List, [], ◌∷◌, set, slice_index, ap, ◌∙◌, subst, ⊎_elim, arith}}
 use Rattle.std.proofs.lemmas.List.{get_or-set_same, get_or-set_other}
 use mathlib.Core.Option.{some}
 use lib.ListN.{get_elem?}
 use Rattle.atomic_table.specs.Table.{State}
-use Rattle.npf_types.specs.declared.key.Key.{Key}
-use Rattle.npf_types.specs.declared.key.Way.{Way}
+use Rattle.npf_types.specs.declared.key.{Key.Key, Way.Way}
 use Rattle.npf_core.specs.Meaning.{Meaning}
-use Rattle.npf_paths.specs.declared.place.Lock.{Lock}
-use Rattle.npf_paths.specs.declared.place.Place.{Place}
-use Rattle.npf_paths.specs.Paths.{AreDigits, IsOnPath}
-use Rattle.npf_cells_words.specs.declared.layout.Layout.{Layout}
-use Rattle.npf_cells_words.specs.declared.layout.Pool.{Pool}
-use Rattle.npf_cells_words.specs.declared.layout.Pool.TheVariants.{Slots, Nodes}
-use Rattle.npf_cells_words.specs.Layout.{inc_field, parent_field, key_field, note_field, field_at}
-use Rattle.npf_cells_words.specs.MarkWords.{shown_of}
+use Rattle.npf_paths.specs.{declared.place.{Lock.Lock, Place.Place}, Paths.{AreDigits, IsOnPath}}
+use Rattle.npf_cells_words.specs.declared.layout.{Layout.Layout, Pool.{Pool, TheVariants.{Slots, Nodes}}}
+use Rattle.npf_cells_words.specs.{Layout.{inc_field, parent_field, key_field, note_field, field_at}, MarkWords.shown_of}
 use Rattle.npf_cells_words.specs.Places.{lock_at, IsLockOf, IsInTrie, place_at}
 use Rattle.npf_cells_words.proofs.WordLemmas.{place_reach, one_word, slot_apart, parent_apart, lock_apart}
-use Rattle.npf_cells_leaves.specs.Trie.{cell_in, key_word, trie_words}
-use Rattle.npf_cells_leaves.proofs.TrieLemmas.{cell_there, cell_kept}
-use Rattle.npf_cells_lives.specs.Notes.{note_word}
-use Rattle.npf_cells_lives.specs.Stored.{IsOwnField}
-use Rattle.npf_cells_rule.specs.declared.view.CellView.{CellView}
-use Rattle.npf_cells_rule.specs.Cells.{IsCells}
-use Rattle.npf_cells_rule.proofs.MetLemmas.{met_at, unowned}
-use Rattle.npf_cells_lives.specs.Turns.{Running}
+use Rattle.npf_cells_leaves.{specs.Trie.{cell_in, key_word, trie_words}, proofs.TrieLemmas.{cell_there, cell_kept}}
+use Rattle.npf_cells_lives.specs.{Notes.note_word, Stored.IsOwnField, Turns.Running}
+use Rattle.npf_cells_rule.{specs.{declared.view.CellView.CellView, Cells.IsCells}, proofs.MetLemmas.{met_at, unowned}}
 
-module _ {S A R : Type 0} (m : Meaning S A R) (digest : Key → ℕ) (layout : Layout) (s : State (Running S) (CellView S A R)) (kept : IsCells m digest layout s) (p : Place) (inside : IsInTrie layout p) (value : ℕ) where
+module _ {S A R : Type 0} (m : Meaning S A R) (digest : Key → ℕ) (layout : Layout) (s : State (Running S) (CellView S A R))
+    (kept : IsCells m digest layout s) (p : Place) (inside : IsInTrie layout p) (value : ℕ) where
   abbrev words' : List ℕ
   words' = set s.words (place_at layout p) value
 

@@ -1,16 +1,8 @@
 -- A hold spares the dead: it gives a key to a connection that is Building, and takes none.
 use Rattle.std.proofs.Common.{◌≡◌, ℕ, Option, Some, refl, sym, ap, ◌∙◌}
-use Rattle.npf_types.specs.declared.key.Key.{Key}
-use Rattle.npf_types.specs.declared.key.Way.{Way}
-use Rattle.npf_core.specs.declared.act.Act.{Act}
-use Rattle.npf_core.specs.declared.act.Act.TheVariants.{Hold}
-use Rattle.npf_core.specs.declared.conn_id.ConnId.{ConnId}
-use Rattle.npf_core.specs.declared.found.Found.{Found}
-use Rattle.npf_core.specs.declared.stage.Stage.TheVariants.{Building, Dead}
-use Rattle.npf_core.specs.Machine.{Machine, stage_of}
-use Rattle.npf_core.specs.Meaning.{Meaning}
-use Rattle.npf_core.specs.NextState.{after_act}
-use Rattle.npf_core.proofs.HolderLemmas.{Passes, rests, gives, loses, passes}
+use Rattle.npf_types.specs.declared.key.{Key.Key, Way.Way}
+use Rattle.npf_core.specs.declared.{act.Act.{Act, TheVariants.Hold}, conn_id.ConnId.ConnId, found.Found.Found, stage.Stage.TheVariants.{Building, Dead}}
+use Rattle.npf_core.{specs.{Machine.{Machine, stage_of}, Meaning.Meaning, NextState.after_act}, proofs.HolderLemmas.{Passes, rests, gives, loses, passes}}
 use Rattle.npf_cells_lives.proofs.DeathLemmas.{Spares}
 
 module _ {S A R : Type 0} (m : Meaning S A R) (k : Machine S) (seat : ℕ) (conn : ConnId) (key : Key) (way : Way) (built : stage_of k conn ≡ Building seat) where

@@ -1,24 +1,12 @@
 -- The leaf of a key that a connection holds stands where the key's path ends, and the key is that of the slot's words.
 use Rattle.std.proofs.Common.{◌≡◌, ◌≢◌, ◌⊎◌, ℕ, Bool, true, false, cond, Option, Some, None, List, slice_index, refl, sym, ap, ◌∙◌, inl, inr}
-use Rattle.npf_types.specs.declared.key.Key.{Key}
-use Rattle.npf_types.specs.declared.key.Way.{Way}
-use Rattle.npf_core.specs.declared.conn_id.ConnId.{ConnId}
-use Rattle.npf_core.specs.declared.found.Found.{Found}
-use Rattle.npf_core.specs.Machine.{Machine, Holds, HoldsNone, HoldsSome, is_key}
-use Rattle.npf_core.specs.NextState.{is_found}
+use Rattle.npf_types.specs.declared.key.{Key.Key, Way.Way}
+use Rattle.npf_core.specs.{declared.{conn_id.ConnId.ConnId, found.Found.Found}, Machine.{Machine, Holds, HoldsNone, HoldsSome, is_key}, NextState.is_found}
 use Rattle.npf_core.proofs.EqualityLemmas.{is_key-Decides, is_found-Decides}
-use Rattle.npf_paths.specs.declared.cell.Cell.{Cell}
-use Rattle.npf_paths.specs.declared.cell.Cell.TheVariants.{Empty, Leaf, Node, Mark}
-use Rattle.npf_paths.specs.declared.place.Place.{Place}
-use Rattle.npf_paths.specs.Paths.{EndsAt}
-use Rattle.npf_cells_words.specs.declared.layout.Layout.{Layout}
-use Rattle.npf_cells_words.specs.MarkWords.{shown_of}
-use Rattle.npf_cells_words.specs.Places.{IsInTrie, is_in_trie, place_at}
-use Rattle.npf_cells_words.proofs.WordLemmas.{in_trie}
-use Rattle.npf_cells_leaves.specs.declared.trie.TrieSide.{TrieSide}
-use Rattle.npf_cells_leaves.specs.Trie.{cell_in, digits_of, TrieWords, trie_words, leaf_found, holder_at, Trie}
-use Rattle.npf_cells_leaves.proofs.StandLemmas.{path_ends}
-use Rattle.npf_cells_leaves.proofs.TrieLemmas.{are_digits}
+use Rattle.npf_paths.specs.{declared.{cell.Cell.{Cell, TheVariants.{Empty, Leaf, Node, Mark}}, place.Place.Place}, Paths.EndsAt}
+use Rattle.npf_cells_words.{specs.{declared.layout.Layout.Layout, MarkWords.shown_of, Places.{IsInTrie, is_in_trie, place_at}}, proofs.WordLemmas.in_trie}
+use Rattle.npf_cells_leaves.specs.{declared.trie.TrieSide.TrieSide, Trie.{cell_in, digits_of, TrieWords, trie_words, leaf_found, holder_at, Trie}}
+use Rattle.npf_cells_leaves.proofs.{StandLemmas.path_ends, TrieLemmas.are_digits}
 
 -- what stands where the path of a held key ends
 pub record SaysHolder (t : TrieWords) (c : Cell) (key : Key) (found : Found) : Type 0 where
@@ -52,7 +40,8 @@ leaf_within layout words p slot way e = by_place (is_in_trie layout p) refl e
     by_place true there is = in_trie layout p there
     by_place false there is = absurd cc
 
-module _ {S V : Type 0} (side_of : V → TrieSide) (digest : Key → ℕ) (layout : Layout) (published : List ℕ) (k : Machine S) (words : List ℕ) (views : List V) (kept : Trie side_of digest layout published k words views) (conn : ConnId) (way : Way) where
+module _ {S V : Type 0} (side_of : V → TrieSide) (digest : Key → ℕ) (layout : Layout) (published : List ℕ) (k : Machine S) (words : List ℕ)
+    (views : List V) (kept : Trie side_of digest layout published k words views) (conn : ConnId) (way : Way) where
   abbrev t : TrieWords
   t = trie_words layout words
 
@@ -89,4 +78,5 @@ module _ {S V : Type 0} (side_of : V → TrieSide) (digest : Key → ℕ) (layou
         where
           by_test : (b : Bool) → is_found found asked ≡ b → HoldsSome k conn way ⊎ HoldsNone k conn way
           by_test true same = inl (t.key conn.slot way, e ∙ ap (λ (f : Found). Some f) ((is_found-Decides found asked).0 same))
-          by_test false differs = inr (none (λ is. (let both : Some found ≡ Some asked = sym e ∙ is in let one : found ≡ asked = cc in let yes = (is_found-Decides found asked).1 one in let no : true ≡ false = sym yes ∙ differs in cc)))
+          by_test false differs = inr (none (λ is. (let both : Some found ≡ Some asked = sym e ∙ is in let one : found ≡ asked = cc in
+              let yes = (is_found-Decides found asked).1 one in let no : true ≡ false = sym yes ∙ differs in cc)))

@@ -1,38 +1,20 @@
 -- A Dead connection gives a key up: what is held stays but for that key, and so do the parts on deaths, on what killers know and on notes.
 use Rattle.std.specs.List.{Contains}
 use Rattle.std.proofs.Common.{◌≡◌, ◌≢◌, ℕ, ◌<◌, ◌≤◌, Bool, true, false, cond, Option, Some, None, List, [], ◌∷◌, set, sum_by, refl, sym, ap, ◌∙◌, subst, ⊎_elim, inl, inr, arith}
-use Rattle.std.proofs.lemmas.List.{length-map, get_or-map}
 use Rattle.std.proofs.lemmas.List.Elements.{Contains-append_left, Contains-append_right, Contains-push}
 use mathlib.Core.Option.{some}
 use lib.ListN.{get_elem?}
 use Rattle.atomic_table.proofs.Lists.{at_set}
-use Rattle.npf_types.specs.declared.key.Key.{Key}
-use Rattle.npf_types.specs.declared.key.Way.{Way}
-use Rattle.npf_core.specs.declared.conn_id.ConnId.{ConnId}
-use Rattle.npf_core.specs.declared.found.Found.{Found}
-use Rattle.npf_core.specs.declared.stage.Stage.{Stage}
-use Rattle.npf_core.specs.declared.stage.Stage.TheVariants.{Dead}
-use Rattle.npf_core.specs.Machine.{Machine, stage_of}
-use Rattle.npf_core.specs.NextState.{is_found, given_up}
-use Rattle.npf_core.proofs.EqualityLemmas.{is_found-Decides}
-use Rattle.npf_paths.specs.declared.cell.Cell.{Cell}
-use Rattle.npf_paths.specs.declared.cell.Cell.TheVariants.{Leaf}
-use Rattle.npf_paths.specs.declared.place.Place.{Place}
-use Rattle.npf_paths.specs.Paths.{IsOnPath}
-use Rattle.npf_cells_words.specs.declared.layout.Layout.{Layout}
-use Rattle.npf_cells_words.specs.Layout.{epoch_word, note_field}
-use Rattle.npf_seats.specs.Sums.{occurs}
-use Rattle.npf_seats.proofs.ListLemmas.{stands_once}
-use Rattle.npf_seats.proofs.SumLemmas.{sum-set, two_of_sum}
-use Rattle.npf_cells_lives.specs.declared.pools.PoolSide.{PoolSide}
-use Rattle.npf_cells_lives.specs.declared.turn.Turn.{Turn}
+use Rattle.npf_types.specs.declared.key.{Key.Key, Way.Way}
+use Rattle.npf_core.specs.{declared.{conn_id.ConnId.ConnId, found.Found.Found, stage.Stage.{Stage, TheVariants.Dead}}, Machine.{Machine, stage_of}}
+use Rattle.npf_core.{specs.NextState.{is_found, given_up}, proofs.EqualityLemmas.is_found-Decides}
+use Rattle.npf_paths.specs.{declared.{cell.Cell.{Cell, TheVariants.Leaf}, place.Place.Place}, Paths.IsOnPath}
+use Rattle.npf_cells_words.specs.{declared.layout.Layout.Layout, Layout.{epoch_word, note_field}}
+use Rattle.npf_seats.{specs.Sums.occurs, proofs.SumLemmas.{sum-set, two_of_sum}}
+use Rattle.npf_cells_lives.specs.declared.{pools.PoolSide.PoolSide, turn.Turn.Turn}
 use Rattle.npf_cells_lives.specs.Deaths.{DeathSide, Rests, IsProtectedBy, IsKeyless, is_dead, first_note, has_epoch, slots_named, last_id, IsPast, FitsReclaim, Deaths}
-use Rattle.npf_cells_lives.specs.Known.{FitsKnown, Known}
-use Rattle.npf_cells_lives.specs.Notes.{note_word, IsAheadOf, IsFirm, FitsNote, Notes}
-use Rattle.npf_cells_lives.specs.Turns.{stage_phase}
-use Rattle.npf_cells_lives.proofs.DeathLemmas.{KeepsDates, same_dates, dead_at}
-use Rattle.npf_cells_lives.proofs.KnownLemmas.{known-set}
-use Rattle.npf_cells_lives.proofs.NoteLemmas.{note_stays, nobody_before}
+use Rattle.npf_cells_lives.specs.{Known.{FitsKnown, Known}, Notes.{note_word, IsAheadOf, IsFirm, FitsNote, Notes}, Turns.stage_phase}
+use Rattle.npf_cells_lives.proofs.{DeathLemmas.{KeepsDates, same_dates, dead_at, slot_named}, KnownLemmas.known-set, NoteLemmas.{note_stays, nobody_before}}
 
 -- another holder keeps its key
 pub other_keeps : (x gone : Found) → x ≢ gone → given_up (Some x) gone ≡ Some x
@@ -50,13 +32,6 @@ had_before (Some x) gone found e = by_test (is_found x gone) e
     by_test : (b : Bool) → cond {A = Option Found} b None (Some x) ≡ Some found → Some x ≡ Some found
     by_test true e = absurd cc
     by_test false e = e
-
--- the slot of a connection in a list is named
-slot_named : (id : ConnId) (ids : List ConnId) → Contains ids id → 1 ≤ occurs id.slot (slots_named ids)
-slot_named id ids c =
-    let long = length-map ids (λ (i : ConnId). i.slot) in
-    let short = c.1 in
-    stands_once id.slot (slots_named ids) (c.0, omega (arith, long, short), get_or-map (λ (i : ConnId). i.slot) ids c.0 id id.slot short ∙ ap (λ (i : ConnId). i.slot) c.2)
 
 module _ {S : Type 0} (k : Machine S) (conn : ConnId) (way : Way) where
   abbrev pub gone : Found
@@ -88,7 +63,8 @@ module _ {S : Type 0} (k : Machine S) (conn : ConnId) (way : Way) where
         let phase : stage_phase (k.slot slot).stage ≡ stage_phase (k.slot conn.slot).stage = ap (λ n. stage_phase (k.slot n).stage) slots in
         absurd (omega (arith, live, phase, dead_phase))
 
-    module _ {V : Type 0} (side_of : V → DeathSide) (layout : Layout) (words words' : List ℕ) (views : List V) (i : ℕ) (v w : V) (kept : Deaths side_of layout k words views) (at : get_elem? views i ≡ some v)
+    module _ {V : Type 0} (side_of : V → DeathSide) (layout : Layout) (words words' : List ℕ) (views : List V)
+        (i : ℕ) (v w : V) (kept : Deaths side_of layout k words views) (at : get_elem? views i ≡ some v)
         (killed : Contains (side_of v).kills conn) (within : conn.slot < layout.slots) where
       -- nobody else killed it
       pub killer_alone : (j : ℕ) (u : V) (id : ConnId) → j ≢ i → get_elem? views j ≡ some u → Contains (side_of u).kills id → id.slot ≢ conn.slot
@@ -103,20 +79,23 @@ module _ {S : Type 0} (k : Machine S) (conn : ConnId) (way : Way) where
       others_apart : (j : ℕ) (u : V) (id : ConnId) → j ≢ i → get_elem? views j ≡ some u → Contains (side_of u).kills id → id ≢ conn
       others_apart j u id ne there c same = killer_alone j u id ne there c (ap (λ (x : ConnId). x.slot) same)
 
-      module _ (kills : (side_of w).kills ≡ (side_of v).kills) (reclaims : (side_of w).reclaims ≡ (side_of v).reclaims) (cleared : (side_of w).cleared ≡ (side_of v).cleared) (undated : (side_of w).dated ≡ (side_of v).dated) (unloaded : (side_of w).loaded ≡ 0)
+      module _ (kills : (side_of w).kills ≡ (side_of v).kills) (reclaims : (side_of w).reclaims ≡ (side_of v).reclaims)
+          (cleared : (side_of w).cleared ≡ (side_of v).cleared) (undated : (side_of w).dated ≡ (side_of v).dated) (unloaded : (side_of w).loaded ≡ 0)
           (rests : (id : ConnId) → Rests (side_of w) id → Rests (side_of v) id) (protecting : (side_of w).protecting ≡ (side_of v).protecting) (epoch : epoch_word words' ≡ epoch_word words)
           (notes : (slot : ℕ) → slot < layout.slots → first_note layout words' slot ≡ first_note layout words slot) where
         abbrev views' : List V
         views' = set views i w
 
-        same_sum : (of : DeathSide → List ConnId) → of (side_of w) ≡ of (side_of v) → (slot : ℕ) → sum_by (λ (u : V). occurs slot (slots_named (of (side_of u)))) views' ≡ sum_by (λ (u : V). occurs slot (slots_named (of (side_of u)))) views
+        same_sum : (of : DeathSide → List ConnId) → of (side_of w) ≡ of (side_of v) → (slot : ℕ) →
+            sum_by (λ (u : V). occurs slot (slots_named (of (side_of u)))) views' ≡ sum_by (λ (u : V). occurs slot (slots_named (of (side_of u)))) views
         same_sum of same slot =
             let more = sum-set (λ (u : V). occurs slot (slots_named (of (side_of u)))) views i v w at in
             let one = ap (λ ids. occurs slot (slots_named ids)) same in
             omega (arith, more, one)
 
         -- the seat rests on nothing more
-        rested : (j : ℕ) (u : V) (id : ConnId) → get_elem? views' j ≡ some u → Rests (side_of u) id → (x : V) × (get_elem? views j ≡ some x) × Rests (side_of x) id × ((side_of u).protecting ≡ (side_of x).protecting)
+        rested : (j : ℕ) (u : V) (id : ConnId) → get_elem? views' j ≡ some u → Rests (side_of u) id →
+            (x : V) × (get_elem? views j ≡ some x) × Rests (side_of x) id × ((side_of u).protecting ≡ (side_of x).protecting)
         rested j u id e r = ⊎_elim
             (λ (x : (j ≡ i) × (w ≡ u)). (
               v,
@@ -171,7 +150,8 @@ module _ {S : Type 0} (k : Machine S) (conn : ConnId) (way : Way) where
               let was = kept.kills j u id x.1 c in
               record {
                 dead = was.dead;
-                past = λ some' bare. past_on id (side_of u).loaded (was.past some' (λ w' key holds. bare w' key (still_held key (record { id = id; way = w' }) (apart id w' (others_apart j u id x.0 x.1 c)) holds)));
+                past = λ some' bare. past_on id (side_of u).loaded
+                    (was.past some' (λ w' key holds. bare w' key (still_held key (record { id = id; way = w' }) (apart id w' (others_apart j u id x.0 x.1 c)) holds)));
               })
               (at_set views i j w u e);
           reclaims = λ j u id e c. ⊎_elim
@@ -200,18 +180,22 @@ module _ {S : Type 0} (k : Machine S) (conn : ConnId) (way : Way) where
         (λ j u id ne e c way' key holds. held_before key (record { id = id; way = way' }) holds)
         mine
 
-    module _ {V : Type 0} (turn_of : V → Option (Turn S)) (side_of : V → PoolSide) (layout : Layout) (cell cell' : Place → Cell) (words words' : List ℕ) (views : List V) (i : ℕ) (v w : V) (kept : Notes turn_of side_of layout cell k words views)
-        (at : get_elem? views i ≡ some v) (turn : turn_of w ≡ turn_of v) (side : side_of w ≡ record (side_of v) { gave_up = gone ∷ (side_of v).gave_up }) (settled : (mine : Turn S) → turn_of v ≡ Some mine → mine.ahead ≡ None)
+    module _ {V : Type 0} (turn_of : V → Option (Turn S)) (side_of : V → PoolSide) (layout : Layout) (cell cell' : Place →
+        Cell) (words words' : List ℕ) (views : List V) (i : ℕ) (v w : V) (kept : Notes turn_of side_of layout cell k words views)
+        (at : get_elem? views i ≡ some v) (turn : turn_of w ≡ turn_of v) (side : side_of w ≡ record (side_of v) { gave_up = gone ∷ (side_of v).gave_up }) (settled : (mine : Turn S) →
+        turn_of v ≡ Some mine → mine.ahead ≡ None)
         (turns : (j : ℕ) (u : V) (theirs : Turn S) → j ≢ i → get_elem? views j ≡ some u → turn_of u ≡ Some theirs → theirs.slot ≢ conn.slot)
         (kills : (j : ℕ) (u : V) (id : ConnId) → j ≢ i → get_elem? views j ≡ some u → Contains (side_of u).kills id → id.slot ≢ conn.slot)
         (same : (slot : ℕ) (w' : Way) → note_word layout words' slot w' ≡ note_word layout words slot w')
-        (before : (digits : ℕ → ℕ) (level : ℕ) (q : Place) (slot : ℕ) (w' : Way) → IsOnPath digits cell' level q → cell' q ≡ Leaf slot w' → IsOnPath digits cell level q × (cell q ≡ Leaf slot w')) where
+        (before : (digits : ℕ → ℕ) (level : ℕ) (q : Place) (slot : ℕ) (w' : Way) → IsOnPath digits cell' level q →
+        cell' q ≡ Leaf slot w' → IsOnPath digits cell level q × (cell q ≡ Leaf slot w')) where
       -- the notes name where the leaves stand that are left
       pub notes_unheld : Notes turn_of side_of layout cell' unheld words' (set views i w)
       notes_unheld = record {
         named = λ digits level q slot w' are on is none.
             let was = before digits level q slot w' on is in
-            same slot w' ∙ kept.named digits level q slot w' are was.0 was.1 (nobody_before turn_of views i v w slot (note_field w') at (λ a. subst (λ t. IsAheadOf t slot (note_field w')) (sym turn) a) none);
+            same slot w' ∙ kept.named digits level q slot w' are was.0 was.1
+            (nobody_before turn_of views i v w slot (note_field w') at (λ a. subst (λ t. IsAheadOf t slot (note_field w')) (sym turn) a) none);
         bare = λ slot w' h live none.
             same slot w' ∙ kept.bare slot w' h live (λ key holds. none key (still_held key (record { id = last_id k slot; way = w' }) (apart (last_id k slot) w' (live_apart slot live)) holds));
         given = λ j u id w' e c not none. same id.slot w' ∙ ⊎_elim
@@ -220,8 +204,10 @@ module _ {S : Type 0} (k : Machine S) (conn : ConnId) (way : Way) where
             let asked : Found = record { id = id; way = w' } in
             let gave : ¬ Contains (gone ∷ (side_of v).gave_up) asked = (λ d. not (subst (λ (y : PoolSide). Contains y.gave_up asked) (sym sides) d)) in
             kept.given i v id w' at (subst (λ (y : PoolSide). Contains y.kills id) sides c) (λ d. gave (Contains-append_right (gone ∷ []) (side_of v).gave_up asked d))
-            (λ key holds. none key (still_held key asked (λ is. gave (subst (λ (f : Found). Contains (gone ∷ (side_of v).gave_up) f) (sym is) (Contains-append_left (gone ∷ []) (side_of v).gave_up gone (Contains-push [] gone)))) holds)))
-            (λ (x : (j ≢ i) × (get_elem? views j ≡ some u)). kept.given j u id w' x.1 c not (λ key holds. none key (still_held key (record { id = id; way = w' }) (apart id w' (λ is. kills j u id x.0 x.1 c (ap (λ (y : ConnId). y.slot) is))) holds)))
+            (λ key holds. none key (still_held key asked
+            (λ is. gave (subst (λ (f : Found). Contains (gone ∷ (side_of v).gave_up) f) (sym is) (Contains-append_left (gone ∷ []) (side_of v).gave_up gone (Contains-push [] gone)))) holds)))
+            (λ (x : (j ≢ i) × (get_elem? views j ≡ some u)). kept.given j u id w' x.1 c not
+            (λ key holds. none key (still_held key (record { id = id; way = w' }) (apart id w' (λ is. kills j u id x.0 x.1 c (ap (λ (y : ConnId). y.slot) is))) holds)))
             (at_set views i j w u e);
         said = λ j u t said w' e has is firm field. same t.slot w' ∙ ⊎_elim
             (λ (x : (j ≡ i) × (w ≡ u)).
@@ -245,7 +231,8 @@ module _ {S : Type 0} (k : Machine S) (conn : ConnId) (way : Way) where
               names = fits.names;
             })
             (at_set views i j w u e);
-        each = λ j u note e c. note_stays layout k unheld words words' (side_of u).builds (side_of u).builds note (λ w' is. same note.slot w') (λ key id w' built is there holds. held_before key (record { id = id; way = w' }) holds) (λ id e' c'. c')
+        each = λ j u note e c. note_stays layout k unheld words words' (side_of u).builds (side_of u).builds note (λ w' is. same note.slot w')
+            (λ key id w' built is there holds. held_before key (record { id = id; way = w' }) holds) (λ id e' c'. c')
             (⊎_elim
             (λ (x : (j ≡ i) × (w ≡ u)).
             let sides : side_of u ≡ record (side_of v) { gave_up = gone ∷ (side_of v).gave_up } = ap side_of (sym x.1) ∙ side in

@@ -1,100 +1,47 @@
 -- Kind 18 keeps the rule, and gives a key of a killed connection up.
 use Rattle.std.specs.List.{Contains}
 use Rattle.std.proofs.Common.{◌≡◌, ◌≢◌, ℕ, ◌+◌, ◌<◌, ◌≤◌, true, Some, None, List, [], ◌∷◌, ◌++◌, map, set, length, slice_index, refl, sym, ap, ◌∙◌, subst, ⊎_elim, inl, arith, length-set}
-use Rattle.std.proofs.lemmas.Bool.{cases_eq}
-use Rattle.std.proofs.lemmas.List.{map-set, get_or-set_other, get_or-set_same}
+use Rattle.std.proofs.lemmas.{Bool.cases_eq, List.{map-set, get_or-set_other, get_or-set_same}}
 use mathlib.Core.Option.{some}
 use lib.ListN.{get_elem?}
-use Rattle.atomic_table.specs.Table.{State, Me, Step, Allows, stepped, keeps}
-use Rattle.atomic_table.proofs.Lists.{at_map}
-use Rattle.npf_types.specs.declared.key.Key.{Key}
-use Rattle.npf_types.specs.declared.key.Way.{Way}
-use Rattle.npf_core.specs.declared.act.Act.TheVariants.{Unhold}
-use Rattle.npf_core.specs.declared.conn_id.ConnId.{ConnId}
-use Rattle.npf_core.specs.declared.entry.Entry.{Entry}
-use Rattle.npf_core.specs.declared.found.Found.{Found}
-use Rattle.npf_core.specs.declared.reply.Reply.TheVariants.{Nothing}
-use Rattle.npf_core.specs.declared.stage.Stage.TheVariants.{Building, Dead}
-use Rattle.npf_core.specs.History.{MayFollow, Legal, after, state_of}
-use Rattle.npf_core.specs.Machine.{Machine, stage_of, Holds, HoldsSome, IsClaimed}
-use Rattle.npf_core.specs.Meaning.{Meaning}
-use Rattle.npf_core.proofs.HistoryLemmas.{state_of-append, Legal-append}
-use Rattle.npf_connections.specs.Adding.{AddsOwn}
-use Rattle.npf_connections.specs.Pass.{all_places}
-use Rattle.npf_paths.specs.declared.cell.Cell.TheVariants.{Empty, Leaf}
-use Rattle.npf_paths.specs.declared.place.Place.{Place}
+use Rattle.atomic_table.{specs.Table.{State, Me, Step, Allows, stepped, keeps}, proofs.Lists.at_map}
+use Rattle.npf_types.specs.declared.key.{Key.Key, Way.Way}
+use Rattle.npf_core.specs.declared.{act.Act.TheVariants.Unhold, conn_id.ConnId.ConnId, entry.Entry.Entry, found.Found.Found, reply.Reply.TheVariants.Nothing}
+use Rattle.npf_core.specs.{declared.stage.Stage.TheVariants.{Building, Dead}, History.{MayFollow, Legal, after, state_of}}
+use Rattle.npf_core.{specs.{Machine.{Machine, stage_of, Holds, HoldsSome, IsClaimed}, Meaning.Meaning}, proofs.HistoryLemmas.{state_of-append, Legal-append}}
+use Rattle.npf_connections.specs.{Adding.AddsOwn, Pass.all_places}
+use Rattle.npf_paths.specs.{declared.{cell.Cell.TheVariants.{Empty, Leaf}, place.Place.Place}, Paths.{AreDigits, IsOnPath, IsEnd, IsOnPath.{at_root, further}}}
 use Rattle.npf_paths.specs.declared.place.Place.TheVariants as Places
-use Rattle.npf_paths.specs.Paths.{AreDigits, IsOnPath, IsEnd}
-use Rattle.npf_paths.specs.Paths.IsOnPath.{at_root, further}
-use Rattle.npf_paths.specs.Places.{lock_of}
-use Rattle.npf_paths.proofs.FillingLemmas.{filled_back, filled_places}
-use Rattle.npf_cells_words.specs.declared.layout.Layout.{Layout}
-use Rattle.npf_cells_words.specs.declared.mark.Marked.{Marked}
-use Rattle.npf_cells_words.specs.Codes.{place_code}
-use Rattle.npf_cells_words.specs.Layout.{epoch_word, reader_word, root_at, turn_field, phase_field, notes_field, note_field}
-use Rattle.npf_cells_words.specs.MarkWords.{shown_of, IsBareNode, IsMarkOf}
-use Rattle.npf_cells_words.specs.declared.mark.Emptied.{Emptied}
-use Rattle.npf_cells_words.specs.Places.{IsInTrie, IsPlaceIn, place_at}
-use Rattle.npf_cells_words.proofs.CodeLemmas.{codes_are_apart}
+use Rattle.npf_paths.{specs.Places.lock_of, proofs.FillingLemmas.{filled_back, filled_places}}
+use Rattle.npf_cells_words.specs.{declared.{layout.Layout.Layout, mark.Marked.Marked}, Codes.place_code}
+use Rattle.npf_cells_words.specs.{Layout.{epoch_word, reader_word, root_at, turn_field, phase_field, notes_field, note_field}, MarkWords.{shown_of, IsMarkOf}}
+use Rattle.npf_cells_words.{specs.{declared.mark.Emptied.Emptied, Places.{IsInTrie, IsPlaceIn, place_at}}, proofs.CodeLemmas.codes_are_apart}
 use Rattle.npf_cells_words.proofs.WordLemmas.{place_behind, place_lock, place_reach}
-use Rattle.npf_seats.specs.Seats.{FitsSeats, Seats}
-use Rattle.npf_seats.proofs.PrefixLemmas.{cons_cases, none_listed}
-use Rattle.npf_seats.proofs.SeatLemmas.{seats-adds}
-use Rattle.npf_seats.specs.Sums.{occurs}
+use Rattle.npf_seats.{specs.{Seats.{FitsSeats, Seats}, Sums.occurs}, proofs.{PrefixLemmas.{cons_cases, none_listed}, SeatLemmas.seats-adds}}
 use Rattle.npf_seats.proofs.SumLemmas.{one_there, side_same, sum-set}
-use Rattle.npf_cells_pins.specs.Epochs.{Epochs}
-use Rattle.npf_cells_pins.proofs.EpochLemmas.{within_last}
-use Rattle.npf_cells_leaves.specs.declared.trie.SeenCell.{SeenCell}
-use Rattle.npf_cells_leaves.specs.declared.trie.TrieSide.{TrieSide}
-use Rattle.npf_cells_leaves.specs.Trie.{digits_of, TrieWords, trie_words, FitsTrie, Trie}
-use Rattle.npf_cells_leaves.proofs.EmptyLemmas.{TakesKey, EmptiesPlace, empties_place, trie_emptied, fits_emptied}
-use Rattle.npf_cells_leaves.proofs.GivenLemmas.{others-fit}
+use Rattle.npf_cells_pins.{specs.Epochs.Epochs, proofs.EpochLemmas.within_last}
+use Rattle.npf_cells_leaves.specs.{declared.trie.{SeenCell.SeenCell, TrieSide.TrieSide}, Trie.{digits_of, TrieWords, trie_words, FitsTrie, Trie}}
+use Rattle.npf_cells_leaves.proofs.{EmptyLemmas.{TakesKey, EmptiesPlace, empties_place, trie_emptied, fits_emptied}, GivenLemmas.others-fit}
 use Rattle.npf_cells_leaves.proofs.TrieLemmas.{KnowsNoMore, cell_there, grown-set, knows_same, are_digits}
-use Rattle.npf_cells_lives.specs.declared.turn.Turn.{Turn}
-use Rattle.npf_cells_lives.specs.Conns.{Conns, entry_seat}
-use Rattle.npf_cells_lives.specs.Deaths.{first_note, slots_named, Deaths, unreclaimed}
-use Rattle.npf_cells_lives.specs.Known.{FitsKnown, Known}
-use Rattle.npf_cells_lives.specs.Locks.{Locks}
-use Rattle.npf_cells_lives.specs.Notes.{note_word, NobodyAhead, Notes}
-use Rattle.npf_cells_lives.specs.Pools.{taken, Pools}
-use Rattle.npf_cells_lives.specs.Stored.{StoredWords}
-use Rattle.npf_cells_lives.specs.Turns.{Running, Turns}
-use Rattle.npf_cells_lives.proofs.ConnLemmas.{BuildsIn, builds-kept, unstored-set}
-use Rattle.npf_cells_lives.proofs.FreedLemmas.{gone_in, freed_stays}
-use Rattle.npf_cells_lives.proofs.KnownLemmas.{known_now}
-use Rattle.npf_cells_lives.proofs.LockLemmas.{locks-same, holders-set, locks_alone}
-use Rattle.npf_cells_lives.proofs.PoolLemmas.{pools-kept, taken-set}
-use Rattle.npf_cells_lives.proofs.StoredLemmas.{stored_kept, stored-set}
-use Rattle.npf_cells_lives.proofs.TurnLemmas.{turns-kept, turns_alone}
-use Rattle.npf_cells_marks.specs.Marks.{Marks}
-use Rattle.npf_cells_marks.proofs.StoringLemmas.{marks-stored}
-use Rattle.npf_cells_rule.specs.declared.view.CellView.{CellView}
-use Rattle.npf_cells_rule.specs.Cells.{FitsAlone, IsCells}
-use Rattle.npf_cells_rule.specs.Passes.{cell_pass}
+use Rattle.npf_cells_lives.specs.{declared.turn.Turn.Turn, Conns.{Conns, entry_seat}, Deaths.{first_note, slots_named, Deaths, unreclaimed}}
+use Rattle.npf_cells_lives.specs.{Known.{FitsKnown, Known}, Locks.Locks, Notes.{note_word, NobodyAhead, Notes}, Pools.{taken, Pools}, Stored.StoredWords}
+use Rattle.npf_cells_lives.{specs.Turns.{Running, Turns}, proofs.{ConnLemmas.{BuildsIn, builds-kept, unstored-set}, FreedLemmas.{gone_in, freed_stays}}}
+use Rattle.npf_cells_lives.proofs.{KnownLemmas.known_now, LockLemmas.{locks-same, holders-set, locks_alone}, PoolLemmas.{pools-kept, taken-set}}
+use Rattle.npf_cells_lives.proofs.{StoredLemmas.{stored_kept, stored-set}, TurnLemmas.{turns-kept, turns_alone}}
+use Rattle.npf_cells_marks.{specs.Marks.Marks, proofs.{StoringLemmas.marks-stored, ClearingLemmas.bare_place}}
+use Rattle.npf_cells_rule.specs.{declared.view.CellView.CellView, Cells.{FitsAlone, IsCells}, Passes.cell_pass}
 use Rattle.npf_cells_rule.specs.Views.{seat_side, reader_view, lock_side, mark_side, pool_side, trie_side, turn_side, death_side, seen_side}
-use Rattle.npf_cells_rule.proofs.EntryLemmas.{adds_entry, sole_entries}
-use Rattle.npf_cells_rule.proofs.Frames.{alone-set, alone_still, framed, epochs_apart}
-use Rattle.npf_cells_rule.proofs.MarkFrames.{place_changed}
-use Rattle.npf_cells_rule.proofs.MarkMetLemmas.{end_nodeless, end_unmarked}
-use Rattle.npf_cells_holds.specs.PublishKinds.{publishing}
-use Rattle.npf_cells_holds.specs.UnlinkKinds.{emptied_at, MayUnlink, unlinked, HasUnlinked, Unlinks}
+use Rattle.npf_cells_rule.proofs.{EntryLemmas.{adds_entry, sole_entries}, Frames.{alone-set, alone_still, framed, epochs_apart}, MarkFrames.place_changed}
+use Rattle.npf_cells_rule.proofs.{MarkMetLemmas.{end_nodeless, end_unmarked}, NoteLawLemmas.code_above}
+use Rattle.npf_cells_holds.specs.{PublishKinds.publishing, UnlinkKinds.{emptied_at, MayUnlink, unlinked, HasUnlinked, Unlinks}}
 use Rattle.npf_cells_holds.proofs.ForgottenLemmas.{epochs_forgot}
 use Rattle.npf_cells_holds.proofs.PlaceLemmas.{cell_here, cell_else, key_else, inc_else, parent_else, turn_else, lock_else, own_else, note_else}
 use Rattle.npf_cells_holds.proofs.StandingLemmas.{StandsAtEnd, stands_at_end, held_or_none, leaf_within}
 use Rattle.npf_cells_holds.proofs.UnheldLemmas.{still_held, held_before, killer_alone, deaths_unheld, known_unheld, notes_unheld}
 
--- no place has the number 0
-numbered : (p : Place) → 1 ≤ place_code p
-numbered (Places.Root digit) = omega arith
-numbered (Places.Node node digit) = omega arith
-
--- nothing stands in a place of a bare node
-bare_place : (layout : Layout) (words : List ℕ) (p : Place) (node : ℕ) → IsPlaceIn node p → IsInTrie layout p → IsBareNode layout words node → slice_index words (place_at layout p) ≡ 0
-bare_place layout words (Places.Root digit) node within inside bare = absurd within
-bare_place layout words (Places.Node other digit) node within inside bare = ap (λ x. slice_index words (place_at layout (Places.Node x digit))) within ∙ bare digit inside.1
-
 module _ {S A R : Type 0} (m : Meaning S A R) (digest : Key → ℕ) (layout : Layout) where
-  module _ (s : State (Running S) (CellView S A R)) (id : ℕ) (me : Me (Running S) (CellView S A R)) (kept : IsCells m digest layout s) (at : get_elem? s.views id ≡ some me.0) (lives : me.0.seats.lives ≡ true) (settled : me.0.seats.theirs ≡ []) (place : 1 ≤ length me.0.seats.readers)
+  module _ (s : State (Running S) (CellView S A R)) (id : ℕ) (me : Me (Running S) (CellView S A R)) (kept : IsCells m digest layout s)
+      (at : get_elem? s.views id ≡ some me.0) (lives : me.0.seats.lives ≡ true) (settled : me.0.seats.theirs ≡ []) (place : 1 ≤ length me.0.seats.readers)
       (conn : ConnId) (way : Way) (p : Place) (inside : IsInTrie layout p) (may : MayUnlink me.0 p conn way) where
     abbrev k : Machine S
     k = state_of m kept.log
@@ -144,13 +91,14 @@ module _ {S A R : Type 0} (m : Meaning S A R) (digest : Key → ℕ) (layout : L
     -- the note names the place, as it did when it was loaded under the turn
     noted : note_word layout s.words conn.slot way ≡ place_code p
     noted = ap (λ slot. note_word layout s.words slot way) (sym may.there)
-        ∙ kept.notes.said id me.0 may.turn (record { field = note_field way; value = place_code p }) way at may.has may.named (inl (record { id = conn; built = may.killed; there = sym may.there })) refl
+        ∙ kept.notes.said id me.0 may.turn (record { field = note_field way; value = place_code p }) way at may.has may.named
+        (inl (record { id = conn; built = may.killed; there = sym may.there })) refl
 
     -- so a key of that way is held
     held : HoldsSome k conn way
     held = ⊎_elim
         (λ some'. some')
-        (λ none. absurd (let zero' = kept.notes.given id me.0 conn way at may.killed may.held none in let code = noted in let above = numbered p in omega (arith, zero', code, above)))
+        (λ none. absurd (let zero' = kept.notes.given id me.0 conn way at may.killed may.held none in let code = noted in let above = code_above p in omega (arith, zero', code, above)))
         (held_or_none trie_side digest layout kept.published k s.words s.views kept.trie conn way)
 
     end : StandsAtEnd trie_side digest layout kept.published k s.words s.views kept.trie conn way held.0
@@ -158,7 +106,8 @@ module _ {S A R : Type 0} (m : Meaning S A R) (digest : Key → ℕ) (layout : L
 
     -- nobody else has the slot's turn, and the pass is ahead of no note
     other_turns : (j : ℕ) (u : CellView S A R) (theirs : Turn S) → j ≢ id → get_elem? s.views j ≡ some u → u.turn ≡ Some theirs → theirs.slot ≢ conn.slot
-    other_turns j u theirs ne e has same = ne (turns_alone turn_side layout (unreclaimed death_side s.views k) s.words s.homes s.views j id u me.0 theirs may.turn kept.turns e at has may.has (same ∙ sym may.there))
+    other_turns j u theirs ne e has same =
+        ne (turns_alone turn_side layout (unreclaimed death_side s.views k) s.words s.homes s.views j id u me.0 theirs may.turn kept.turns e at has may.has (same ∙ sym may.there))
 
     ahead_of_none : (mine : Turn S) → me.0.turn ≡ Some mine → mine.ahead ≡ None
     ahead_of_none mine has = let both : Some may.turn ≡ Some mine = sym may.has ∙ has in let one : may.turn ≡ mine = cc in ap (λ (x : Turn S). x.ahead) (sym one) ∙ may.settled
@@ -223,22 +172,39 @@ module _ {S A R : Type 0} (m : Meaning S A R) (digest : Key → ℕ) (layout : L
             (epochs_apart m digest layout s word 0 id me.0 me.0 kept at refl (λ j h. below j (omega (arith, h))))
 
     pools_after : Pools layout (taken pool_side kept.published k' views') words'
-    pools_after = pools-kept layout (taken pool_side kept.published k s.views) (taken pool_side kept.published k' views') s.words words' kept.pools (length-set s.words word 0) below (taken-set pool_side kept.published k s.views id me.0 giver at refl refl)
+    pools_after = pools-kept layout (taken pool_side kept.published k s.views) (taken pool_side kept.published k' views') s.words words' kept.pools
+        (length-set s.words word 0) below (taken-set pool_side kept.published k s.views id me.0 giver at refl refl)
 
     -- the pass knows no more of the trie, but that the place is empty
     less : KnowsNoMore me.0.trie (publishing me.0.trie)
-    less = record { stands = λ point e. e; leaf = λ leaf e. e; seen = λ x e. absurd cc; locks = refl; answered = λ i c. c; marks = refl; emptied = λ e is. absurd cc; met_mark = λ y is. is; grown = refl; regained = refl }
+    less = record {
+      stands = λ point e. e;
+      leaf = λ leaf e. e;
+      seen = λ x e. absurd cc;
+      locks = refl;
+      answered = λ i c. c;
+      marks = refl;
+      emptied = λ e is. absurd cc;
+      met_mark = λ y is. is;
+      grown = refl;
+      regained = refl;
+    }
 
     -- each seat fits still: none but this pass had the place's lock
     trie_after : Trie trie_side digest layout kept.published k' words' views'
-    trie_after = trie_emptied trie_side digest layout kept.published k k' s.words words' s.views views' conn way p end.level (digits_of digest held.0) kept.trie takes empties (grown-set trie_side s.views id me.0 giver at refl refl)
+    trie_after = trie_emptied trie_side digest layout kept.published k k' s.words words' s.views views' conn way p end.level
+        (digits_of digest held.0) kept.trie takes empties (grown-set trie_side s.views id me.0 giver at refl refl)
         (others-fit trie_side layout digest k' t' s.views id giver
-        (let was = still me.0.trie (publishing me.0.trie) less (λ x e. absurd cc) (kept.trie.each id me.0 at) in record { stands = was.stands; leaf = was.leaf; seen = λ x e. absurd cc; claimed = was.claimed })
+        (let was = still me.0.trie (publishing me.0.trie) less (λ x e. absurd cc) (kept.trie.each id me.0 at) in
+        record { stands = was.stands; leaf = was.leaf; seen = λ x e. absurd cc; claimed = was.claimed })
         (λ j u ne e. still u.trie u.trie (knows_same u.trie)
-        (λ x seen has same. locks_alone lock_side layout s.words s.views j id u me.0 (lock_of p) kept.locks (place_lock layout p inside) e at (subst (λ q. Contains u.trie.locks (lock_of q)) same has) may.locked ne) (kept.trie.each j u e)))
+        (λ x seen has same. locks_alone lock_side layout s.words s.views j id u me.0 (lock_of p) kept.locks (place_lock layout p inside) e at
+        (subst (λ q. Contains u.trie.locks (lock_of q)) same has) may.locked ne) (kept.trie.each j u e)))
       where
-        still : (side side' : TrieSide) → KnowsNoMore side side' → ((x : SeenCell) → side'.seen ≡ Some x → Contains side.locks (lock_of x.place) → x.place ≢ p) → FitsTrie digest layout.slots k t side → FitsTrie digest layout.slots k' t' side'
-        still side side' less apart was = fits_emptied trie_side digest layout kept.published k k' s.words words' s.views views' conn way p end.level (digits_of digest held.0) kept.trie takes empties side side' less apart was
+        still : (side side' : TrieSide) → KnowsNoMore side side' → ((x : SeenCell) → side'.seen ≡ Some x → Contains side.locks (lock_of x.place) → x.place ≢ p) →
+            FitsTrie digest layout.slots k t side → FitsTrie digest layout.slots k' t' side'
+        still side side' less apart was = fits_emptied trie_side digest layout kept.published k k' s.words words' s.views views' conn way p end.level
+            (digits_of digest held.0) kept.trie takes empties side side' less apart was
 
     connected : Conns pool_side m layout (kept.log ++ entry ∷ []) words' views'
     connected = record {
@@ -247,13 +213,16 @@ module _ {S A R : Type 0} (m : Meaning S A R) (digest : Key → ℕ) (layout : L
       each = subst (λ x. BuildsIn pool_side x views') (sym state) (λ j u e.
           let builds = builds-kept pool_side k s.views id me.0 giver at refl refl kept.connections.each j u e in
           record { building = builds.building; owing = builds.owing; once = builds.once });
-      incs = λ slot h. (λ i. inc_else m digest layout s kept p inside 0 slot i + unstored-set pool_side s.views id me.0 giver at refl slot i) ∙ (kept.connections.incs slot h ∙ ap (λ x. (x.slot slot).inc) (sym state));
+      incs = λ slot h. (λ i. inc_else m digest layout s kept p inside 0 slot i + unstored-set pool_side s.views id me.0 giver at refl slot i)
+          ∙ (kept.connections.incs slot h ∙ ap (λ x. (x.slot slot).inc) (sym state));
     }
 
     stored_stays : StoredWords pool_side layout words' views'
     stored_stays = stored-set pool_side layout words' s.views id giver
-        (stored_kept layout s.words words' me.0.pools giver.pools (kept.stored id me.0 at) refl (λ pool place' field own. own) (own_else m digest layout s kept p inside 0 (digits_of digest held.0) end.level (are_digits digest held.0) on id me.0 at))
-        (λ j u ne e. stored_kept layout s.words words' u.pools u.pools (kept.stored j u e) refl (λ pool place' field own. own) (own_else m digest layout s kept p inside 0 (digits_of digest held.0) end.level (are_digits digest held.0) on j u e))
+        (stored_kept layout s.words words' me.0.pools giver.pools (kept.stored id me.0 at) refl (λ pool place' field own. own)
+        (own_else m digest layout s kept p inside 0 (digits_of digest held.0) end.level (are_digits digest held.0) on id me.0 at))
+        (λ j u ne e. stored_kept layout s.words words' u.pools u.pools (kept.stored j u e) refl (λ pool place' field own. own)
+        (own_else m digest layout s kept p inside 0 (digits_of digest held.0) end.level (are_digits digest held.0) on j u e))
 
     locks_stay : Locks lock_side layout words' views'
     locks_stay = locks-same lock_side layout s.words words' s.views views' kept.locks (lock_else m digest layout s kept p inside 0) (holders-set lock_side layout s.views id me.0 giver at refl)
@@ -277,7 +246,8 @@ module _ {S A R : Type 0} (m : Meaning S A R) (digest : Key → ℕ) (layout : L
     other_kills = killer_alone k conn way dead death_side layout s.words words' s.views id me.0 giver kept.deaths at may.killed exists
 
     deaths_after : Deaths death_side layout k' words' views'
-    deaths_after = deaths_unheld k conn way dead death_side layout s.words words' s.views id me.0 giver kept.deaths at may.killed exists refl refl refl refl refl (λ i rests. rests) refl (below 0 (omega arith)) first_notes
+    deaths_after = deaths_unheld k conn way dead death_side layout s.words words' s.views id me.0 giver kept.deaths at may.killed exists refl refl refl refl refl
+        (λ i rests. rests) refl (below 0 (omega arith)) first_notes
 
     seen : FitsKnown (state_of m me.0.seats.history) k conn
     seen = kept.known id me.0 conn at may.killed
@@ -287,7 +257,8 @@ module _ {S A R : Type 0} (m : Meaning S A R) (digest : Key → ℕ) (layout : L
         (λ i c. subst (λ x. FitsKnown x k' i) (sym state) (known_now k' i (kept.deaths.kills id me.0 i at c).dead))
 
     notes_after : Notes turn_side pool_side layout t'.cell k' words' views'
-    notes_after = notes_unheld k conn way dead turn_side pool_side layout t.cell t'.cell s.words words' s.views id me.0 giver kept.notes at refl refl ahead_of_none other_turns other_kills (note_else m digest layout s kept p inside 0)
+    notes_after = notes_unheld k conn way dead turn_side pool_side layout t.cell t'.cell s.words words' s.views id me.0 giver kept.notes at refl refl ahead_of_none other_turns other_kills
+        (note_else m digest layout s kept p inside 0)
         (λ digits level q slot w on' is. (
           filled_places (filled_back (empties_place empties)) on',
           sym (empties.others q (λ e. let no : Empty ≡ Leaf slot w = sym empties.emptied ∙ (ap t'.cell (sym e) ∙ is) in absurd cc)) ∙ is,
@@ -319,9 +290,11 @@ module _ {S A R : Type 0} (m : Meaning S A R) (digest : Key → ℕ) (layout : L
     hung digits _ _ n are (further level q node on' is) within = subst (Contains kept.published) within (kept.trie.nodes digits level q node are on' is).published_once
 
     -- what the pass knows to be empty then is this place, where it is one of a node
-    knows : (q : Place) → slice_index words' (place_at layout q) ≡ 0 → (e : Emptied) → emptied_at q ≡ Some e → IsPlaceIn e.node q × (e.parent ≡ None) × ((digit : ℕ) → Contains e.digits digit → q ≡ Places.Node e.node digit) × (slice_index words' (place_at layout q) ≡ 0)
+    knows : (q : Place) → slice_index words' (place_at layout q) ≡ 0 → (e : Emptied) → emptied_at q ≡ Some e → IsPlaceIn e.node q × (e.parent ≡ None) ×
+        ((digit : ℕ) → Contains e.digits digit → q ≡ Places.Node e.node digit) × (slice_index words' (place_at layout q) ≡ 0)
     knows (Places.Root digit) none e is = absurd cc
-    knows (Places.Node node digit) none e is = subst (λ (y : Emptied). IsPlaceIn y.node (Places.Node node digit) × (y.parent ≡ None) × ((d : ℕ) → Contains y.digits d → Places.Node node digit ≡ Places.Node y.node d) × (slice_index words' (place_at layout (Places.Node node digit)) ≡ 0))
+    knows (Places.Node node digit) none e is = subst (λ (y : Emptied). IsPlaceIn y.node (Places.Node node digit) × (y.parent ≡ None) ×
+        ((d : ℕ) → Contains y.digits d → Places.Node node digit ≡ Places.Node y.node d) × (slice_index words' (place_at layout (Places.Node node digit)) ≡ 0))
         (let same : (record { node = node; parent = None; digits = digit ∷ [] }) ≡ e = cc in same)
         (refl, refl, (λ d c. ⊎_elim (λ (same : digit ≡ d). ap (Places.Node node) same) (λ (none' : Contains [] d). absurd (none_listed d none')) (cons_cases digit d [] c)), none)
 
@@ -371,7 +344,8 @@ module _ {S A R : Type 0} (m : Meaning S A R) (digest : Key → ℕ) (layout : L
         λ was. subst (λ x. Holds x conn other key) (sym state) (still_held k conn way key (record { id = conn; way = other }) (λ e. ne (ap (λ (f : Found). f.way) e)) (seen.held other key was)),
         λ now. seen.back other key (held_before k conn way key (record { id = conn; way = other }) (subst (λ x. Holds x conn other key) state now)),
       );
-      adds = subst (AddsOwn (cell_pass me.0) (kept.log ++ entry ∷ [])) (ap (λ n. record entry { seat = n } ∷ []) (sym number)) (adds_entry layout.slots kept.log (map seat_side s.views) id me.0 kept.seats there lives place entry refl);
+      adds = subst (AddsOwn (cell_pass me.0) (kept.log ++ entry ∷ [])) (ap (λ n. record entry { seat = n } ∷ []) (sym number))
+          (adds_entry layout.slots kept.log (map seat_side s.views) id me.0 kept.seats there lives place entry refl);
       legal = λ was. record {
         legal = subst (λ slots. Legal m slots (kept.log ++ entry ∷ [])) (sym (fits.sized place)) (Legal-append m layout.slots kept.log entry kept.connections.legal follows);
         stays = λ i c. subst (λ n. IsClaimed (stage_of n i)) (sym state) ((kept.trie.each id me.0 at).claimed i c);
@@ -384,7 +358,8 @@ module _ {S A R : Type 0} (m : Meaning S A R) (digest : Key → ℕ) (layout : L
       is = refl;
     }
 
-  pub may_unlink : (st : Step (Running S)) (id n : ℕ) (conn : ConnId) (way : Way) (p : Place) (me : Me (Running S) (CellView S A R)) → IsInTrie layout p → me.0.seats.lives ≡ true → me.0.seats.theirs ≡ [] → 1 ≤ length me.0.seats.readers →
+  pub may_unlink : (st : Step (Running S)) (id n : ℕ) (conn : ConnId) (way : Way) (p : Place) (me : Me (Running S) (CellView S A R)) →
+      IsInTrie layout p → me.0.seats.lives ≡ true → me.0.seats.theirs ≡ [] → 1 ≤ length me.0.seats.readers →
       MayUnlink me.0 p conn way → Allows (IsCells m digest layout) n id me (place_at layout p) (λ _. 0) (λ _. Unlinks m conn way p st me 0)
   may_unlink st id n conn way p me inside lives settled place may s kept homes at bound = (
     giver s id me kept at lives settled place conn way p inside may,

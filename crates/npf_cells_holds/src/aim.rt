@@ -1,3 +1,4 @@
+// What a pass is after at a place of the trie.
 use npf_core::ConnId;
 use npf_types::{Key, Way};
 

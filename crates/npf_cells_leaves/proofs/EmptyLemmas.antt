@@ -3,27 +3,14 @@ use Rattle.std.specs.List.{Contains}
 use Rattle.std.proofs.Common.{◌≡◌, ◌≢◌, ◌⊎◌, ℕ, Bool, true, false, cond, Option, Some, None, List, refl, sym, ap, ◌∙◌, subst, ⊎_elim, inl, inr}
 use mathlib.Core.Option.{some}
 use lib.ListN.{get_elem?}
-use Rattle.npf_types.specs.declared.key.Key.{Key}
-use Rattle.npf_types.specs.declared.key.Way.{Way}
-use Rattle.npf_core.specs.declared.conn_id.ConnId.{ConnId}
-use Rattle.npf_core.specs.declared.found.Found.{Found}
-use Rattle.npf_core.specs.declared.stage.Stage.TheVariants.{Dead}
-use Rattle.npf_core.specs.Machine.{Machine, stage_of, IsClaimed, is_key}
-use Rattle.npf_core.specs.NextState.{is_found, given_up}
-use Rattle.npf_core.proofs.EqualityLemmas.{is_key-Decides, is_found-Decides}
-use Rattle.npf_paths.specs.declared.cell.Cell.{Cell}
-use Rattle.npf_paths.specs.declared.cell.Cell.TheVariants.{Empty, Leaf, Node, Mark}
-use Rattle.npf_paths.specs.declared.place.Place.{Place}
-use Rattle.npf_paths.specs.FillingLaw.{FillsPlace}
-use Rattle.npf_paths.specs.Paths.{AreDigits, IsOnPath, IsEnd, EndsAt}
-use Rattle.npf_paths.specs.Places.{lock_of}
-use Rattle.npf_paths.proofs.FillingLemmas.{same_or_apart, filled_back, filled_places, filled_ends}
-use Rattle.npf_paths.proofs.LevelLemmas.{filled_levels}
-use Rattle.npf_paths.proofs.PathLemmas.{one_end}
+use Rattle.npf_types.specs.declared.key.{Key.Key, Way.Way}
+use Rattle.npf_core.specs.{declared.{conn_id.ConnId.ConnId, found.Found.Found, stage.Stage.TheVariants.Dead}, Machine.{Machine, stage_of, IsClaimed, is_key}}
+use Rattle.npf_core.{specs.NextState.{is_found, given_up}, proofs.EqualityLemmas.{is_key-Decides, is_found-Decides}}
+use Rattle.npf_paths.specs.{declared.{cell.Cell.{Cell, TheVariants.{Empty, Leaf, Node, Mark}}, place.Place.Place}, FillingLaw.FillsPlace}
+use Rattle.npf_paths.specs.{Paths.{AreDigits, IsOnPath, IsEnd, EndsAt}, Places.lock_of}
+use Rattle.npf_paths.proofs.{FillingLemmas.{same_or_apart, filled_back, filled_places, filled_ends}, LevelLemmas.filled_levels, PathLemmas.one_end}
 use Rattle.npf_cells_words.specs.declared.layout.Layout.{Layout}
-use Rattle.npf_cells_leaves.specs.declared.trie.LoadedLeaf.{LoadedLeaf}
-use Rattle.npf_cells_leaves.specs.declared.trie.SeenCell.{SeenCell}
-use Rattle.npf_cells_leaves.specs.declared.trie.TrieSide.{TrieSide}
+use Rattle.npf_cells_leaves.specs.declared.trie.{LoadedLeaf.LoadedLeaf, SeenCell.SeenCell, TrieSide.TrieSide}
 use Rattle.npf_cells_leaves.specs.Trie.{digits_of, TrieWords, trie_words, leaf_found, holder_at, IsRightLeaf, IsRightNode, StaysLeaf, FitsTrie, IsHung, Trie}
 use Rattle.npf_cells_leaves.proofs.TrieLemmas.{CountsSame, counted_still, KnowsNoMore}
 
@@ -73,7 +60,8 @@ said_by t (Leaf slot w) key found e = by_test (is_key (t.key slot w) key) refl e
 said_by t (Node node) key found e = absurd cc
 said_by t Mark key found e = absurd cc
 
-module _ {S V : Type 0} (side_of : V → TrieSide) (digest : Key → ℕ) (layout : Layout) (published : List ℕ) (k k' : Machine S) (words words' : List ℕ) (views views' : List V) (conn : ConnId) (way : Way) (p : Place) (level : ℕ) (digits : ℕ → ℕ) where
+module _ {S V : Type 0} (side_of : V → TrieSide) (digest : Key → ℕ) (layout : Layout) (published : List ℕ) (k k' : Machine S)
+    (words words' : List ℕ) (views views' : List V) (conn : ConnId) (way : Way) (p : Place) (level : ℕ) (digits : ℕ → ℕ) where
   abbrev t : TrieWords
   t = trie_words layout words
 
@@ -150,7 +138,8 @@ module _ {S V : Type 0} (side_of : V → TrieSide) (digest : Key → ℕ) (layou
         let home = kept.homes ds l q slot w are (before ds l q on) was in
         record {
           exists = right.exists;
-          held = ap k'.holder (takes.keys slot w) ∙ (still_held (t.key slot w) l q ne (record { on_path = home; is_end = subst IsEnd (sym was) tt }) ∙ (right.held ∙ ap (λ (f : Found). Some f) (sym (found_same slot w))));
+          held = ap k'.holder (takes.keys slot w)
+              ∙ (still_held (t.key slot w) l q ne (record { on_path = home; is_end = subst IsEnd (sym was) tt }) ∙ (right.held ∙ ap (λ (f : Found). Some f) (sym (found_same slot w))));
         }
 
     no_node : (q : Place) (node : ℕ) → t'.cell q ≡ Node node → q ≢ p
@@ -171,8 +160,19 @@ module _ {S V : Type 0} (side_of : V → TrieSide) (digest : Key → ℕ) (layou
         record { digits = h.digits; are = h.are; level = h.level; place = h.place; on_path = filled_places changed h.on_path; there = empties.others h.place ne ∙ h.there }
 
     -- the part, where each seat fits
-    pub trie_emptied : CountsSame side_of views views' → ((j : ℕ) (v : V) → get_elem? views' j ≡ some v → FitsTrie digest layout.slots k' t' (side_of v)) → Trie side_of digest layout published k' words' views'
-    trie_emptied sums each = record { ends = ends; leaves = leaves; nodes = nodes; homes = homes; levels = filled_levels changed kept.levels; parents = λ ds l q node are on is. empties.parents node ∙ kept.parents ds l q node are (before ds l q on) (sym (empties.others q (no_node q node is)) ∙ is); hang = hang; counted = counted_still side_of published views views' kept.counted sums; each = each }
+    pub trie_emptied : CountsSame side_of views views' → ((j : ℕ) (v : V) → get_elem? views' j ≡ some v → FitsTrie digest layout.slots k' t' (side_of v)) →
+        Trie side_of digest layout published k' words' views'
+    trie_emptied sums each = record {
+      ends = ends;
+      leaves = leaves;
+      nodes = nodes;
+      homes = homes;
+      levels = filled_levels changed kept.levels;
+      parents = λ ds l q node are on is. empties.parents node ∙ kept.parents ds l q node are (before ds l q on) (sym (empties.others q (no_node q node is)) ∙ is);
+      hang = hang;
+      counted = counted_still side_of published views views' kept.counted sums;
+      each = each;
+    }
 
     -- a leaf that a pass loaded stays: where it is this one, its connection is Dead
     leaf_emptied : (leaf : LoadedLeaf) → StaysLeaf layout.slots k t leaf → StaysLeaf layout.slots k' t' leaf
@@ -191,7 +191,8 @@ module _ {S V : Type 0} (side_of : V → TrieSide) (digest : Key → ℕ) (layou
             inr (ap (λ n. stage_of k' (record { slot = leaf.slot; inc = n })) (sym stays.inc) ∙ (ap (λ (i : ConnId). stage_of k' i) same ∙ takes.loser)))
             (λ (kept' : (given_up (k.holder (t.key leaf.slot leaf.way)) gone ≡ k.holder (t.key leaf.slot leaf.way)) × (k.holder (t.key leaf.slot leaf.way) ≢ Some gone)). inl (record {
               exists = right.exists;
-              held = ap k'.holder (takes.keys leaf.slot leaf.way) ∙ (takes.holder (t.key leaf.slot leaf.way) ∙ (kept'.0 ∙ (right.held ∙ ap (λ (f : Found). Some f) (sym (found_same leaf.slot leaf.way)))));
+              held = ap k'.holder (takes.keys leaf.slot leaf.way)
+                  ∙ (takes.holder (t.key leaf.slot leaf.way) ∙ (kept'.0 ∙ (right.held ∙ ap (λ (f : Found). Some f) (sym (found_same leaf.slot leaf.way)))));
             }))
             (kept_or_lost (k.holder (t.key leaf.slot leaf.way)) gone)
 

@@ -1,22 +1,14 @@
 -- The trie where the leaf of a key's new holder fills the place at which the key's path ends.
-use Rattle.std.proofs.Common.{◌≡◌, ◌≢◌, ℕ, false, None, List, sym, ap, ◌∙◌, subst, ⊎_elim}
-use Rattle.std.specs.List.{Contains}
+use Rattle.std.{proofs.Common.{◌≡◌, ◌≢◌, ℕ, false, None, List, sym, ap, ◌∙◌, subst, ⊎_elim}, specs.List.Contains}
 use mathlib.Core.Option.{some}
 use lib.ListN.{get_elem?}
-use Rattle.npf_types.specs.declared.key.Key.{Key}
-use Rattle.npf_types.specs.declared.key.Way.{Way}
-use Rattle.npf_core.specs.declared.conn_id.ConnId.{ConnId}
-use Rattle.npf_core.specs.Machine.{Machine, is_key}
-use Rattle.npf_paths.specs.declared.cell.Cell.TheVariants.{Empty, Leaf, Node}
-use Rattle.npf_paths.specs.declared.place.Place.{Place}
-use Rattle.npf_paths.specs.FillingLaw.{FillsPlace}
-use Rattle.npf_paths.specs.Paths.{AreDigits, IsOnPath, IsEnd, EndsAt}
-use Rattle.npf_paths.proofs.FillingLemmas.{same_or_apart, filled_back, filled_places, filled_ends}
-use Rattle.npf_paths.proofs.LevelLemmas.{filled_levels}
-use Rattle.npf_paths.proofs.PathLemmas.{one_end}
+use Rattle.npf_types.specs.declared.key.{Key.Key, Way.Way}
+use Rattle.npf_core.specs.{declared.conn_id.ConnId.ConnId, Machine.{Machine, is_key}}
+use Rattle.npf_paths.specs.{declared.{cell.Cell.TheVariants.{Empty, Leaf, Node}, place.Place.Place}, FillingLaw.FillsPlace}
+use Rattle.npf_paths.{specs.Paths.{AreDigits, IsOnPath, IsEnd, EndsAt}, proofs.FillingLemmas.{same_or_apart, filled_back, filled_places, filled_ends}}
+use Rattle.npf_paths.proofs.{LevelLemmas.filled_levels, PathLemmas.one_end}
 use Rattle.npf_cells_words.specs.declared.layout.Layout.{Layout}
-use Rattle.npf_cells_leaves.specs.declared.trie.TrieSide.{TrieSide}
-use Rattle.npf_cells_leaves.specs.Parents.{Parents}
+use Rattle.npf_cells_leaves.specs.{declared.trie.TrieSide.TrieSide, Parents.Parents}
 use Rattle.npf_cells_leaves.specs.Trie.{digits_of, TrieWords, trie_words, holder_at, IsRightLeaf, IsRightNode, FitsTrie, IsHung, Trie}
 use Rattle.npf_cells_leaves.proofs.GivenLemmas.{key_cases, GivesKey, other_holds, right_still, right_now, said_same, said_now, key_now}
 use Rattle.npf_cells_leaves.proofs.TrieLemmas.{are_digits, CountsSame, counted_still}
@@ -32,7 +24,8 @@ pub record FillsFor (digest : Key → ℕ) (t t' : TrieWords) (slot : ℕ) (key 
 pub fills_place : (digest : Key → ℕ) (t t' : TrieWords) (slot : ℕ) (key : Key) (way : Way) (p : Place) (level : ℕ) → FillsFor digest t t' slot key way p level → FillsPlace t.cell t'.cell p
 fills_place digest t t' slot key way p level fills = record { was_end = subst IsEnd (sym fills.empty) tt; ends_now = subst IsEnd (sym fills.filled) tt; others = fills.others }
 
-module _ {S V : Type 0} (side_of : V → TrieSide) (digest : Key → ℕ) (layout : Layout) (published : List ℕ) (k k' : Machine S) (words words' : List ℕ) (views views' : List V) (conn : ConnId) (key : Key) (way : Way) (p : Place) (level : ℕ) where
+module _ {S V : Type 0} (side_of : V → TrieSide) (digest : Key → ℕ) (layout : Layout) (published : List ℕ) (k k' : Machine S)
+    (words words' : List ℕ) (views views' : List V) (conn : ConnId) (key : Key) (way : Way) (p : Place) (level : ℕ) where
   abbrev t : TrieWords
   t = trie_words layout words
 
@@ -82,7 +75,8 @@ module _ {S V : Type 0} (side_of : V → TrieSide) (digest : Key → ℕ) (layou
         (λ (ne : q ≢ p). kept.nodes digits l q node are (before digits l q on) (sym (fills.others q ne) ∙ is))
         (same_or_apart q p)
 
-    homes : (digits : ℕ → ℕ) (l : ℕ) (q : Place) (slot : ℕ) (w : Way) → AreDigits digits → IsOnPath digits t'.cell l q → t'.cell q ≡ Leaf slot w → IsOnPath (digits_of digest (t'.key slot w)) t'.cell l q
+    homes : (digits : ℕ → ℕ) (l : ℕ) (q : Place) (slot : ℕ) (w : Way) → AreDigits digits → IsOnPath digits t'.cell l q →
+        t'.cell q ≡ Leaf slot w → IsOnPath (digits_of digest (t'.key slot w)) t'.cell l q
     homes digits l q slot w are on is = ⊎_elim
         (λ (e : q ≡ p).
         let leaf : Leaf conn.slot way ≡ Leaf slot w = sym fills.filled ∙ (ap t'.cell (sym e) ∙ is) in
@@ -108,5 +102,16 @@ module _ {S V : Type 0} (side_of : V → TrieSide) (digest : Key → ℕ) (layou
         let ne : h.place ≢ p = (λ e. let clash : Empty ≡ Node node = sym fills.empty ∙ (ap t.cell (sym e) ∙ h.there) in cc) in
         record { digits = h.digits; are = h.are; level = h.level; place = h.place; on_path = filled_places changed h.on_path; there = fills.others h.place ne ∙ h.there }
 
-    pub trie_filled : CountsSame side_of views views' → ((j : ℕ) (v : V) → get_elem? views' j ≡ some v → FitsTrie digest layout.slots k' t' (side_of v)) → Trie side_of digest layout published k' words' views'
-    trie_filled sums each = record { ends = ends; leaves = leaves; nodes = nodes; homes = homes; levels = filled_levels changed kept.levels; parents = parents; hang = hang; counted = counted_still side_of published views views' kept.counted sums; each = each }
+    pub trie_filled : CountsSame side_of views views' → ((j : ℕ) (v : V) → get_elem? views' j ≡ some v → FitsTrie digest layout.slots k' t' (side_of v)) →
+        Trie side_of digest layout published k' words' views'
+    trie_filled sums each = record {
+      ends = ends;
+      leaves = leaves;
+      nodes = nodes;
+      homes = homes;
+      levels = filled_levels changed kept.levels;
+      parents = parents;
+      hang = hang;
+      counted = counted_still side_of published views views' kept.counted sums;
+      each = each;
+    }

@@ -5,23 +5,12 @@ use Rattle.std.proofs.Common.{◌≡◌, ◌≢◌, ◌⊎◌, ℕ, ◌<◌, Boo
 use mathlib.Core.Option.{some}
 use lib.ListN.{get_elem?}
 use Rattle.atomic_table.proofs.Lists.{at_set}
-use Rattle.npf_types.specs.declared.key.Key.{Key}
-use Rattle.npf_types.specs.declared.key.Way.{Way}
-use Rattle.npf_core.specs.declared.conn_id.ConnId.{ConnId}
-use Rattle.npf_core.specs.declared.found.Found.{Found}
-use Rattle.npf_core.specs.declared.stage.Stage.TheVariants.{Dead}
-use Rattle.npf_core.specs.Machine.{Machine, stage_of, IsClaimed, is_key}
-use Rattle.npf_core.specs.NextState.{holder_or}
-use Rattle.npf_core.proofs.EqualityLemmas.{is_key-Decides}
-use Rattle.npf_paths.specs.declared.cell.Cell.{Cell}
-use Rattle.npf_paths.specs.declared.cell.Cell.TheVariants.{Empty, Leaf, Node, Mark}
-use Rattle.npf_paths.specs.declared.place.Place.{Place}
-use Rattle.npf_paths.specs.Paths.{AreDigits, IsOnPath}
-use Rattle.npf_paths.specs.Places.{lock_of}
+use Rattle.npf_types.specs.declared.key.{Key.Key, Way.Way}
+use Rattle.npf_core.specs.{declared.{conn_id.ConnId.ConnId, found.Found.Found, stage.Stage.TheVariants.Dead}, Machine.{Machine, stage_of, IsClaimed, is_key}}
+use Rattle.npf_core.{specs.NextState.holder_or, proofs.EqualityLemmas.is_key-Decides}
+use Rattle.npf_paths.specs.{declared.{cell.Cell.{Cell, TheVariants.{Empty, Leaf, Node, Mark}}, place.Place.Place}, Paths.{AreDigits, IsOnPath}, Places.lock_of}
 use Rattle.npf_cells_words.specs.declared.layout.Layout.{Layout}
-use Rattle.npf_cells_leaves.specs.declared.trie.LoadedLeaf.{LoadedLeaf}
-use Rattle.npf_cells_leaves.specs.declared.trie.SeenCell.{SeenCell}
-use Rattle.npf_cells_leaves.specs.declared.trie.TrieSide.{TrieSide}
+use Rattle.npf_cells_leaves.specs.declared.trie.{LoadedLeaf.LoadedLeaf, SeenCell.SeenCell, TrieSide.TrieSide}
 use Rattle.npf_cells_leaves.specs.Trie.{digits_of, TrieWords, leaf_found, holder_at, IsRightLeaf, StaysLeaf, FitsTrie}
 use Rattle.npf_cells_leaves.proofs.TrieLemmas.{KnowsNoMore, are_digits}
 

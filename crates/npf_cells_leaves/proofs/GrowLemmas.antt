@@ -1,48 +1,30 @@
 -- The trie where new nodes give way to the leaf of a key's new holder beside the leaf that stood in their place.
 use Rattle.std.specs.List.{Contains}
-use Rattle.std.proofs.Common.{◌≡◌, ◌≢◌, ℕ, ◌+◌, ◌-◌, ◌*◌, ◌/◌, ◌%◌, ◌^◌, ◌<◌, ◌≤◌, cond, suc, false, Some, None, List, [], ◌∷◌, ◌++◌, length, slice_index, refl, sym, ap, ◌∙◌, subst, ⊎_elim, arith, length-append}
-use Rattle.std.proofs.Math.ListN.{get_or-eq_default}
-use Rattle.std.proofs.lemmas.Bool.{cases_lt}
-use Rattle.std.proofs.lemmas.List.Elements.{Contains-append_cases, Contains-append_left, Contains-append_right}
-use Rattle.std.proofs.lemmas.List.{get_or_default}
+use Rattle.std.proofs.Common.{◌≡◌, ◌≢◌, ℕ, ◌+◌, ◌-◌, ◌*◌, ◌/◌, ◌%◌, ◌^◌, ◌<◌, ◌≤◌, cond, suc, false, Some, None, List, [], ◌∷◌, ◌++◌, length}
+use Rattle.std.proofs.{Common.{slice_index, refl, sym, ap, ◌∙◌, subst, ⊎_elim, arith, length-append}, Math.ListN.get_or-eq_default, lemmas.Bool.cases_lt}
+use Rattle.std.proofs.lemmas.List.{Elements.{Contains-append_cases, Contains-append_left, Contains-append_right}, get_or_default}
 use mathlib.Core.Option.{some}
 use lib.ListN.{get_elem?}
-use Rattle.npf_types.specs.declared.key.Key.{Key}
-use Rattle.npf_types.specs.declared.key.Way.{Way}
-use Rattle.npf_core.specs.declared.conn_id.ConnId.{ConnId}
-use Rattle.npf_core.specs.Machine.{Machine, is_key}
-use Rattle.npf_paths.specs.declared.cell.Cell.{Cell}
-use Rattle.npf_paths.specs.declared.cell.Cell.TheVariants.{Empty, Leaf, Node, Mark}
-use Rattle.npf_paths.specs.declared.place.Place.{Place}
+use Rattle.npf_types.specs.declared.key.{Key.Key, Way.Way}
+use Rattle.npf_core.specs.{declared.conn_id.ConnId.ConnId, Machine.{Machine, is_key}}
+use Rattle.npf_paths.specs.{declared.{cell.Cell.{Cell, TheVariants.{Empty, Leaf, Node, Mark}}, place.Place.Place}, Digits.{half_byte_of, digit_of}}
 use Rattle.npf_paths.specs.declared.place.Place.TheVariants as Places
-use Rattle.npf_paths.specs.Digits.{half_byte_of, digit_of}
-use Rattle.npf_paths.specs.Growing.{IsPlaceOf, IsBranch, GrowsBranch}
-use Rattle.npf_paths.specs.Growing.IsBranch.{parts, goes_on}
-use Rattle.npf_paths.specs.GrowingLaw.{IsPlaceNow, IsEndNow, IsNodeNow, PathsAfterGrowth, LeavesAreHome}
-use Rattle.npf_paths.specs.GrowingLaw.IsEndNow.{end_stays, end_grew}
-use Rattle.npf_paths.specs.GrowingLaw.IsNodeNow.{node_stays, node_grew}
-use Rattle.npf_paths.specs.GrowingLaw.IsPlaceNow.{place_stays, place_is_there, place_grew}
-use Rattle.npf_paths.specs.LevelLaw.{AreApart}
-use Rattle.npf_paths.specs.Paths.{AreDigits, IsOnPath, IsEnd, EndsAt}
-use Rattle.npf_paths.proofs.BranchLemmas.{branch_parts}
-use Rattle.npf_paths.proofs.GrowingLemmas.{growth_told}
-use Rattle.npf_paths.proofs.HomeLemmas.{mine_along, leaves_home}
-use Rattle.npf_paths.proofs.LevelLemmas.{grown_levels}
-use Rattle.npf_paths.proofs.PathLemmas.{one_end}
-use Rattle.npf_cells_words.specs.declared.layout.Layout.{Layout}
-use Rattle.npf_cells_words.specs.Codes.{place_code}
-use Rattle.npf_cells_leaves.specs.Parents.{Parents, NameParents}
-use Rattle.npf_cells_leaves.specs.declared.trie.LoadedLeaf.{LoadedLeaf}
-use Rattle.npf_cells_leaves.specs.declared.trie.TrieSide.{TrieSide}
+use Rattle.npf_paths.specs.Growing.{IsPlaceOf, IsBranch, GrowsBranch, IsBranch.{parts, goes_on}}
+use Rattle.npf_paths.specs.GrowingLaw.{IsPlaceNow, IsEndNow, IsNodeNow, PathsAfterGrowth, LeavesAreHome, IsEndNow.{end_stays, end_grew}}
+use Rattle.npf_paths.specs.{GrowingLaw.{IsNodeNow.{node_stays, node_grew}, IsPlaceNow.{place_stays, place_is_there, place_grew}}, LevelLaw.AreApart}
+use Rattle.npf_paths.{specs.Paths.{AreDigits, IsOnPath, IsEnd, EndsAt}, proofs.{BranchLemmas.branch_parts, GrowingLemmas.growth_told}}
+use Rattle.npf_paths.proofs.{HomeLemmas.{mine_along, leaves_home}, LevelLemmas.grown_levels, PathLemmas.one_end}
+use Rattle.npf_cells_words.specs.{declared.layout.Layout.Layout, Codes.place_code}
+use Rattle.npf_cells_leaves.specs.{Parents.{Parents, NameParents}, declared.trie.{LoadedLeaf.LoadedLeaf, TrieSide.TrieSide}}
 use Rattle.npf_cells_leaves.specs.Trie.{digits_of, TrieWords, trie_words, leaf_found, holder_at, IsRightLeaf, IsRightNode, StaysLeaf, FitsTrie, IsHung, all_grown, all_regained, Trie}
 use Rattle.npf_cells_leaves.proofs.GivenLemmas.{key_cases, keys_apart, GivesKey, other_holds, key_now, right_still, right_now, said_same, said_now}
-use Rattle.npf_cells_leaves.proofs.ParentLemmas.{first_named, node_named}
-use Rattle.npf_cells_leaves.proofs.StandLemmas.{hung_at}
-use Rattle.npf_cells_leaves.proofs.TrieLemmas.{are_digits}
+use Rattle.npf_cells_leaves.proofs.{ParentLemmas.{first_named, node_named}, StandLemmas.hung_at, TrieLemmas.are_digits}
 
 -- a branch is seen by cells that say what stands in its places, unless that is a mark
-pub branch_seen : {mine theirs : ℕ → ℕ} {cell cell' : Place → Cell} {leaf other : Cell} {level first : ℕ} {nodes : List ℕ} → IsBranch mine theirs cell leaf other level first nodes → AreDigits mine → AreDigits theirs → 1 ≤ level → leaf ≢ Mark → other ≢ Mark →
-    ((node digit : ℕ) (c : Cell) → Contains nodes node → digit < 16 → c ≢ Mark → cell (Places.Node node digit) ≡ c → cell' (Places.Node node digit) ≡ c) → IsBranch mine theirs cell' leaf other level first nodes
+pub branch_seen : {mine theirs : ℕ → ℕ} {cell cell' : Place → Cell} {leaf other : Cell} {level first : ℕ} {nodes : List ℕ} →
+    IsBranch mine theirs cell leaf other level first nodes → AreDigits mine → AreDigits theirs → 1 ≤ level → leaf ≢ Mark → other ≢ Mark →
+    ((node digit : ℕ) (c : Cell) → Contains nodes node → digit < 16 → c ≢ Mark → cell (Places.Node node digit) ≡ c → cell' (Places.Node node digit) ≡ c) →
+    IsBranch mine theirs cell' leaf other level first nodes
 branch_seen {mine} {theirs} {leaf = leaf} {other} (parts level node apart mine_is theirs_is empty) small small' deep full full' seen =
     let has : Contains (node ∷ []) node = (0, omega arith, refl) in
     parts level node apart (seen node (mine level) leaf has (small.node level deep) full mine_is) (seen node (theirs level) other has (small'.node level deep) full' theirs_is)
@@ -62,7 +44,8 @@ digit_past hash key level five past =
     let none : slice_index key.0 ((level - 15) / 16) ≡ 0 = get_or-eq_default key.0 0 (omega (arith, five, past)) in
     half ∙ (ap (λ n. n / 2 ^ (4 * (15 - (level - 15) % 16)) % 16) none ∙ nothing_of (2 ^ (4 * (15 - (level - 15) % 16))))
 
-module _ {S V : Type 0} (side_of : V → TrieSide) (digest : Key → ℕ) (layout : Layout) (published : List ℕ) (k k' : Machine S) (words words' : List ℕ) (views views' : List V) (conn : ConnId) (key : Key) (way : Way) (leaf : LoadedLeaf) (p : Place) (level first : ℕ) (nodes : List ℕ) where
+module _ {S V : Type 0} (side_of : V → TrieSide) (digest : Key → ℕ) (layout : Layout) (published : List ℕ) (k k' : Machine S) (words words' : List ℕ)
+    (views views' : List V) (conn : ConnId) (key : Key) (way : Way) (leaf : LoadedLeaf) (p : Place) (level first : ℕ) (nodes : List ℕ) where
   abbrev t : TrieWords
   t = trie_words layout words
 
@@ -78,7 +61,8 @@ module _ {S V : Type 0} (side_of : V → TrieSide) (digest : Key → ℕ) (layou
   abbrev Grows : Type 0
   Grows = GrowsBranch mine theirs t.cell t'.cell (Leaf conn.slot way) (Leaf leaf.slot leaf.way) level p first nodes
 
-  module _ (kept : Trie side_of digest layout published k words views) (gives : GivesKey layout.slots k k' t t' conn key way) (stays : StaysLeaf layout.slots k t leaf) (right_leaf : IsRightLeaf layout.slots k.holder t leaf.slot leaf.way) (other_key : is_key leaf.key key ≡ false) (stood : t.cell p ≡ Leaf leaf.slot leaf.way)
+  module _ (kept : Trie side_of digest layout published k words views) (gives : GivesKey layout.slots k k' t t' conn key way) (stays : StaysLeaf layout.slots k t leaf)
+      (right_leaf : IsRightLeaf layout.slots k.holder t leaf.slot leaf.way) (other_key : is_key leaf.key key ≡ false) (stood : t.cell p ≡ Leaf leaf.slot leaf.way)
       (grows : Grows) (apart : AreApart nodes) (exist : (node : ℕ) → Contains nodes node → node < layout.nodes) (five : length key.0 ≡ 5)
       (elsewhere : (node : ℕ) → t'.parent node ≡ t.parent node) (named : NameParents mine (λ node code. t'.parent node ≡ code) (level + 1) p nodes) where
     small : AreDigits mine
@@ -128,7 +112,8 @@ module _ {S V : Type 0} (side_of : V → TrieSide) (digest : Key → ℕ) (layou
 
     -- who isn't of the leaf that stood there holds nothing
     unheld : (other : Key) → EndsAt (digits_of digest other) t.cell level p → is_key leaf.key other ≡ false → k.holder other ≡ None
-    unheld other end differ = held_there other end ∙ ((λ i. cond (is_key (stays.key i) other) (Some (leaf_found t leaf.slot leaf.way)) None) ∙ ap (λ b. cond b (Some (leaf_found t leaf.slot leaf.way)) None) differ)
+    unheld other end differ =
+        held_there other end ∙ ((λ i. cond (is_key (stays.key i) other) (Some (leaf_found t leaf.slot leaf.way)) None) ∙ ap (λ b. cond b (Some (leaf_found t leaf.slot leaf.way)) None) differ)
 
     ends : (other : Key) (l : ℕ) (q : Place) → EndsAt (digits_of digest other) t'.cell l q → k'.holder other ≡ holder_at t' (t'.cell q) other
     ends other l q end = by_end (told.ends (digits_of digest other) l q (are_digits digest other) end)
@@ -157,7 +142,8 @@ module _ {S V : Type 0} (side_of : V → TrieSide) (digest : Key → ℕ) (layou
             foot
 
     -- a leaf that is met was met before, or is one of the two
-    leaf_end : (digits : ℕ → ℕ) (l : ℕ) (q : Place) (slot : ℕ) (w : Way) → AreDigits digits → IsOnPath digits t'.cell l q → t'.cell q ≡ Leaf slot w → IsEndNow digits t.cell t'.cell (Leaf conn.slot way) (Leaf leaf.slot leaf.way) level p nodes l q
+    leaf_end : (digits : ℕ → ℕ) (l : ℕ) (q : Place) (slot : ℕ) (w : Way) → AreDigits digits → IsOnPath digits t'.cell l q →
+        t'.cell q ≡ Leaf slot w → IsEndNow digits t.cell t'.cell (Leaf conn.slot way) (Leaf leaf.slot leaf.way) level p nodes l q
     leaf_end digits l q slot w are on is = told.ends digits l q are (record { on_path = on; is_end = subst IsEnd (sym is) tt })
 
     leaves : (digits : ℕ → ℕ) (l : ℕ) (q : Place) (slot : ℕ) (w : Way) → AreDigits digits → IsOnPath digits t'.cell l q → t'.cell q ≡ Leaf slot w → IsRightLeaf layout.slots k'.holder t' slot w
@@ -180,10 +166,12 @@ module _ {S V : Type 0} (side_of : V → TrieSide) (digest : Key → ℕ) (layou
             leafy)
             foot
 
-    homes : (digits : ℕ → ℕ) (l : ℕ) (q : Place) (slot : ℕ) (w : Way) → AreDigits digits → IsOnPath digits t'.cell l q → t'.cell q ≡ Leaf slot w → IsOnPath (digits_of digest (t'.key slot w)) t'.cell l q
+    homes : (digits : ℕ → ℕ) (l : ℕ) (q : Place) (slot : ℕ) (w : Way) → AreDigits digits → IsOnPath digits t'.cell l q →
+        t'.cell q ≡ Leaf slot w → IsOnPath (digits_of digest (t'.key slot w)) t'.cell l q
     homes digits l q slot w are on is = by_end (leaf_end digits l q slot w are on is)
       where
-        of_key : (slot' : ℕ) (w' : Way) (x : Key) → t'.cell q ≡ Leaf slot' w' → t'.key slot' w' ≡ x → IsOnPath (digits_of digest x) t'.cell l q → IsOnPath (digits_of digest (t'.key slot w)) t'.cell l q
+        of_key : (slot' : ℕ) (w' : Way) (x : Key) → t'.cell q ≡ Leaf slot' w' → t'.key slot' w' ≡ x →
+            IsOnPath (digits_of digest x) t'.cell l q → IsOnPath (digits_of digest (t'.key slot w)) t'.cell l q
         of_key slot' w' x e key_is on' =
             let leaf_is : Leaf slot' w' ≡ Leaf slot w = sym e ∙ is in
             let slots : slot' ≡ slot = cc in
@@ -228,7 +216,8 @@ module _ {S V : Type 0} (side_of : V → TrieSide) (digest : Key → ℕ) (layou
             let below = grown.below in
             let place_is = grown.is in
             let within : Contains nodes (slice_index nodes (l - (level + 1))) = subst (IsPlaceOf nodes) place_is grown.within in
-            let so = node_named (λ n code. t'.parent n ≡ code) grows.leaf_ends grows.other_ends grows.branch p named (slice_index nodes (l - (level + 1))) (digits l) node within (are.node l (omega (arith, below))) (ap t'.cell (sym place_is) ∙ is) in
+            let so = node_named (λ n code. t'.parent n ≡ code) grows.leaf_ends grows.other_ends grows.branch p named (slice_index nodes (l - (level + 1)))
+            (digits l) node within (are.node l (omega (arith, below))) (ap t'.cell (sym place_is) ∙ is) in
             so ∙ ap place_code (sym place_is)
 
     -- the key's path goes down through each new node, so it stands in the place before that one
@@ -238,7 +227,8 @@ module _ {S V : Type 0} (side_of : V → TrieSide) (digest : Key → ℕ) (layou
         let down = mine_along mine theirs t.cell t'.cell (Leaf conn.slot way) (Leaf leaf.slot leaf.way) level p first nodes grows small (level + 1 + c.0) (omega arith) (omega (arith, short)) in
         let index : level + 1 + c.0 - (level + 1) ≡ c.0 = omega arith in
         let which : slice_index nodes (level + 1 + c.0 - (level + 1)) ≡ node = ap (slice_index nodes) index ∙ (sym (get_or_default nodes c.0 node 0 short) ∙ c.2) in
-        hung_at mine small t'.cell (level + 1 + c.0) (Places.Node (slice_index nodes (level + 1 + c.0 - (level + 1))) (mine (level + 1 + c.0))) node (mine (level + 1 + c.0)) down (ap (λ n. Places.Node n (mine (level + 1 + c.0))) which)
+        hung_at mine small t'.cell (level + 1 + c.0) (Places.Node (slice_index nodes (level + 1 + c.0 - (level + 1))) (mine (level + 1 + c.0))) node
+        (mine (level + 1 + c.0)) down (ap (λ n. Places.Node n (mine (level + 1 + c.0))) which)
 
     hang_old : (node : ℕ) → Contains published node → IsHung t'.cell node
     hang_old node c =
@@ -256,7 +246,8 @@ module _ {S V : Type 0} (side_of : V → TrieSide) (digest : Key → ℕ) (layou
     hang : (node : ℕ) → Contains (nodes ++ published) node → IsHung t'.cell node
     hang node c = ⊎_elim (λ new. hang_new node new) (λ old. hang_old node old) (Contains-append_cases nodes published node c)
 
-    pub trie_grown : all_grown side_of views' ≡ length nodes + all_grown side_of views → all_regained side_of views' ≡ all_regained side_of views → ((j : ℕ) (v : V) → get_elem? views' j ≡ some v → FitsTrie digest layout.slots k' t' (side_of v)) →
+    pub trie_grown : all_grown side_of views' ≡ length nodes + all_grown side_of views → all_regained side_of views' ≡ all_regained side_of views →
+        ((j : ℕ) (v : V) → get_elem? views' j ≡ some v → FitsTrie digest layout.slots k' t' (side_of v)) →
         Trie side_of digest layout (nodes ++ published) k' words' views'
     trie_grown sums back each = record {
       ends = ends;

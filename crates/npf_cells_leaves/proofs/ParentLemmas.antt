@@ -3,25 +3,16 @@ use Rattle.std.specs.List.{Contains}
 use Rattle.std.proofs.Common.{◌≡◌, ◌≢◌, ℕ, ◌+◌, ◌<◌, Bool, true, false, cond, zero, suc, List, [], ◌∷◌, slice_index, refl, sym, ap, ◌∙◌, subst, ⊎_elim, arith}
 use Rattle.std.proofs.lemmas.Bool.{cases_eq}
 use Rattle.npf_types.specs.declared.key.Key.{Key}
-use Rattle.npf_paths.specs.declared.cell.Cell.{Cell}
-use Rattle.npf_paths.specs.declared.cell.Cell.TheVariants.{Empty, Node}
-use Rattle.npf_paths.specs.declared.place.Place.{Place}
+use Rattle.npf_paths.specs.{declared.{cell.Cell.{Cell, TheVariants.{Empty, Node}}, place.Place.Place}, Growing.{IsBranch, IsBranch.{parts, goes_on}}}
 use Rattle.npf_paths.specs.declared.place.Place.TheVariants as Places
-use Rattle.npf_paths.specs.Growing.{IsBranch}
-use Rattle.npf_paths.specs.Growing.IsBranch.{parts, goes_on}
 use Rattle.npf_paths.specs.Paths.{IsEnd}
-use Rattle.npf_cells_words.specs.declared.layout.Layout.{Layout}
-use Rattle.npf_cells_words.specs.Codes.{place_code}
-use Rattle.npf_cells_words.specs.MarkWords.{shown_of}
-use Rattle.npf_cells_words.specs.Places.{IsInTrie, is_in_trie, place_at}
-use Rattle.npf_cells_words.proofs.CodeLemmas.{codes_are_apart}
-use Rattle.npf_cells_words.proofs.WordLemmas.{in_trie}
-use Rattle.npf_cells_leaves.specs.LeavesLaw.{HangsInOnePlace}
-use Rattle.npf_cells_leaves.specs.Parents.{foot_place, NameParents}
-use Rattle.npf_cells_leaves.specs.Trie.{cell_in}
+use Rattle.npf_cells_words.specs.{declared.layout.Layout.Layout, Codes.place_code, MarkWords.shown_of, Places.{IsInTrie, is_in_trie, place_at}}
+use Rattle.npf_cells_words.proofs.{CodeLemmas.codes_are_apart, WordLemmas.in_trie}
+use Rattle.npf_cells_leaves.specs.{LeavesLaw.HangsInOnePlace, Parents.{foot_place, NameParents}, Trie.cell_in}
 
 -- what is said of each of the nodes may be said otherwise
-pub names_so : (digits : ℕ → ℕ) (says says' : ℕ → ℕ → Type 0) (level : ℕ) (p : Place) (nodes : List ℕ) → ((node code : ℕ) → Contains nodes node → says node code → says' node code) → NameParents digits says level p nodes → NameParents digits says' level p nodes
+pub names_so : (digits : ℕ → ℕ) (says says' : ℕ → ℕ → Type 0) (level : ℕ) (p : Place) (nodes : List ℕ) → ((node code : ℕ) → Contains nodes node → says node code → says' node code) →
+    NameParents digits says level p nodes → NameParents digits says' level p nodes
 names_so digits says says' level p [] all named = tt
 names_so digits says says' level p (node ∷ nodes) all named = (
   all node (place_code p) (0, omega arith, refl) named.0,
@@ -39,7 +30,8 @@ module _ {mine theirs : ℕ → ℕ} {cell : Place → Cell} {leaf other : Cell}
   first_named (goes_on level node next tail agree is empty below) p named = named.0
 
   -- and each that stands in a place of another one names that place
-  pub node_named : {level first : ℕ} {nodes : List ℕ} → IsBranch mine theirs cell leaf other level first nodes → (p : Place) → NameParents mine says level p nodes → (node digit next : ℕ) → Contains nodes node → digit < 16 → cell (Places.Node node digit) ≡ Node next →
+  pub node_named : {level first : ℕ} {nodes : List ℕ} → IsBranch mine theirs cell leaf other level first nodes → (p : Place) → NameParents mine says level p nodes →
+      (node digit next : ℕ) → Contains nodes node → digit < 16 → cell (Places.Node node digit) ≡ Node next →
       says next (place_code (Places.Node node digit))
   node_named (parts level node apart mine_is theirs_is empty) p named n digit next (zero, short, is) low stands =
       let there : cell (Places.Node node digit) ≡ Node next = ap (λ x. cell (Places.Node x digit)) is ∙ stands in
@@ -65,8 +57,10 @@ module _ {mine theirs : ℕ → ℕ} {cell : Place → Cell} {leaf other : Cell}
       node_named below (Places.Node node (mine level)) named.1 n digit next (i, omega (arith, short), is) low stands
 
 -- the leaves stand at the foot of the new nodes, where either key's digits lead
-module _ {mine theirs : ℕ → ℕ} {cell : Place → Cell} {leaf other : Cell} (leaf_ends : IsEnd leaf) (other_ends : IsEnd other) (full : leaf ≢ Empty) (other_full : other ≢ Empty) (two : leaf ≢ other) where
-  pub mine_foot : {level first : ℕ} {nodes : List ℕ} → IsBranch mine theirs cell leaf other level first nodes → (p : Place) (node digit : ℕ) → Contains nodes node → digit < 16 → cell (Places.Node node digit) ≡ leaf → Places.Node node digit ≡ foot_place mine level p nodes
+module _ {mine theirs : ℕ → ℕ} {cell : Place → Cell} {leaf other : Cell} (leaf_ends : IsEnd leaf) (other_ends : IsEnd other)
+    (full : leaf ≢ Empty) (other_full : other ≢ Empty) (two : leaf ≢ other) where
+  pub mine_foot : {level first : ℕ} {nodes : List ℕ} → IsBranch mine theirs cell leaf other level first nodes → (p : Place) (node digit : ℕ) →
+      Contains nodes node → digit < 16 → cell (Places.Node node digit) ≡ leaf → Places.Node node digit ≡ foot_place mine level p nodes
   mine_foot (parts level node apart mine_is theirs_is empty) p n digit (zero, short, is) low stands =
       let there : cell (Places.Node node digit) ≡ leaf = ap (λ x. cell (Places.Node x digit)) is ∙ stands in
       ⊎_elim
@@ -86,7 +80,8 @@ module _ {mine theirs : ℕ → ℕ} {cell : Place → Cell} {leaf other : Cell}
   mine_foot (goes_on level node next tail agree mine_is empty below) p n digit (suc i, short, is) low stands =
       mine_foot below (Places.Node node (mine level)) n digit (i, omega (arith, short), is) low stands
 
-  pub theirs_foot : {level first : ℕ} {nodes : List ℕ} → IsBranch mine theirs cell leaf other level first nodes → (p : Place) (node digit : ℕ) → Contains nodes node → digit < 16 → cell (Places.Node node digit) ≡ other → Places.Node node digit ≡ foot_place theirs level p nodes
+  pub theirs_foot : {level first : ℕ} {nodes : List ℕ} → IsBranch mine theirs cell leaf other level first nodes → (p : Place) (node digit : ℕ) →
+      Contains nodes node → digit < 16 → cell (Places.Node node digit) ≡ other → Places.Node node digit ≡ foot_place theirs level p nodes
   theirs_foot (parts level node apart mine_is theirs_is empty) p n digit (zero, short, is) low stands =
       let there : cell (Places.Node node digit) ≡ other = ap (λ x. cell (Places.Node x digit)) is ∙ stands in
       ⊎_elim

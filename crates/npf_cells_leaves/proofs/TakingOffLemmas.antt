@@ -4,33 +4,20 @@ use Rattle.std.proofs.Common.{◌≡◌, ◌≢◌, ℕ, ◌+◌, Bool, true, fa
 use Rattle.std.proofs.lemmas.Bool.{cases_eq}
 use mathlib.Core.Option.{some}
 use lib.ListN.{get_elem?}
-use Rattle.npf_types.specs.declared.key.Key.{Key}
-use Rattle.npf_types.specs.declared.key.Way.{Way}
+use Rattle.npf_types.specs.declared.key.{Key.Key, Way.Way}
 use Rattle.npf_core.specs.Machine.{Machine, is_key}
-use Rattle.npf_paths.specs.declared.cell.Cell.{Cell}
-use Rattle.npf_paths.specs.declared.cell.Cell.TheVariants.{Empty, Leaf, Node, Mark}
-use Rattle.npf_paths.specs.declared.place.Place.{Place}
-use Rattle.npf_paths.specs.Paths.{AreDigits, IsOnPath, EndsAt}
+use Rattle.npf_paths.specs.{declared.{cell.Cell.{Cell, TheVariants.{Empty, Leaf, Node, Mark}}, place.Place.Place}, Paths.{AreDigits, IsOnPath, EndsAt}}
 use Rattle.npf_paths.specs.Places.{lock_of}
-use Rattle.npf_paths_pruning.specs.PruningLaw.{HangsThereAlone, IsPrunedPlace, IsPlaceLeft, IsEndLeft, PathsAfterPruning}
-use Rattle.npf_paths_pruning.specs.PruningLaw.IsEndLeft.{end_left, end_pruned}
-use Rattle.npf_paths_pruning.specs.PruningLaw.IsPlaceLeft.{place_left, place_pruned}
-use Rattle.npf_paths_pruning.proofs.PruningLemmas.{pruning_told, pruned_levels}
-use Rattle.npf_cells_words.specs.declared.layout.Layout.{Layout}
-use Rattle.npf_cells_words.specs.Places.{IsPlaceIn}
-use Rattle.npf_cells_words.proofs.CodeLemmas.{codes_are_apart}
-use Rattle.npf_seats.specs.Sums.{others_than, occurs}
-use Rattle.npf_seats.proofs.ListLemmas.{one_where, occurs-cons, left_same, left_others, occurs_or, stands_once}
-use Rattle.npf_cells_leaves.specs.declared.trie.LoadedLeaf.{LoadedLeaf}
-use Rattle.npf_cells_leaves.specs.declared.trie.TrieSide.{TrieSide}
-use Rattle.npf_cells_leaves.specs.Parents.{Parents}
+use Rattle.npf_paths_pruning.specs.PruningLaw.{HangsThereAlone, IsPrunedPlace, IsPlaceLeft, IsEndLeft, PathsAfterPruning, IsEndLeft.{end_left, end_pruned}}
+use Rattle.npf_paths_pruning.{specs.PruningLaw.IsPlaceLeft.{place_left, place_pruned}, proofs.PruningLemmas.{pruning_told, pruned_levels}}
+use Rattle.npf_cells_words.{specs.{declared.layout.Layout.Layout, Places.IsPlaceIn}, proofs.CodeLemmas.codes_are_apart}
+use Rattle.npf_seats.{specs.Sums.{others_than, occurs}, proofs.ListLemmas.{one_where, occurs-cons, left_same, left_others, occurs_or, stands_once}}
+use Rattle.npf_cells_leaves.specs.{declared.trie.{LoadedLeaf.LoadedLeaf, TrieSide.TrieSide}, Parents.Parents}
 use Rattle.npf_cells_leaves.specs.Trie.{digits_of, TrieWords, trie_words, leaf_found, holder_at, IsRightLeaf, IsRightNode, StaysLeaf, FitsTrie, IsHung, all_grown, all_regained, Trie}
-use Rattle.npf_cells_leaves.specs.TakingOff.{TakesNodeOff, StaysOutside, TakingOffKeepsTrie}
-use Rattle.npf_cells_leaves.proofs.ParentLemmas.{stands_in_trie}
-use Rattle.npf_cells_leaves.proofs.TrieLemmas.{are_digits}
+use Rattle.npf_cells_leaves.{specs.TakingOff.{TakesNodeOff, StaysOutside, TakingOffKeepsTrie}, proofs.{ParentLemmas.stands_in_trie, TrieLemmas.are_digits}}
 
 -- whoever is among the others is among all, and is another
-other_listed : (node : ℕ) (published : List ℕ) (x : ℕ) → Contains (others_than node published) x → Contains published x × (x ≢ node)
+pub other_listed : (node : ℕ) (published : List ℕ) (x : ℕ) → Contains (others_than node published) x → Contains published x × (x ≢ node)
 other_listed node published x c = ⊎_elim
     (λ (same : x ≡ node).
     let none = left_same node published in
@@ -46,7 +33,7 @@ other_listed node published x c = ⊎_elim
     (occurs_or x published))
     (cases_eq x node)
 
-still_listed : (node : ℕ) (published : List ℕ) (x : ℕ) → Contains published x → x ≢ node → Contains (others_than node published) x
+pub still_listed : (node : ℕ) (published : List ℕ) (x : ℕ) → Contains published x → x ≢ node → Contains (others_than node published) x
 still_listed node published x c ne = ⊎_elim
     (λ (none : occurs x (others_than node published) ≡ 0).
     let left = left_others node x published ne in
@@ -60,7 +47,8 @@ others_count : (node : ℕ) (xs : List ℕ) → length (others_than node xs) + o
 others_count node [] = refl
 others_count node (x ∷ xs) = by_test (others_count node xs) (eqb x node) refl
   where
-    by_test : length (others_than node xs) + occurs node xs ≡ length xs → (b : Bool) → eqb x node ≡ b → length (cond (cond b false true) (x ∷ others_than node xs) (others_than node xs)) + occurs node (x ∷ xs) ≡ length (x ∷ xs)
+    by_test : length (others_than node xs) + occurs node xs ≡ length xs → (b : Bool) → eqb x node ≡ b →
+        length (cond (cond b false true) (x ∷ others_than node xs) (others_than node xs)) + occurs node (x ∷ xs) ≡ length (x ∷ xs)
     by_test rest true e = let more = occurs-cons node x xs in let one : one_where (eqb x node) ≡ 1 = ap one_where e in omega (arith, rest, more, one)
     by_test rest false e = let more = occurs-cons node x xs in let none : one_where (eqb x node) ≡ 0 = ap one_where e in omega (arith, rest, more, none)
 
@@ -131,7 +119,8 @@ module _ {S V : Type 0} (side_of : V → TrieSide) (digest : Key → ℕ) (layou
         let ne : n ≢ node = (λ e. full_apart q (Node n) (λ x. cc) is (alone digits l q are old (was ∙ ap (λ x. Node x) e))) in
         record { exists = right.exists; published_once = still_listed node published n right.published_once ne; within = right.within }
 
-    pub homes : (digits : ℕ → ℕ) (l : ℕ) (q : Place) (slot : ℕ) (w : Way) → AreDigits digits → IsOnPath digits t'.cell l q → t'.cell q ≡ Leaf slot w → IsOnPath (digits_of digest (t'.key slot w)) t'.cell l q
+    pub homes : (digits : ℕ → ℕ) (l : ℕ) (q : Place) (slot : ℕ) (w : Way) → AreDigits digits → IsOnPath digits t'.cell l q →
+        t'.cell q ≡ Leaf slot w → IsOnPath (digits_of digest (t'.key slot w)) t'.cell l q
     homes digits l q slot w are on is =
         let was = before q (Leaf slot w) (λ e. cc) is in
         let home = kept.homes digits l q slot w are (told.places digits l q on) was in
@@ -181,7 +170,8 @@ module _ {S V : Type 0} (side_of : V → TrieSide) (digest : Key → ℕ) (layou
 
     -- the part, where each seat was so, and some seat counts the node
     pub trie_taken_off : (views' : List V) → occurs node published ≡ 1 → all_grown side_of views' ≡ all_grown side_of views → all_regained side_of views' ≡ all_regained side_of views + 1 →
-        ((j : ℕ) (v' : V) → get_elem? views' j ≡ some v' → (v : V) × (get_elem? views j ≡ some v) × StaysOutside p node (side_of v) (side_of v')) → Trie side_of digest layout (others_than node published) k words' views'
+        ((j : ℕ) (v' : V) → get_elem? views' j ≡ some v' → (v : V) × (get_elem? views j ≡ some v) × StaysOutside p node (side_of v) (side_of v')) →
+        Trie side_of digest layout (others_than node published) k words' views'
     trie_taken_off views' once grown back out = record {
       ends = ends;
       leaves = leaves;
@@ -196,4 +186,5 @@ module _ {S V : Type 0} (side_of : V → TrieSide) (digest : Key → ℕ) (layou
 
 pub taking_off_keeps_trie : {S : Type 0} (digest : Key → ℕ) (layout : Layout) → TakingOffKeepsTrie S digest layout
 taking_off_keeps_trie digest layout published k words words' sides sides' p node kept off counts out =
-    trie_taken_off (λ x. x) digest layout published k words words' sides p node kept off sides' counts.once counts.grown counts.regained (λ j side' e. (let was = out j side' e in (was.side, was.there, was.stays)))
+    trie_taken_off (λ x. x) digest layout published k words words' sides p node kept off sides' counts.once counts.grown counts.regained
+    (λ j side' e. (let was = out j side' e in (was.side, was.there, was.stays)))

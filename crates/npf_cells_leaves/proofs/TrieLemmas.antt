@@ -5,34 +5,18 @@ use Rattle.std.proofs.lemmas.List.Sums.{sum_by_push}
 use mathlib.Core.Option.{some}
 use lib.ListN.{get_elem?}
 use Rattle.atomic_table.proofs.Lists.{at_set, at_snoc}
-use Rattle.npf_types.specs.declared.key.Key.{Key}
-use Rattle.npf_types.specs.declared.key.Way.{Way}
-use Rattle.npf_core.specs.declared.conn_id.ConnId.{ConnId}
-use Rattle.npf_core.specs.declared.slot.Slot.{Slot}
-use Rattle.npf_core.specs.declared.stage.Stage.TheVariants.{Vacant, Dead}
+use Rattle.npf_types.specs.declared.key.{Key.Key, Way.Way}
+use Rattle.npf_core.specs.declared.{conn_id.ConnId.ConnId, slot.Slot.Slot, stage.Stage.TheVariants.{Vacant, Dead}}
 use Rattle.npf_core.specs.Machine.{Machine, stage_at, stage_of, IsClaimed, is_key}
-use Rattle.npf_paths.specs.declared.cell.Cell.{Cell}
-use Rattle.npf_paths.specs.declared.cell.Cell.TheVariants.{Empty, Leaf, Node, Mark}
-use Rattle.npf_paths.specs.declared.place.Place.{Place}
-use Rattle.npf_paths.specs.PathLaw.{AgreesOnPath}
-use Rattle.npf_paths.specs.Paths.{AreDigits, IsOnPath, IsEnd}
-use Rattle.npf_paths.specs.Places.{lock_of}
-use Rattle.npf_paths.proofs.PathLemmas.{same_places, same_places_back}
-use Rattle.npf_cells_words.specs.declared.layout.Layout.{Layout}
-use Rattle.npf_cells_words.specs.declared.layout.Pool.TheVariants.{Slots, Nodes}
-use Rattle.npf_cells_words.specs.Layout.{root_at, inc_field, parent_field, key_field, field_at}
-use Rattle.npf_cells_words.specs.MarkWords.{shown_of}
-use Rattle.npf_cells_words.specs.Places.{IsInTrie, is_in_trie, place_at}
-use Rattle.npf_cells_words.proofs.WordLemmas.{in_trie, is_there, field_behind, place_behind}
-use Rattle.npf_seats.proofs.PrefixLemmas.{none_listed}
-use Rattle.npf_seats.proofs.SumLemmas.{sum-set}
-use Rattle.npf_cells_words.specs.declared.mark.Emptied.{Emptied}
-use Rattle.npf_cells_words.specs.declared.mark.MetMark.{MetMark}
-use Rattle.npf_cells_leaves.specs.declared.trie.LoadedLeaf.{LoadedLeaf}
-use Rattle.npf_cells_leaves.specs.declared.trie.PathPlace.{PathPlace}
-use Rattle.npf_cells_leaves.specs.declared.trie.SeenCell.{SeenCell}
-use Rattle.npf_cells_leaves.specs.declared.trie.TrieSide.{TrieSide}
-use Rattle.npf_cells_leaves.specs.Trie.{unread_side, forgetting, cell_in, key_word, TrieWords, trie_words, digits_of, leaf_found, holder_at, IsRightLeaf, StaysLeaf, FitsTrie, all_grown, all_regained, Trie}
+use Rattle.npf_paths.specs.{declared.{cell.Cell.{Cell, TheVariants.{Empty, Leaf, Node, Mark}}, place.Place.Place}, PathLaw.AgreesOnPath}
+use Rattle.npf_paths.{specs.{Paths.{AreDigits, IsOnPath, IsEnd}, Places.lock_of}, proofs.PathLemmas.{same_places, same_places_back}}
+use Rattle.npf_cells_words.specs.declared.layout.{Layout.Layout, Pool.TheVariants.{Slots, Nodes}}
+use Rattle.npf_cells_words.specs.{Layout.{root_at, inc_field, parent_field, key_field, field_at}, MarkWords.shown_of, Places.{IsInTrie, is_in_trie, place_at}}
+use Rattle.npf_cells_words.{proofs.WordLemmas.{in_trie, is_there, field_behind, place_behind}, specs.declared.mark.{Emptied.Emptied, MetMark.MetMark}}
+use Rattle.npf_seats.proofs.{PrefixLemmas.none_listed, SumLemmas.sum-set}
+use Rattle.npf_cells_leaves.specs.declared.trie.{LoadedLeaf.LoadedLeaf, PathPlace.PathPlace, SeenCell.SeenCell, TrieSide.TrieSide}
+use Rattle.npf_cells_leaves.specs.Trie.{unread_side, forgetting, cell_in, key_word, TrieWords, trie_words, digits_of, leaf_found, holder_at}
+use Rattle.npf_cells_leaves.specs.Trie.{IsRightLeaf, StaysLeaf, FitsTrie, all_grown, all_regained, Trie}
 
 pub are_digits : (digest : Key → ℕ) (key : Key) → AreDigits (digits_of digest key)
 are_digits digest key = record { root = grind arith; node = λ level h. grind arith }
@@ -51,18 +35,41 @@ pub record KnowsNoMore (side side' : TrieSide) : Type 0 where
   pub regained : side'.regained ≡ side.regained
 
 pub knows_same : (side : TrieSide) → KnowsNoMore side side
-knows_same side = record { stands = λ point e. e; leaf = λ leaf e. e; seen = λ s e. e; locks = refl; answered = λ id c. c; marks = refl; emptied = λ e is. is; met_mark = λ x is. is; grown = refl; regained = refl }
+knows_same side = record {
+  stands = λ point e. e;
+  leaf = λ leaf e. e;
+  seen = λ s e. e;
+  locks = refl;
+  answered = λ id c. c;
+  marks = refl;
+  emptied = λ e is. is;
+  met_mark = λ x is. is;
+  grown = refl;
+  regained = refl;
+}
 
 -- as who ends its stay
 pub knows_less : (side : TrieSide) → KnowsNoMore side (forgetting side)
-knows_less side = record { stands = λ point e. absurd cc; leaf = λ leaf e. absurd cc; seen = λ s e. absurd cc; locks = refl; answered = λ id c. absurd (none_listed id c); marks = refl; emptied = λ e is. absurd cc; met_mark = λ x is. absurd cc; grown = refl; regained = refl }
+knows_less side = record {
+  stands = λ point e. absurd cc;
+  leaf = λ leaf e. absurd cc;
+  seen = λ s e. absurd cc;
+  locks = refl;
+  answered = λ id c. absurd (none_listed id c);
+  marks = refl;
+  emptied = λ e is. absurd cc;
+  met_mark = λ x is. absurd cc;
+  grown = refl;
+  regained = refl;
+}
 
 -- as many nodes as before were published, and got back
 pub record CountsSame {V : Type 0} (side_of : V → TrieSide) (views views' : List V) : Type 0 where
   pub grown : all_grown side_of views' ≡ all_grown side_of views
   pub regained : all_regained side_of views' ≡ all_regained side_of views
 
-pub counted_still : {V : Type 0} (side_of : V → TrieSide) (published : List ℕ) (views views' : List V) → length published + all_regained side_of views ≡ all_grown side_of views → CountsSame side_of views views' → length published + all_regained side_of views' ≡ all_grown side_of views'
+pub counted_still : {V : Type 0} (side_of : V → TrieSide) (published : List ℕ) (views views' : List V) → length published + all_regained side_of views ≡ all_grown side_of views →
+    CountsSame side_of views views' → length published + all_regained side_of views' ≡ all_grown side_of views'
 counted_still side_of published views views' was same = let up = same.grown in let back = same.regained in omega (arith, was, up, back)
 
 -- what the words, the holders and the claims of before and after have in common
@@ -84,7 +91,8 @@ dead_slot x inc e = by_test (eqb x.inc inc) e
     by_test false same = absurd cc
 
 -- the leaf is right, or its slot's connection is Dead
-still_there : {S : Type 0} {slots : ℕ} {k : Machine S} {t : TrieWords} (leaf : LoadedLeaf) → StaysLeaf slots k t leaf → IsRightLeaf slots k.holder t leaf.slot leaf.way ⊎ ((k.slot leaf.slot).stage ≡ Dead)
+still_there : {S : Type 0} {slots : ℕ} {k : Machine S} {t : TrieWords} (leaf : LoadedLeaf) → StaysLeaf slots k t leaf →
+    IsRightLeaf slots k.holder t leaf.slot leaf.way ⊎ ((k.slot leaf.slot).stage ≡ Dead)
 still_there {k = k} leaf stays = ⊎_elim (λ right. inl right) (λ dead. inr (dead_slot (k.slot leaf.slot) leaf.inc dead)) stays.right
 
 module _ {S : Type 0} (digest : Key → ℕ) (slots : ℕ) (k k' : Machine S) (t t' : TrieWords) (same : KeepsTrie slots k k' t t') where
@@ -133,11 +141,13 @@ pub cell_there : (layout : Layout) (words : List ℕ) (p : Place) → IsInTrie l
 cell_there layout words p h = ap (λ b. cond b (shown_of (slice_index words (place_at layout p))) Empty) (is_there layout p h)
 
 -- what stands in a place goes by its word
-pub cell_same : (layout : Layout) (words words' : List ℕ) (p : Place) → slice_index words' (place_at layout p) ≡ slice_index words (place_at layout p) → cell_in layout words' p ≡ cell_in layout words p
+pub cell_same : (layout : Layout) (words words' : List ℕ) (p : Place) →
+    slice_index words' (place_at layout p) ≡ slice_index words (place_at layout p) → cell_in layout words' p ≡ cell_in layout words p
 cell_same layout words words' p same = ap (λ word. cond (is_in_trie layout p) (shown_of word) Empty) same
 
 -- and so it is the same where the place is none, or its word is
-pub cell_kept : (layout : Layout) (words words' : List ℕ) (p : Place) → (IsInTrie layout p → slice_index words' (place_at layout p) ≡ slice_index words (place_at layout p)) → cell_in layout words' p ≡ cell_in layout words p
+pub cell_kept : (layout : Layout) (words words' : List ℕ) (p : Place) → (IsInTrie layout p → slice_index words' (place_at layout p) ≡ slice_index words (place_at layout p)) →
+    cell_in layout words' p ≡ cell_in layout words p
 cell_kept layout words words' p same = by_place (is_in_trie layout p) refl
   where
     by_place : (b : Bool) → is_in_trie layout p ≡ b → cond b (shown_of (slice_index words' (place_at layout p))) Empty ≡ cond b (shown_of (slice_index words (place_at layout p))) Empty
@@ -178,7 +188,8 @@ module _ {S V : Type 0} (side_of : V → TrieSide) (digest : Key → ℕ) (layou
         let was : t.cell p ≡ Leaf slot way = sym (agree level p before) ∙ e in
         let right = kept.leaves digits level p slot way are before was in
         let home = kept.homes digits level p slot way are before was in
-        subst (λ key. IsOnPath (digits_of digest key) t'.cell level p) (sym (same.keys slot way (inl right))) (same_places_back (same.cells (digits_of digest (t.key slot way)) (are_digits digest (t.key slot way))) home);
+        subst (λ key. IsOnPath (digits_of digest key) t'.cell level p) (sym (same.keys slot way (inl right)))
+        (same_places_back (same.cells (digits_of digest (t.key slot way)) (are_digits digest (t.key slot way))) home);
     levels = λ digits digits' l l' q are are' on on'. kept.levels digits digits' l l' q are are' (same_places (same.cells digits are) on) (same_places (same.cells digits' are') on');
     parents = λ digits level p node are on e.
         let agree = same.cells digits are in
@@ -218,7 +229,8 @@ module _ {S V : Type 0} (side_of : V → TrieSide) (digest : Key → ℕ) (slots
 
 -- how many nodes passes published and got back, where one pass changes and does neither, or a new one comes
 module _ {V : Type 0} (side_of : V → TrieSide) where
-  pub grown-set : (views : List V) (i : ℕ) (v w : V) → get_elem? views i ≡ some v → (side_of w).grown ≡ (side_of v).grown → (side_of w).regained ≡ (side_of v).regained → CountsSame side_of views (set views i w)
+  pub grown-set : (views : List V) (i : ℕ) (v w : V) → get_elem? views i ≡ some v → (side_of w).grown ≡ (side_of v).grown →
+      (side_of w).regained ≡ (side_of v).regained → CountsSame side_of views (set views i w)
   grown-set views i v w at same also = record {
     grown = (let more = sum-set (λ (u : V). (side_of u).grown) views i v w at in omega (arith, more, same));
     regained = (let more = sum-set (λ (u : V). (side_of u).regained) views i v w at in omega (arith, more, also));
@@ -235,7 +247,8 @@ module _ {V : Type 0} (side_of : V → TrieSide) where
 
 -- such a step, which adds nothing to what one seat knows
 pub trie_same : {S V : Type 0} (side_of : V → TrieSide) (digest : Key → ℕ) (layout : Layout) (published : List ℕ) (k k' : Machine S) (words words' : List ℕ) (views : List V) (i : ℕ) (v w : V) →
-    Trie side_of digest layout published k words views → get_elem? views i ≡ some v → KnowsNoMore (side_of v) (side_of w) → KeepsTrie layout.slots k k' (trie_words layout words) (trie_words layout words') →
+    Trie side_of digest layout published k words views → get_elem? views i ≡ some v → KnowsNoMore (side_of v) (side_of w) →
+    KeepsTrie layout.slots k k' (trie_words layout words) (trie_words layout words') →
     Trie side_of digest layout published k' words' (set views i w)
 trie_same side_of digest layout published k k' words words' views i v w kept at less same =
     trie_kept side_of digest layout published k k' words words' views (set views i w) kept same (grown-set side_of views i v w at less.grown less.regained)
@@ -245,7 +258,8 @@ trie_same side_of digest layout published k k' words words' views i v w kept at 
 
 -- one seat knows more
 pub trie_moved : {S V : Type 0} (side_of : V → TrieSide) (digest : Key → ℕ) (layout : Layout) (published : List ℕ) (k : Machine S) (words : List ℕ) (views : List V) (i : ℕ) (v w : V) →
-    Trie side_of digest layout published k words views → get_elem? views i ≡ some v → (side_of w).grown ≡ (side_of v).grown → (side_of w).regained ≡ (side_of v).regained → FitsTrie digest layout.slots k (trie_words layout words) (side_of w) → Trie side_of digest layout published k words (set views i w)
+    Trie side_of digest layout published k words views → get_elem? views i ≡ some v → (side_of w).grown ≡ (side_of v).grown → (side_of w).regained ≡ (side_of v).regained →
+    FitsTrie digest layout.slots k (trie_words layout words) (side_of w) → Trie side_of digest layout published k words (set views i w)
 trie_moved side_of digest layout published k words views i v w kept at same also fits = record {
   ends = kept.ends;
   leaves = kept.leaves;
@@ -259,7 +273,8 @@ trie_moved side_of digest layout published k words views i v w kept at same also
 }
 
 -- words behind the pools' that are the same make the same trie
-pub keeps_words : {S : Type 0} (layout : Layout) (k k' : Machine S) (words words' : List ℕ) → ((key : Key) → k'.holder key ≡ k.holder key) → ((id : ConnId) → IsClaimed (stage_of k id) → IsClaimed (stage_of k' id)) → ((id : ConnId) → stage_of k id ≡ Dead → stage_of k' id ≡ Dead) →
+pub keeps_words : {S : Type 0} (layout : Layout) (k k' : Machine S) (words words' : List ℕ) → ((key : Key) → k'.holder key ≡ k.holder key) →
+    ((id : ConnId) → IsClaimed (stage_of k id) → IsClaimed (stage_of k' id)) → ((id : ConnId) → stage_of k id ≡ Dead → stage_of k' id ≡ Dead) →
     ((j : ℕ) → root_at layout ≤ j → slice_index words' j ≡ slice_index words j) → KeepsTrie layout.slots k k' (trie_words layout words) (trie_words layout words')
 keeps_words layout k k' words words' holder claimed dead same = record {
   holder = holder;

@@ -1,3 +1,4 @@
+// What a pass knows of the trie.
 use npf_cells_words::{Emptied, Marked, MetMark};
 use npf_core::ConnId;
 use npf_paths::{Cell, Lock, Place};

@@ -1,28 +1,13 @@
 -- What a pass is building holds no key but those that the pass has seen it take.
-use Rattle.std.specs.List.{filter}
-use Rattle.std.proofs.Common.{◌≡◌, ℕ, Bool, true, false, ◌==◌, List, [], ◌∷◌, cond, refl, sym, ap, ◌∙◌, subst}
-use Rattle.std.proofs.lemmas.Bool.Decides.{Decides-eqb, not_from_Decides}
+use Rattle.std.proofs.{Common.{◌≡◌, ℕ, ◌==◌, List, [], ◌∷◌, sym, ap, ◌∙◌, subst}, lemmas.Bool.Decides.{Decides-eqb, not_from_Decides}}
 use Rattle.npf_types.specs.declared.key.Way.{Way}
-use Rattle.npf_core.specs.declared.conn_id.ConnId.{ConnId}
-use Rattle.npf_core.specs.declared.entry.Entry.{Entry}
-use Rattle.npf_core.specs.declared.stage.Stage.TheVariants.{Building}
-use Rattle.npf_core.specs.History.{LegalFrom, Legal, IsPrefix, after, by, state_from, state_of}
-use Rattle.npf_core.specs.Machine.{IsAlive, Machine, stage_of, HoldsNone}
-use Rattle.npf_core.specs.Meaning.{Meaning}
-use Rattle.npf_core.proofs.KeyLemmas.{stays_holder}
-use Rattle.npf_core.proofs.BuildingLemmas.{holds_none_after}
-use Rattle.npf_core.proofs.HistoryLemmas.{state_from-append, LegalFrom-rest}
+use Rattle.npf_shelf.proofs.ListLemmas.{filter-cons_nil}
+use Rattle.npf_core.specs.declared.{conn_id.ConnId.ConnId, entry.Entry.Entry, stage.Stage.TheVariants.Building}
+use Rattle.npf_core.specs.{History.{LegalFrom, Legal, IsPrefix, after, by, state_from, state_of}, Machine.{IsAlive, Machine, stage_of, HoldsNone}}
+use Rattle.npf_core.{specs.Meaning.Meaning, proofs.{KeyLemmas.stays_holder, BuildingLemmas.holds_none_after, HistoryLemmas.{state_from-append, LegalFrom-rest}}}
 use Rattle.npf_core.proofs.LifeLemmas.{Life, stage_in, stage_of-is, Moves, keeps, claims, starts, steps, abandons, expires, frees as is_freed, entry_moves}
 use Rattle.npf_seats.proofs.PrefixLemmas.{rest_none}
 use Rattle.npf_cells_lives.specs.Conns.{entry_seat}
-
--- where a filter keeps nothing the first item fails its test, and it keeps nothing of the others
-none_first : {X : Type 0} (p : X → Bool) (x : X) (xs : List X) → filter p (x ∷ xs) ≡ [] → (p x ≡ false) × (filter p xs ≡ [])
-none_first p x xs e = at_test (p x) refl e
-  where
-    at_test : (keep : Bool) → p x ≡ keep → cond keep (x ∷ filter p xs) (filter p xs) ≡ [] → (p x ≡ false) × (filter p xs ≡ [])
-    at_test true t e = absurd cc
-    at_test false t e = (t, e)
 
 module _ {S A R : Type 0} (m : Meaning S A R) (slots : ℕ) where
   module _ (entry : Entry S A R) (seat : ℕ) (id : ConnId) (other : ¬ (entry.seat ≡ seat)) where
@@ -40,9 +25,10 @@ module _ {S A R : Type 0} (m : Meaning S A R) (slots : ℕ) where
       stage_of (state_from m k entries) id ≡ Building seat → stage_of k id ≡ Building seat
   built_before k [] seat id legal none e = e
   built_before k (entry ∷ entries) seat id legal none e =
-      let first = none_first (λ (x : Entry S A R). x.seat == seat) entry entries none in
+      let first = filter-cons_nil (λ (x : Entry S A R). x.seat == seat) entry entries none in
       let next = built_before (after m k entry) entries seat id legal.1 first.1 e in
-      rw stage_of-is (was_building entry seat id (not_from_Decides _ (Decides-eqb entry.seat seat) first.0) _ _ (entry_moves m slots k entry id legal.0) (sym (stage_of-is (after m k entry) id) ∙ next))
+      rw stage_of-is (was_building entry seat id (not_from_Decides _ (Decides-eqb entry.seat seat) first.0) _ _
+      (entry_moves m slots k entry id legal.0) (sym (stage_of-is (after m k entry) id) ∙ next))
 
   -- a pass that has seen all of its own entries has seen what its connections hold
   pub bare_in_log : (history log : List (Entry S A R)) (seat : ℕ) (id : ConnId) (way : Way) → Legal m slots log → IsPrefix history log → by seat log ≡ by seat history →
@@ -63,4 +49,5 @@ module _ {S A R : Type 0} (m : Meaning S A R) (slots : ℕ) where
       let others = rest_none entry_seat seat history log seen own in
       let later : stage_of (state_from m (state_of m history) seen.rest) id ≡ Building seat = subst (λ k. stage_of k id ≡ Building seat) whole built in
       let before = built_before (state_of m history) seen.rest seat id after' others later in
-      bare key (ap (λ k. k.holder key) whole ∙ stays_holder m slots (state_of m history) seen.rest key (record { id = id; way = way }) after' holds (subst IsAlive (sym before) tt) (subst IsAlive (sym later) tt))
+      bare key (ap (λ k. k.holder key) whole ∙ stays_holder m slots (state_of m history) seen.rest key
+      (record { id = id; way = way }) after' holds (subst IsAlive (sym before) tt) (subst IsAlive (sym later) tt))

@@ -1,32 +1,17 @@
 -- The part on connections stays through steps that leave its words, and through what passes build and store.
 use Rattle.std.specs.List.{Contains}
 use Rattle.std.proofs.Common.{◌≡◌, ◌≢◌, ℕ, ◌+◌, ◌<◌, ◌≤◌, Bool, true, false, cond, eqb, List, [], ◌∷◌, ◌++◌, set, length, refl, sym, ap, ◌∙◌, subst, ⊎_elim, arith, length-set}
-use Rattle.std.proofs.lemmas.Bool.{cases_eq}
-use Rattle.std.proofs.lemmas.Bool.Decides.{Decides-eqb}
-use Rattle.std.proofs.lemmas.List.{get_or-set_same, get_or-set_other}
-use Rattle.std.proofs.lemmas.List.Elements.{Contains-append_left, Contains-push}
+use Rattle.std.proofs.lemmas.{Bool.{cases_eq, Decides.Decides-eqb}, List.{get_or-set_same, get_or-set_other, Elements.{Contains-append_left, Contains-push}}}
 use Rattle.std.proofs.lemmas.List.Sums.{sum_by_push}
 use mathlib.Core.Option.{some}
 use lib.ListN.{get_elem?}
 use Rattle.atomic_table.proofs.Lists.{at_set, at_snoc}
-use Rattle.npf_core.specs.declared.conn_id.ConnId.{ConnId}
-use Rattle.npf_core.specs.declared.entry.Entry.{Entry}
-use Rattle.npf_core.specs.declared.slot.Slot.{Slot}
-use Rattle.npf_core.specs.declared.stage.Stage.TheVariants.{Vacant, Building}
-use Rattle.npf_core.specs.History.{state_of}
-use Rattle.npf_core.specs.Machine.{Machine, stage_at}
-use Rattle.npf_core.specs.Meaning.{Meaning}
-use Rattle.npf_cells_words.specs.declared.layout.Layout.{Layout}
-use Rattle.npf_cells_words.specs.declared.layout.Pool.TheVariants.{Slots}
-use Rattle.npf_cells_words.specs.Layout.{inc_field, field_at}
-use Rattle.npf_cells_words.proofs.WordLemmas.{inc_apart}
-use Rattle.npf_seats.specs.Sums.{others_than, occurs}
-use Rattle.npf_seats.proofs.ListLemmas.{occurs_or, stands_once, left_same, left_others}
-use Rattle.npf_seats.proofs.PrefixLemmas.{none_listed}
+use Rattle.npf_core.specs.{declared.{conn_id.ConnId.ConnId, entry.Entry.Entry, slot.Slot.Slot, stage.Stage.TheVariants.{Vacant, Building}}, History.state_of}
+use Rattle.npf_core.specs.{Machine.{Machine, stage_at}, Meaning.Meaning}
+use Rattle.npf_cells_words.{specs.{declared.layout.{Layout.Layout, Pool.TheVariants.Slots}, Layout.{inc_field, field_at}}, proofs.WordLemmas.inc_apart}
+use Rattle.npf_seats.{specs.Sums.{others_than, occurs}, proofs.{ListLemmas.{occurs_or, stands_once, left_same, left_others}, PrefixLemmas.none_listed}}
 use Rattle.npf_seats.proofs.SumLemmas.{sum-set, sum_alone}
-use Rattle.npf_cells_lives.specs.declared.pools.PoolSide.{PoolSide}
-use Rattle.npf_cells_lives.specs.LivesLaw.{BuildInOneSlot}
-use Rattle.npf_cells_lives.specs.Conns.{FitsBuilds, inc_word, unstored_by, Conns}
+use Rattle.npf_cells_lives.specs.{declared.pools.PoolSide.PoolSide, LivesLaw.BuildInOneSlot, Conns.{FitsBuilds, inc_word, unstored_by, Conns}}
 
 -- who builds nothing has nothing to store
 pub fits_nothing : {S : Type 0} (k : Machine S) (j : ℕ) → FitsBuilds k j [] []
@@ -75,7 +60,8 @@ module _ {S V : Type 0} (side_of : V → PoolSide) where
 
 -- how many still have to store an incarnation
 module _ {V : Type 0} (side_of : V → PoolSide) where
-  pub unstored-set : (views : List V) (i : ℕ) (v w : V) → get_elem? views i ≡ some v → (side_of w).unstored ≡ (side_of v).unstored → (slot : ℕ) → unstored_by side_of (set views i w) slot ≡ unstored_by side_of views slot
+  pub unstored-set : (views : List V) (i : ℕ) (v w : V) → get_elem? views i ≡ some v → (side_of w).unstored ≡ (side_of v).unstored →
+      (slot : ℕ) → unstored_by side_of (set views i w) slot ≡ unstored_by side_of views slot
   unstored-set views i v w at same slot =
       let more = sum-set (λ (u : V). occurs slot (side_of u).unstored) views i v w at in
       let one = ap (occurs slot) same in
@@ -93,7 +79,8 @@ module _ {S A R V : Type 0} (side_of : V → PoolSide) (m : Meaning S A R) (layo
 
   -- the incarnations' words are the same, and so is what passes build and still have to store
   pub conns-same : (words words' : List ℕ) (views views' : List V) → Conns side_of m layout log words views → length words' ≡ length words →
-      ((slot : ℕ) → slot < layout.slots → inc_word layout words' slot ≡ inc_word layout words slot) → BuildsIn side_of k views' → ((slot : ℕ) → unstored_by side_of views' slot ≡ unstored_by side_of views slot) →
+      ((slot : ℕ) → slot < layout.slots → inc_word layout words' slot ≡ inc_word layout words slot) → BuildsIn side_of k views' →
+      ((slot : ℕ) → unstored_by side_of views' slot ≡ unstored_by side_of views slot) →
       Conns side_of m layout log words' views'
   conns-same words words' views views' kept count same builds unstored = record {
     reach = count ∙ kept.reach;
@@ -102,7 +89,8 @@ module _ {S A R V : Type 0} (side_of : V → PoolSide) (m : Meaning S A R) (layo
     incs = λ slot h. (let now = same slot h in let owed = unstored slot in let was = kept.incs slot h in omega (arith, now, owed, was));
   }
 
-  module _ (words : List ℕ) (views : List V) (j : ℕ) (v : V) (kept : Conns side_of m layout log words views) (at : get_elem? views j ≡ some v) (id : ConnId) (built : Contains (side_of v).builds id) where
+  module _ (words : List ℕ) (views : List V) (j : ℕ) (v : V) (kept : Conns side_of m layout log words views)
+      (at : get_elem? views j ≡ some v) (id : ConnId) (built : Contains (side_of v).builds id) where
     at_id : ((k.slot id.slot).inc ≡ id.inc) × ((k.slot id.slot).stage ≡ Building j)
     at_id = building_at (k.slot id.slot) id.inc j ((kept.each j v at).building id built)
 
@@ -181,14 +169,16 @@ module _ {S A R V : Type 0} (side_of : V → PoolSide) (m : Meaning S A R) (layo
 
           elsewhere : (slot : ℕ) → slot < layout.slots → slot ≢ id.slot → inc_word layout words' slot + unstored_by side_of (set views j w) slot ≡ (k.slot slot).inc
           elsewhere slot h ne =
-              let word = get_or-set_other words (field_at layout Slots id.slot inc_field) (field_at layout Slots slot inc_field) id.inc 0 (λ e. inc_apart layout id.slot inc_field slot (omega arith) (λ same. absurd (ne (sym same))) (sym e)) in
+              let word = get_or-set_other words (field_at layout Slots id.slot inc_field) (field_at layout Slots slot inc_field) id.inc 0
+              (λ e. inc_apart layout id.slot inc_field slot (omega arith) (λ same. absurd (ne (sym same))) (sym e)) in
               let sums = owed slot in
               let left = left_others id.slot slot (side_of v).unstored ne in
               let was = kept.incs slot h in
               omega (arith, word, sums, left, was)
 
 -- two seats that build in one slot are one
-pub builds_apart : {S A R V : Type 0} (side_of : V → PoolSide) (m : Meaning S A R) (layout : Layout) (log : List (Entry S A R)) (words : List ℕ) (views : List V) (i j : ℕ) (v w : V) (id other : ConnId) →
+pub builds_apart : {S A R V : Type 0} (side_of : V → PoolSide) (m : Meaning S A R) (layout : Layout)
+    (log : List (Entry S A R)) (words : List ℕ) (views : List V) (i j : ℕ) (v w : V) (id other : ConnId) →
     Conns side_of m layout log words views → get_elem? views i ≡ some v → get_elem? views j ≡ some w → Contains (side_of v).builds id → Contains (side_of w).builds other → id.slot ≡ other.slot → i ≡ j
 builds_apart side_of m layout log words views i j v w id other kept at there mine theirs same =
     let k = state_of m log in

@@ -1,30 +1,19 @@
 -- The part on deaths stays through steps that spare the dead, and lets a pass kill and let go.
 use Rattle.std.specs.List.{Contains}
 use Rattle.std.proofs.Common.{◌≡◌, ◌≢◌, ◌⊎◌, ℕ, ◌+◌, ◌^◌, ◌<◌, ◌≤◌, Bool, true, false, cond, eqb, eq-eqb, List, [], ◌∷◌, ◌++◌, set, sum_by, refl, sym, ap, ◌∙◌, subst, ⊎_elim, inl, inr, arith}
-use Rattle.std.proofs.lemmas.Bool.{cases_eq}
-use Rattle.std.proofs.lemmas.Bool.Decides.{Decides-eqb}
-use Rattle.std.proofs.lemmas.List.Sums.{sum_by_push}
+use Rattle.std.proofs.lemmas.{Bool.{cases_eq, Decides.Decides-eqb}, List.{Sums.sum_by_push, get_or-map, length-map}}
 use mathlib.Core.Option.{some, some-injective}
 use lib.ListN.{get_elem?}
 use Rattle.atomic_table.proofs.Lists.{at_longer, at_set, at_snoc, set_else}
-use Rattle.npf_types.specs.declared.key.Key.{Key}
-use Rattle.npf_types.specs.declared.key.Way.{Way}
-use Rattle.npf_core.specs.declared.conn_id.ConnId.{ConnId}
-use Rattle.npf_core.specs.declared.slot.Slot.{Slot}
-use Rattle.npf_core.specs.declared.stage.Stage.{Stage}
-use Rattle.npf_core.specs.declared.stage.Stage.TheVariants.{Vacant, Building, Live, Dead}
-use Rattle.npf_core.specs.declared.act.Act.TheVariants.{Free}
-use Rattle.npf_core.specs.declared.entry.Entry.{Entry}
-use Rattle.npf_core.specs.History.{MayFollow, after}
-use Rattle.npf_core.specs.Machine.{Machine, stage_at, stage_of, Holds}
+use Rattle.npf_types.specs.declared.key.{Key.Key, Way.Way}
+use Rattle.npf_core.specs.declared.{conn_id.ConnId.ConnId, slot.Slot.Slot, stage.Stage.{Stage, TheVariants.{Vacant, Building, Live, Dead}}}
+use Rattle.npf_core.specs.{declared.{act.Act.TheVariants.Free, entry.Entry.Entry}, History.{MayFollow, after}, Machine.{Machine, stage_at, stage_of, Holds}}
 use Rattle.npf_core.specs.Meaning.{Meaning}
 use Rattle.npf_core.proofs.LifeLemmas.{Life, stage_in, stage_of-is, Moves, keeps, claims, starts, steps, abandons, expires, frees as is_freed, entry_moves}
-use Rattle.npf_cells_words.specs.declared.layout.Layout.{Layout}
-use Rattle.npf_cells_words.specs.Layout.{epoch_word}
-use Rattle.npf_seats.specs.Sums.{occurs}
-use Rattle.npf_seats.proofs.PrefixLemmas.{none_listed}
-use Rattle.npf_seats.proofs.SumLemmas.{sum-set, set_there}
-use Rattle.npf_cells_lives.specs.Deaths.{DeathSide, Rests, IsProtectedBy, IsKeyless, is_dead, first_note, has_epoch, slots_named, killed_in, reclaimed_in, cleared_in, last_id, IsPast, FitsKill, IsLeft, IsDated, FitsReclaim, Deaths}
+use Rattle.npf_seats.{proofs.{ListLemmas.stands_once, PrefixLemmas.none_listed, SumLemmas.{sum-set, set_there}}, specs.Sums.occurs}
+use Rattle.npf_cells_words.specs.{declared.layout.Layout.Layout, Layout.epoch_word}
+use Rattle.npf_cells_lives.specs.Deaths.{DeathSide, Rests, IsProtectedBy, IsKeyless, is_dead, first_note, has_epoch, slots_named, killed_in, reclaimed_in}
+use Rattle.npf_cells_lives.specs.Deaths.{cleared_in, last_id, IsPast, FitsKill, IsLeft, IsDated, FitsReclaim, Deaths}
 
 -- the number says whether a stage is Dead
 pub dead_stage : {S : Type 0} (stage : Stage S) → 1 ≤ is_dead stage → stage ≡ Dead
@@ -86,7 +75,8 @@ module _ {S : Type 0} (k k' : Machine S) (spares : Spares k k') where
   stays_dead id e = ap (λ (x : Slot S). stage_at x id.inc) (spares.slots id.slot (dead_at (k.slot id.slot) id.inc e).1) ∙ e
 
 -- an entry that frees nobody leaves the dead
-dead_moves : {S A R : Type 0} (m : Meaning S A R) (entry : Entry S A R) (id : ConnId) (x y : Life S) → Moves m entry.seat entry.act entry.reply id x y → ¬ (entry.act ≡ Free id) → stage_in x ≡ Dead → stage_in y ≡ Dead
+dead_moves : {S A R : Type 0} (m : Meaning S A R) (entry : Entry S A R) (id : ConnId) (x y : Life S) →
+    Moves m entry.seat entry.act entry.reply id x y → ¬ (entry.act ≡ Free id) → stage_in x ≡ Dead → stage_in y ≡ Dead
 dead_moves m entry id _ _ (keeps silent) free e = e
 dead_moves m entry id _ _ (claims packet act reply) free e = absurd cc
 dead_moves m entry id _ _ (starts packet init act answer) free e = absurd cc
@@ -95,7 +85,8 @@ dead_moves m entry id _ _ (abandons act answer) free e = refl
 dead_moves m entry id _ _ (expires now flow n act answer due) free e = refl
 dead_moves m entry id _ _ (is_freed act answer) free e = absurd (free act)
 
-pub dead_by : {S A R : Type 0} (m : Meaning S A R) (slots : ℕ) (k : Machine S) (entry : Entry S A R) (id : ConnId) → MayFollow m slots k entry → ¬ (entry.act ≡ Free id) → stage_of k id ≡ Dead → stage_of (after m k entry) id ≡ Dead
+pub dead_by : {S A R : Type 0} (m : Meaning S A R) (slots : ℕ) (k : Machine S) (entry : Entry S A R) (id : ConnId) →
+    MayFollow m slots k entry → ¬ (entry.act ≡ Free id) → stage_of k id ≡ Dead → stage_of (after m k entry) id ≡ Dead
 dead_by m slots k entry id follows free e = rw stage_of-is (dead_moves m entry id _ _ (entry_moves m slots k entry id follows) free (sym (stage_of-is k id) ∙ e))
 
 -- what a step does to what one seat rests on: nothing is new that is Dead and without keys, and its protection stays while it rests on such
@@ -108,7 +99,8 @@ pub record KeepsDates {V : Type 0} (side_of : V → DeathSide) (now : ℕ) (view
   pub still : (epoch : ℕ) → IsDated side_of views epoch → IsDated side_of views' epoch
 
 -- as where it let no connection go with an earlier epoch
-pub later_dates : {V : Type 0} (side_of : V → DeathSide) (now : ℕ) (views : List V) (i : ℕ) (v w : V) → get_elem? views i ≡ some v → (side_of v).dated ≤ (side_of w).dated → (side_of w).dated ≤ now → KeepsDates side_of now views (set views i w) w
+pub later_dates : {V : Type 0} (side_of : V → DeathSide) (now : ℕ) (views : List V) (i : ℕ) (v w : V) → get_elem? views i ≡ some v →
+    (side_of v).dated ≤ (side_of w).dated → (side_of w).dated ≤ now → KeepsDates side_of now views (set views i w) w
 later_dates side_of now views i v w at more within = record {
   within = within;
   still = λ epoch dated. ⊎_elim
@@ -122,11 +114,13 @@ later_dates side_of now views i v w at more within = record {
 
 module _ {S V : Type 0} (side_of : V → DeathSide) (layout : Layout) where
   -- and where it let none go
-  pub same_dates : (k : Machine S) (words words' : List ℕ) (views : List V) (i : ℕ) (v w : V) → Deaths side_of layout k words views → get_elem? views i ≡ some v → epoch_word words ≤ epoch_word words' → (side_of w).dated ≡ (side_of v).dated →
+  pub same_dates : (k : Machine S) (words words' : List ℕ) (views : List V) (i : ℕ) (v w : V) → Deaths side_of layout k words views →
+      get_elem? views i ≡ some v → epoch_word words ≤ epoch_word words' → (side_of w).dated ≡ (side_of v).dated →
       KeepsDates side_of (epoch_word words') views (set views i w) w
   same_dates k words words' views i v w kept at goes same = later_dates side_of (epoch_word words') views i v w at (omega (arith, same)) (let was = kept.dates i v at in omega (arith, was, same, goes))
 
-  module _ (k k' : Machine S) (words words' : List ℕ) (views : List V) (i : ℕ) (v w : V) (kept : Deaths side_of layout k words views) (at : get_elem? views i ≡ some v) (spares : Spares k k') (goes : epoch_word words ≤ epoch_word words') (less : RestsNoMore k (side_of v) (side_of w)) where
+  module _ (k k' : Machine S) (words words' : List ℕ) (views : List V) (i : ℕ) (v w : V) (kept : Deaths side_of layout k words views)
+      (at : get_elem? views i ≡ some v) (spares : Spares k k') (goes : epoch_word words ≤ epoch_word words') (less : RestsNoMore k (side_of v) (side_of w)) where
     abbrev pub views' : List V
     views' = set views i w
 
@@ -175,11 +169,13 @@ module _ {S V : Type 0} (side_of : V → DeathSide) (layout : Layout) where
     }
 
     -- the part after such a step, where it is still counted, the seat's kills and what it reclaimed fit, and an epoch in a note was there before or is left now
-    pub deaths-changed : ((slot : ℕ) → slot < layout.slots → killed_in side_of views' slot + has_epoch (first_note layout words' slot) + cleared_in side_of views' slot ≡ is_dead (k'.slot slot).stage) →
+    pub deaths-changed : ((slot : ℕ) → slot < layout.slots →
+        killed_in side_of views' slot + has_epoch (first_note layout words' slot) + cleared_in side_of views' slot ≡ is_dead (k'.slot slot).stage) →
         ((slot : ℕ) → slot < layout.slots → reclaimed_in side_of views' slot ≤ has_epoch (first_note layout words' slot)) →
         ((id : ConnId) → Contains (side_of w).kills id → FitsKill side_of k' (epoch_word words') views' (side_of w).loaded id) →
         ((id : ConnId) → Contains (side_of w).reclaims id ⊎ Contains (side_of w).cleared id → FitsReclaim side_of k' views' id) →
-        ((slot epoch : ℕ) → slot < layout.slots → first_note layout words' slot ≡ 2 ^ 63 + epoch → (first_note layout words slot ≡ 2 ^ 63 + epoch) ⊎ (IsLeft side_of k' (epoch_word words') views' slot epoch × IsDated side_of views' epoch)) →
+        ((slot epoch : ℕ) → slot < layout.slots → first_note layout words' slot ≡ 2 ^ 63 + epoch →
+        (first_note layout words slot ≡ 2 ^ 63 + epoch) ⊎ (IsLeft side_of k' (epoch_word words') views' slot epoch × IsDated side_of views' epoch)) →
         KeepsDates side_of (epoch_word words') views views' w → Deaths side_of layout k' words' views'
     deaths-changed counted reclaimed mine own left dates = record {
       counted = counted;
@@ -202,7 +198,8 @@ module _ {S V : Type 0} (side_of : V → DeathSide) (layout : Layout) where
     }
 
     -- as many are counted as reclaimed, and as cleared, where the seat has the same
-    same_sum : (of : DeathSide → List ConnId) → of (side_of w) ≡ of (side_of v) → (slot : ℕ) → sum_by (λ (u : V). occurs slot (slots_named (of (side_of u)))) views' ≡ sum_by (λ (u : V). occurs slot (slots_named (of (side_of u)))) views
+    same_sum : (of : DeathSide → List ConnId) → of (side_of w) ≡ of (side_of v) → (slot : ℕ) →
+        sum_by (λ (u : V). occurs slot (slots_named (of (side_of u)))) views' ≡ sum_by (λ (u : V). occurs slot (slots_named (of (side_of u)))) views
     same_sum of same slot =
         let more = sum-set (λ (u : V). occurs slot (slots_named (of (side_of u)))) views i v w at in
         let one = ap (λ ids. occurs slot (slots_named ids)) same in
@@ -227,8 +224,10 @@ module _ {S V : Type 0} (side_of : V → DeathSide) (layout : Layout) where
         dates
 
     -- a step that leaves what seats killed and reclaimed, the first notes, and who is Dead
-    pub deaths-same : (side_of w).kills ≡ (side_of v).kills → (side_of w).reclaims ≡ (side_of v).reclaims → (side_of w).cleared ≡ (side_of v).cleared → KeepsDates side_of (epoch_word words') views views' w → ((id : ConnId) → Contains (side_of w).kills id → (side_of w).loaded ≡ (side_of v).loaded) →
-        ((slot : ℕ) → slot < layout.slots → first_note layout words' slot ≡ first_note layout words slot) → ((slot : ℕ) → slot < layout.slots → is_dead (k'.slot slot).stage ≡ is_dead (k.slot slot).stage) → Deaths side_of layout k' words' views'
+    pub deaths-same : (side_of w).kills ≡ (side_of v).kills → (side_of w).reclaims ≡ (side_of v).reclaims → (side_of w).cleared ≡ (side_of v).cleared →
+        KeepsDates side_of (epoch_word words') views views' w → ((id : ConnId) → Contains (side_of w).kills id → (side_of w).loaded ≡ (side_of v).loaded) →
+        ((slot : ℕ) → slot < layout.slots → first_note layout words' slot ≡ first_note layout words slot) →
+        ((slot : ℕ) → slot < layout.slots → is_dead (k'.slot slot).stage ≡ is_dead (k.slot slot).stage) → Deaths side_of layout k' words' views'
     deaths-same kills reclaims cleared dates loaded notes dead = deaths-set reclaims cleared
         (λ slot h. (let more = same_sum (λ side. side.kills) kills slot in
         let note = ap has_epoch (notes slot h) in
@@ -241,7 +240,8 @@ module _ {S V : Type 0} (side_of : V → DeathSide) (layout : Layout) where
         dates
 
   -- a slot whose connection was reclaimed is Dead, and one that isn't is nobody's
-  pub gone_dead : (k : Machine S) (words : List ℕ) (views : List V) (slot : ℕ) → Deaths side_of layout k words views → slot < layout.slots → 1 ≤ reclaimed_in side_of views slot + cleared_in side_of views slot → is_dead (k.slot slot).stage ≡ 1
+  pub gone_dead : (k : Machine S) (words : List ℕ) (views : List V) (slot : ℕ) → Deaths side_of layout k words views → slot < layout.slots →
+      1 ≤ reclaimed_in side_of views slot + cleared_in side_of views slot → is_dead (k.slot slot).stage ≡ 1
   gone_dead k words views slot kept within some' =
       let all = kept.counted slot within in
       let part = kept.reclaimed slot within in
@@ -249,7 +249,8 @@ module _ {S V : Type 0} (side_of : V → DeathSide) (layout : Layout) where
       omega (arith, all, part, one, some')
 
   -- a view comes that killed nothing and rests on nothing
-  pub deaths-push : (k : Machine S) (words : List ℕ) (views : List V) (w : V) → Deaths side_of layout k words views → (side_of w).kills ≡ [] → (side_of w).reclaims ≡ [] → (side_of w).cleared ≡ [] → (side_of w).dated ≡ 0 → ((id : ConnId) → ¬ (Rests (side_of w) id)) → Deaths side_of layout k words (views ++ w ∷ [])
+  pub deaths-push : (k : Machine S) (words : List ℕ) (views : List V) (w : V) → Deaths side_of layout k words views → (side_of w).kills ≡ [] →
+      (side_of w).reclaims ≡ [] → (side_of w).cleared ≡ [] → (side_of w).dated ≡ 0 → ((id : ConnId) → ¬ (Rests (side_of w) id)) → Deaths side_of layout k words (views ++ w ∷ [])
   deaths-push k words views w kept none bare clear undated free = record {
     counted = λ slot h.
         let more = no_more (λ side. side.kills) none slot in
@@ -278,14 +279,16 @@ module _ {S V : Type 0} (side_of : V → DeathSide) (layout : Layout) where
         (λ (x : w ≡ u). absurd (none_listed id (subst (λ ids. Contains ids id) none (subst (λ (y : V). Contains (side_of y).kills id) (sym x) c))))
         (at_snoc views w u j e);
     left = λ slot epoch h note. (let was = kept.left slot epoch h note in record { keyless = was.keyless; past = pushed (last_id k slot) epoch was.past });
-    dated = λ slot epoch h note. (let was = kept.dated slot epoch h note in record { seat = was.seat; view = was.view; there = at_longer views (w ∷ []) was.seat was.view was.there; since = was.since });
+    dated = λ slot epoch h note. (let was = kept.dated slot epoch h note in
+        record { seat = was.seat; view = was.view; there = at_longer views (w ∷ []) was.seat was.view was.there; since = was.since });
     dates = λ j u e. ⊎_elim
         (λ (there : get_elem? views j ≡ some u). kept.dates j u there)
         (λ (x : w ≡ u). (let none' = ap (λ (y : V). (side_of y).dated) (sym x) ∙ undated in omega (arith, none')))
         (at_snoc views w u j e);
   }
     where
-      no_more : (of : DeathSide → List ConnId) → of (side_of w) ≡ [] → (slot : ℕ) → sum_by (λ (u : V). occurs slot (slots_named (of (side_of u)))) (views ++ w ∷ []) ≡ sum_by (λ (u : V). occurs slot (slots_named (of (side_of u)))) views
+      no_more : (of : DeathSide → List ConnId) → of (side_of w) ≡ [] → (slot : ℕ) →
+          sum_by (λ (u : V). occurs slot (slots_named (of (side_of u)))) (views ++ w ∷ []) ≡ sum_by (λ (u : V). occurs slot (slots_named (of (side_of u)))) views
       no_more of nothing slot =
           let more = sum_by_push (λ (u : V). occurs slot (slots_named (of (side_of u)))) views w in
           let no : occurs slot (slots_named (of (side_of w))) ≡ 0 = ap (λ ids. occurs slot (slots_named ids)) nothing in
@@ -299,3 +302,10 @@ module _ {S V : Type 0} (side_of : V → DeathSide) (layout : Layout) where
             (λ (x : w ≡ u). absurd (free id (subst (λ (y : V). Rests (side_of y) id) (sym x) rests)))
             (at_snoc views w u j e);
       }
+
+-- the slot of a connection in a list is named
+pub slot_named : (id : ConnId) (ids : List ConnId) → Contains ids id → 1 ≤ occurs id.slot (slots_named ids)
+slot_named id ids c =
+    let long = length-map ids (λ (i : ConnId). i.slot) in
+    let short = c.1 in
+    stands_once id.slot (slots_named ids) (c.0, omega (arith, long, short), get_or-map (λ (i : ConnId). i.slot) ids c.0 id id.slot short ∙ ap (λ (i : ConnId). i.slot) c.2)

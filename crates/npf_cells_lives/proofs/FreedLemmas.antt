@@ -1,12 +1,7 @@
 -- The connections as turns see them: one that was reclaimed is as good as freed.
-use Rattle.std.proofs.Common.{◌≡◌, ◌≢◌, ◌⊎◌, ℕ, ◌+◌, cond, eq-eqb, ne_eqb, List, sym, ap, ◌∙◌, subst, ⊎_elim, inl, inr}
-use Rattle.std.proofs.lemmas.Bool.{cases_eq}
-use Rattle.npf_core.specs.declared.slot.Slot.{Slot}
-use Rattle.npf_core.specs.declared.stage.Stage.{Stage}
-use Rattle.npf_core.specs.declared.stage.Stage.TheVariants.{Vacant, Building, Live, Dead}
-use Rattle.npf_core.specs.Machine.{Machine, IsLive}
-use Rattle.npf_cells_lives.specs.Deaths.{DeathSide, reclaimed_in, cleared_in, freed_slot, slot_by, unreclaimed}
-use Rattle.npf_cells_lives.specs.Turns.{stage_phase, StaysAt}
+use Rattle.std.proofs.{Common.{◌≡◌, ◌≢◌, ◌⊎◌, ℕ, ◌+◌, cond, eq-eqb, ne_eqb, List, sym, ap, ◌∙◌, subst, ⊎_elim, inl, inr}, lemmas.Bool.cases_eq}
+use Rattle.npf_core.specs.{declared.{slot.Slot.Slot, stage.Stage.{Stage, TheVariants.{Vacant, Building, Live, Dead}}}, Machine.{Machine, IsLive}}
+use Rattle.npf_cells_lives.specs.{Deaths.{DeathSide, reclaimed_in, cleared_in, freed_slot, slot_by, unreclaimed}, Turns.{stage_phase, StaysAt}}
 
 -- how often a slot stands among those whose connections passes reclaimed
 abbrev pub gone_in : {V : Type 0} → (V → DeathSide) → List V → ℕ → ℕ
@@ -31,11 +26,15 @@ module _ {S V : Type 0} (side_of : V → DeathSide) (views : List V) where
       StaysAt ((unreclaimed side_of views k).slot slot) ((unreclaimed side_of views' k').slot slot)
   freed_stays views' k k' slot same stays = subst (λ n. StaysAt (slot_by (gone_in side_of views slot) (k.slot slot)) (slot_by n (k'.slot slot))) (sym same) (⊎_elim
       (λ (none : gone_in side_of views slot ≡ 0). subst (λ n. StaysAt (slot_by n (k.slot slot)) (slot_by n (k'.slot slot))) (sym none) stays)
-      (λ (some' : gone_in side_of views slot ≢ 0). inr (ap (λ (x : Slot S). stage_phase x.stage) (by_some (gone_in side_of views slot) (k.slot slot) some'), ap (λ (x : Slot S). stage_phase x.stage) (by_some (gone_in side_of views slot) (k'.slot slot) some')))
+      (λ (some' : gone_in side_of views slot ≢ 0). inr (
+        ap (λ (x : Slot S). stage_phase x.stage) (by_some (gone_in side_of views slot) (k.slot slot) some'),
+        ap (λ (x : Slot S). stage_phase x.stage) (by_some (gone_in side_of views slot) (k'.slot slot) some'),
+      ))
       (cases_eq (gone_in side_of views slot) 0))
 
   -- a slot that was Live, or Dead and nobody's or its killer's, when a pass got the turn is still at that
-  pub still_there : (k : Machine S) (slot : ℕ) (was : Slot S) → StaysAt was ((unreclaimed side_of views k).slot slot) → stage_phase was.stage ≢ 0 → (k.slot slot ≡ was) × (gone_in side_of views slot ≡ 0)
+  pub still_there : (k : Machine S) (slot : ℕ) (was : Slot S) → StaysAt was ((unreclaimed side_of views k).slot slot) →
+      stage_phase was.stage ≢ 0 → (k.slot slot ≡ was) × (gone_in side_of views slot ≡ 0)
   still_there k slot was stays some' = ⊎_elim
       (λ (none : gone_in side_of views slot ≡ 0). (sym (by_none (gone_in side_of views slot) (k.slot slot) none) ∙ same, none))
       (λ (gone : gone_in side_of views slot ≢ 0). absurd (some' (ap (λ (x : Slot S). stage_phase x.stage) (sym same ∙ by_some (gone_in side_of views slot) (k.slot slot) gone))))

@@ -1,25 +1,20 @@
 -- The part on what killers know stays through steps that spare the dead.
-use Rattle.std.specs.List.{Contains}
-use Rattle.std.proofs.Common.{◌≡◌, ◌≢◌, ℕ, List, [], ◌∷◌, ◌++◌, set, sym, ap, ◌∙◌, subst, ⊎_elim}
+use Rattle.std.{specs.List.Contains, proofs.Common.{◌≡◌, ◌≢◌, ℕ, List, [], ◌∷◌, ◌++◌, set, sym, ap, ◌∙◌, subst, ⊎_elim}}
 use mathlib.Core.Option.{some}
 use lib.ListN.{get_elem?}
 use Rattle.atomic_table.proofs.Lists.{at_set, at_snoc}
-use Rattle.npf_types.specs.declared.key.Key.{Key}
-use Rattle.npf_types.specs.declared.key.Way.{Way}
-use Rattle.npf_core.specs.declared.conn_id.ConnId.{ConnId}
-use Rattle.npf_core.specs.declared.stage.Stage.TheVariants.{Dead}
-use Rattle.npf_core.specs.Machine.{Machine, stage_of, Holds}
+use Rattle.npf_types.specs.declared.key.{Key.Key, Way.Way}
+use Rattle.npf_core.specs.{declared.{conn_id.ConnId.ConnId, stage.Stage.TheVariants.Dead}, Machine.{Machine, stage_of, Holds}}
 use Rattle.npf_seats.proofs.PrefixLemmas.{none_listed}
-use Rattle.npf_cells_lives.specs.declared.pools.PoolSide.{PoolSide}
-use Rattle.npf_cells_lives.specs.Known.{FitsKnown, Known}
-use Rattle.npf_cells_lives.proofs.DeathLemmas.{Spares}
+use Rattle.npf_cells_lives.{specs.{declared.pools.PoolSide.PoolSide, Known.{FitsKnown, Known}}, proofs.DeathLemmas.Spares}
 
 -- who has seen all knows what is
 pub known_now : {S : Type 0} (k : Machine S) (id : ConnId) → stage_of k id ≡ Dead → FitsKnown k k id
 known_now k id dead = record { dead = dead; held = λ way key h. h; back = λ way key h. h }
 
 -- what was known of a dead connection is so, where its keys are the same
-pub known_on : {S : Type 0} (seen k k' : Machine S) (id : ConnId) → ((way : Way) (key : Key) → Holds k id way key → Holds k' id way key) → ((way : Way) (key : Key) → Holds k' id way key → Holds k id way key) → FitsKnown seen k id → FitsKnown seen k' id
+pub known_on : {S : Type 0} (seen k k' : Machine S) (id : ConnId) → ((way : Way) (key : Key) → Holds k id way key → Holds k' id way key) →
+    ((way : Way) (key : Key) → Holds k' id way key → Holds k id way key) → FitsKnown seen k id → FitsKnown seen k' id
 known_on seen k k' id held back fits = record {
   dead = fits.dead;
   held = λ way key h. held way key (fits.held way key h);
@@ -38,7 +33,8 @@ module _ {S V : Type 0} (seen_of : V → Machine S) (side_of : V → PoolSide) w
       (at_set views i j w u e)
 
   -- the same, where the dead are spared
-  pub known-spared : (k k' : Machine S) (views : List V) (i : ℕ) (w : V) → Known seen_of side_of k views → Spares k k' → ((j : ℕ) (u : V) (id : ConnId) → get_elem? views j ≡ some u → Contains (side_of u).kills id → stage_of k id ≡ Dead) →
+  pub known-spared : (k k' : Machine S) (views : List V) (i : ℕ) (w : V) → Known seen_of side_of k views → Spares k k' →
+      ((j : ℕ) (u : V) (id : ConnId) → get_elem? views j ≡ some u → Contains (side_of u).kills id → stage_of k id ≡ Dead) →
       ((id : ConnId) → Contains (side_of w).kills id → FitsKnown (seen_of w) k' id) → Known seen_of side_of k' (set views i w)
   known-spared k k' views i w kept spares dead mine = known-set k k' views i w kept (λ j u id ne e c. spares.held id (dead j u id e c)) (λ j u id ne e c. spares.back id (dead j u id e c)) mine
 

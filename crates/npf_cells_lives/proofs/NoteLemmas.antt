@@ -3,41 +3,25 @@ use Rattle.std.specs.List.{Contains}
 use Rattle.std.proofs.Common.{◌≡◌, ◌≢◌, ℕ, true, false, not, ◌&&◌, eq-eqb, Option, Some, None, List, [], ◌∷◌, ◌++◌, set, refl, sym, ap, ◌∙◌, subst, ⊎_elim, inl, inr}
 use mathlib.Core.Option.{some, some-injective}
 use lib.ListN.{get_elem?}
-use Rattle.std.proofs.lemmas.Bool.{cases_eq}
-use Rattle.std.proofs.lemmas.List.Elements.{Contains-append_left, Contains-push}
+use Rattle.std.proofs.lemmas.{Bool.cases_eq, List.Elements.{Contains-append_left, Contains-push}}
 use Rattle.atomic_table.proofs.Lists.{at_longer, at_set, at_snoc, set_else}
-use Rattle.npf_seats.proofs.SumLemmas.{set_there}
-use Rattle.npf_types.specs.declared.key.Key.{Key}
-use Rattle.npf_types.specs.declared.key.Way.{Way}
-use Rattle.npf_core.specs.declared.conn_id.ConnId.{ConnId}
-use Rattle.npf_core.specs.declared.found.Found.{Found}
-use Rattle.npf_core.specs.declared.slot.Slot.{Slot}
-use Rattle.npf_core.specs.declared.stage.Stage.TheVariants.{Dead}
-use Rattle.npf_core.specs.Machine.{Machine, HoldsNone}
-use Rattle.npf_paths.specs.declared.cell.Cell.{Cell}
-use Rattle.npf_paths.specs.declared.place.Place.{Place}
-use Rattle.npf_paths.specs.PathLaw.{AgreesOnPath}
-use Rattle.npf_paths.specs.Paths.{AreDigits}
-use Rattle.npf_paths.proofs.PathLemmas.{same_places}
-use Rattle.npf_cells_words.specs.declared.layout.Layout.{Layout}
-use Rattle.npf_cells_words.specs.Layout.{note_field}
-use Rattle.npf_seats.proofs.PrefixLemmas.{none_listed}
-use Rattle.npf_cells_lives.specs.declared.pools.Note.{Note}
-use Rattle.npf_cells_lives.specs.declared.pools.PoolSide.{PoolSide}
-use Rattle.npf_cells_lives.specs.declared.turn.Ahead.{Ahead}
-use Rattle.npf_cells_lives.specs.declared.turn.Said.{Said}
-use Rattle.npf_cells_lives.specs.declared.turn.Turn.{Turn}
-use Rattle.npf_cells_lives.specs.Conns.{IsBuiltIn}
+use Rattle.npf_shelf.proofs.ListLemmas.{Contains-filter_parts}
+use Rattle.npf_seats.proofs.{SumLemmas.set_there, PrefixLemmas.none_listed}
+use Rattle.npf_types.specs.declared.key.{Key.Key, Way.Way}
+use Rattle.npf_core.specs.{declared.{conn_id.ConnId.ConnId, found.Found.Found, slot.Slot.Slot, stage.Stage.TheVariants.Dead}, Machine.{Machine, HoldsNone}}
+use Rattle.npf_paths.{specs.{declared.{cell.Cell.Cell, place.Place.Place}, PathLaw.AgreesOnPath, Paths.AreDigits}, proofs.PathLemmas.same_places}
+use Rattle.npf_cells_words.specs.{declared.layout.Layout.Layout, Layout.note_field}
+use Rattle.npf_cells_lives.specs.{declared.{pools.{Note.Note, PoolSide.PoolSide}, turn.{Ahead.Ahead, Said.Said, Turn.Turn}}, Conns.IsBuiltIn}
 use Rattle.npf_cells_lives.specs.Deaths.{has_epoch, last_id}
 use Rattle.npf_cells_lives.specs.Notes.{note_word, IsAheadOf, NobodyAhead, with_ahead, IsFirm, FitsAhead, FitsNote, is_note_of, notes_but, Notes}
-use Rattle.npf_cells_lives.proofs.StoredLemmas.{filter_has}
 use Rattle.npf_cells_lives.specs.Turns.{has_turn, stage_phase, StaysAt}
 
 -- who has a turn is ahead of the same notes of its slot, and was told no more
 pub record SameAhead {S : Type 0} (old now : Option (Turn S)) : Type 0 where
   pub on : (slot field : ℕ) → IsAheadOf old slot field → IsAheadOf now slot field
   pub was : (turn : Turn S) (note : Ahead) → now ≡ Some turn → turn.ahead ≡ Some note → (before : Turn S) × (old ≡ Some before) × (before.slot ≡ turn.slot) × (before.ahead ≡ Some note)
-  pub told : (turn : Turn S) (said : Said) → now ≡ Some turn → turn.said ≡ Some said → (before : Turn S) × (old ≡ Some before) × (before.slot ≡ turn.slot) × (before.was ≡ turn.was) × (before.said ≡ Some said)
+  pub told : (turn : Turn S) (said : Said) → now ≡ Some turn → turn.said ≡ Some said →
+      (before : Turn S) × (old ≡ Some before) × (before.slot ≡ turn.slot) × (before.was ≡ turn.was) × (before.said ≡ Some said)
 
 pub same_ahead : {S : Type 0} (old now : Option (Turn S)) → now ≡ old → SameAhead old now
 same_ahead old now same = record {
@@ -54,18 +38,20 @@ ahead_turns ahead (Some turn) slot = refl
 -- the notes but one were there, and are others
 pub notes_left : (slot field : ℕ) (notes : List Note) (note : Note) → Contains (notes_but slot field notes) note → Contains notes note × (note.slot ≡ slot → note.field ≡ field → ⊥)
 notes_left slot field notes note c =
-    let left = filter_has (λ x. not (is_note_of slot field x)) notes note c in
+    let left = Contains-filter_parts (λ x. not (is_note_of slot field x)) notes note c in
     (left.0, λ same is. absurd (let no : true ≡ false = sym left.1 ∙ ap not (λ i. eq-eqb note.slot slot same i && eq-eqb note.field field is i) in cc))
 
 -- who stored a note is building
-pub no_notes : {S : Type 0} (layout : Layout) (k : Machine S) (words : List ℕ) (builds : List ConnId) (notes : List Note) → builds ≡ [] → ((note : Note) → Contains notes note → FitsNote layout k words builds note) → notes ≡ []
+pub no_notes : {S : Type 0} (layout : Layout) (k : Machine S) (words : List ℕ) (builds : List ConnId) (notes : List Note) →
+    builds ≡ [] → ((note : Note) → Contains notes note → FitsNote layout k words builds note) → notes ≡ []
 no_notes layout k words builds [] none each = refl
 no_notes layout k words builds (note ∷ notes) none each =
     let fits = each note (Contains-append_left (note ∷ []) notes note (Contains-push [] note)) in
     absurd (none_listed fits.id (subst (λ ids. Contains ids fits.id) none fits.built))
 
 -- ahead of nothing before and after, and told nothing
-pub ahead_of_none : {S : Type 0} (old now : Option (Turn S)) → ((turn : Turn S) → old ≡ Some turn → turn.ahead ≡ None) → ((turn : Turn S) → now ≡ Some turn → turn.ahead ≡ None) → ((turn : Turn S) → now ≡ Some turn → turn.said ≡ None) → SameAhead old now
+pub ahead_of_none : {S : Type 0} (old now : Option (Turn S)) → ((turn : Turn S) → old ≡ Some turn → turn.ahead ≡ None) →
+    ((turn : Turn S) → now ≡ Some turn → turn.ahead ≡ None) → ((turn : Turn S) → now ≡ Some turn → turn.said ≡ None) → SameAhead old now
 ahead_of_none old now before after untold = record {
   on = λ slot field is. absurd (let no : None ≡ Some is.note = sym (before is.mine is.has) ∙ is.ahead in cc);
   was = λ turn note has ahead. absurd (let no : None ≡ Some note = sym (after turn has) ∙ ahead in cc);
@@ -81,7 +67,8 @@ module _ {S : Type 0} (layout : Layout) where
     pub back : (key : Key) (found : Found) → k'.holder key ≡ Some found → k.holder key ≡ Some found
     pub slots : (slot : ℕ) → StaysAt (k.slot slot) (k'.slot slot)
 
-  pub ahead_fits : (k k' : Machine S) (words words' : List ℕ) (slot : ℕ) (note : Ahead) (fits : FitsAhead layout k words slot note) → note_word layout words' slot fits.way ≡ note_word layout words slot fits.way →
+  pub ahead_fits : (k k' : Machine S) (words words' : List ℕ) (slot : ℕ) (note : Ahead) (fits : FitsAhead layout k words slot note) →
+      note_word layout words' slot fits.way ≡ note_word layout words slot fits.way →
       ((key : Key) (found : Found) → k.holder key ≡ Some found → k'.holder key ≡ Some found) → FitsAhead layout k' words' slot note
   ahead_fits k k' words words' slot note fits same held = record {
     way = fits.way;
@@ -94,8 +81,10 @@ module _ {S : Type 0} (layout : Layout) where
     names = fits.names;
   }
 
-  pub note_stays : (k k' : Machine S) (words words' : List ℕ) (builds builds' : List ConnId) (note : Note) → ((way : Way) → note.field ≡ note_field way → note_word layout words' note.slot way ≡ note_word layout words note.slot way) →
-      ((key : Key) (id : ConnId) (way : Way) → Contains builds id → note.field ≡ note_field way → id.slot ≡ note.slot → k'.holder key ≡ Some (record { id = id; way = way }) → k.holder key ≡ Some (record { id = id; way = way })) →
+  pub note_stays : (k k' : Machine S) (words words' : List ℕ) (builds builds' : List ConnId) (note : Note) →
+      ((way : Way) → note.field ≡ note_field way → note_word layout words' note.slot way ≡ note_word layout words note.slot way) →
+      ((key : Key) (id : ConnId) (way : Way) → Contains builds id → note.field ≡ note_field way → id.slot ≡ note.slot →
+      k'.holder key ≡ Some (record { id = id; way = way }) → k.holder key ≡ Some (record { id = id; way = way })) →
       ((id : ConnId) → id.slot ≡ note.slot → Contains builds id → Contains builds' id) → FitsNote layout k words builds note → FitsNote layout k' words' builds' note
   note_stays k k' words words' builds builds' note same back more fits = record {
     id = fits.id;
@@ -115,7 +104,8 @@ module _ {S : Type 0} (layout : Layout) where
       stays
 
 -- nobody was ahead of a note where now nobody is, and the view that changed is still ahead of what it was
-pub nobody_before : {S V : Type 0} (turn_of : V → Option (Turn S)) (views : List V) (i : ℕ) (v w : V) (slot field : ℕ) → get_elem? views i ≡ some v → (IsAheadOf (turn_of v) slot field → IsAheadOf (turn_of w) slot field) → NobodyAhead turn_of (set views i w) slot field → NobodyAhead turn_of views slot field
+pub nobody_before : {S V : Type 0} (turn_of : V → Option (Turn S)) (views : List V) (i : ℕ) (v w : V) (slot field : ℕ) → get_elem? views i ≡ some v →
+    (IsAheadOf (turn_of v) slot field → IsAheadOf (turn_of w) slot field) → NobodyAhead turn_of (set views i w) slot field → NobodyAhead turn_of views slot field
 nobody_before turn_of views i v w slot field at on none j u e is = ⊎_elim
     (λ (same : j ≡ i).
     let one : u ≡ v = some-injective u v (sym e ∙ (ap (get_elem? views) same ∙ at)) in
@@ -124,7 +114,8 @@ nobody_before turn_of views i v w slot field at on none j u e is = ⊎_elim
     (cases_eq j i)
 
 -- what was firm stays so where the slot and what it was at are the same
-pub firm_on : {S : Type 0} (kills kills' : List ConnId) (turn before : Turn S) (said : Said) → before.slot ≡ turn.slot → before.was ≡ turn.was → ((id : ConnId) → Contains kills' id → Contains kills id) → IsFirm kills' turn said → IsFirm kills before said
+pub firm_on : {S : Type 0} (kills kills' : List ConnId) (turn before : Turn S) (said : Said) → before.slot ≡ turn.slot → before.was ≡ turn.was →
+    ((id : ConnId) → Contains kills' id → Contains kills id) → IsFirm kills' turn said → IsFirm kills before said
 firm_on {S} kills kills' turn before said slots was more firm = ⊎_elim
     (λ (mine : IsBuiltIn kills' turn.slot). inl (record { id = mine.id; built = more mine.id mine.built; there = mine.there ∙ sym slots }))
     (λ (epoch : (turn.was.stage ≡ Dead) × (has_epoch said.value ≡ 1)). inr (ap (λ (x : Slot S). x.stage) was ∙ epoch.0, epoch.1))
@@ -136,7 +127,8 @@ module _ {S V : Type 0} (turn_of : V → Option (Turn S)) (side_of : V → PoolS
   IsGiven v = (id : ConnId) (way : Way) → Contains (side_of v).kills id → ¬ Contains (side_of v).gave_up (record { id = id; way = way }) → HoldsNone k id way → note_word layout words id.slot way ≡ 0
 
   abbrev pub IsToldSo : V → Type 0
-  IsToldSo v = (turn : Turn S) (said : Said) (way : Way) → turn_of v ≡ Some turn → turn.said ≡ Some said → IsFirm (side_of v).kills turn said → said.field ≡ note_field way → note_word layout words turn.slot way ≡ said.value
+  IsToldSo v = (turn : Turn S) (said : Said) (way : Way) → turn_of v ≡ Some turn → turn.said ≡ Some said →
+      IsFirm (side_of v).kills turn said → said.field ≡ note_field way → note_word layout words turn.slot way ≡ said.value
 
   -- they hold of a view with the same kills, that was told no more
   pub given_same : (v w : V) → (side_of w).kills ≡ (side_of v).kills → (side_of w).gave_up ≡ (side_of v).gave_up → IsGiven v → IsGiven w
@@ -145,14 +137,17 @@ module _ {S V : Type 0} (turn_of : V → Option (Turn S)) (side_of : V → PoolS
   pub told_same : (v w : V) → ((id : ConnId) → Contains (side_of w).kills id → Contains (side_of v).kills id) → SameAhead (turn_of v) (turn_of w) → IsToldSo v → IsToldSo w
   told_same v w kills same kept turn said way has is firm field =
       let before = same.told turn said has is in
-      ap (λ slot. note_word layout words slot way) (sym before.2) ∙ kept before.0 said way before.1 before.4 (firm_on (side_of v).kills (side_of w).kills turn before.0 said before.2 before.3 kills firm) field
+      ap (λ slot. note_word layout words slot way) (sym before.2) ∙ kept before.0 said way before.1 before.4
+      (firm_on (side_of v).kills (side_of w).kills turn before.0 said before.2 before.3 kills firm) field
 
 module _ {S V : Type 0} (turn_of : V → Option (Turn S)) (side_of : V → PoolSide) (layout : Layout) (k k' : Machine S) (cell cell' : Place → Cell) (words words' : List ℕ) where
   -- the part after such a step
-  pub notes_so : (views views' : List V) → Notes turn_of side_of layout cell k words views → NotesStay layout k k' cell cell' words words' → ((slot field : ℕ) → NobodyAhead turn_of views' slot field → NobodyAhead turn_of views slot field) →
+  pub notes_so : (views views' : List V) → Notes turn_of side_of layout cell k words views → NotesStay layout k k' cell cell' words words' →
+      ((slot field : ℕ) → NobodyAhead turn_of views' slot field → NobodyAhead turn_of views slot field) →
       ((j : ℕ) (v : V) → get_elem? views' j ≡ some v → IsGiven turn_of side_of layout k words v × IsToldSo turn_of side_of layout k words v) →
       ((j : ℕ) (v : V) (turn : Turn S) (note : Ahead) → get_elem? views' j ≡ some v → turn_of v ≡ Some turn → turn.ahead ≡ Some note → FitsAhead layout k words turn.slot note) →
-      ((j : ℕ) (v : V) (note : Note) → get_elem? views' j ≡ some v → Contains (side_of v).notes note → FitsNote layout k words (side_of v).builds note) → Notes turn_of side_of layout cell' k' words' views'
+      ((j : ℕ) (v : V) (note : Note) → get_elem? views' j ≡ some v → Contains (side_of v).notes note → FitsNote layout k words (side_of v).builds note) →
+      Notes turn_of side_of layout cell' k' words' views'
   notes_so views views' kept same nobody both ahead each = record {
     named = λ digits level p slot way are on is none.
         let agree = same.cells digits are in
@@ -161,15 +156,19 @@ module _ {S V : Type 0} (turn_of : V → Option (Turn S)) (side_of : V → PoolS
     bare = λ slot way within live none.
         let now = live_before layout k k' slot (same.slots slot) live in
         same.notes slot way ∙ kept.bare slot way within (sym (ap (λ (x : Slot S). stage_phase x.stage) now) ∙ live)
-        (λ key holds. none key (subst (λ (x : Slot S). k'.holder key ≡ Some (record { id = record { slot = slot; inc = x.inc }; way = way })) (sym now) (same.held key (record { id = last_id k slot; way = way }) holds)));
+        (λ key holds. none key (subst (λ (x : Slot S). k'.holder key ≡ Some (record { id = record { slot = slot; inc = x.inc }; way = way }))
+        (sym now) (same.held key (record { id = last_id k slot; way = way }) holds)));
     given = λ j v id way there c not none. same.notes id.slot way ∙ (both j v there).0 id way c not (λ key holds. none key (same.held key (record { id = id; way = way }) holds));
     said = λ j v turn said way there has is firm field. same.notes turn.slot way ∙ (both j v there).1 turn said way has is firm field;
     ahead = λ j v turn note there has is. (let fits = ahead j v turn note there has is in ahead_fits layout k k' words words' turn.slot note fits (same.notes turn.slot fits.way) same.held);
-    each = λ j v note there c. note_stays layout k k' words words' (side_of v).builds (side_of v).builds note (λ way e. same.notes note.slot way) (λ key id way built e e' holds. same.back key (record { id = id; way = way }) holds) (λ id e c'. c') (each j v note there c);
+    each = λ j v note there c. note_stays layout k k' words words' (side_of v).builds (side_of v).builds note (λ way e. same.notes note.slot way)
+        (λ key id way built e e' holds. same.back key (record { id = id; way = way }) holds) (λ id e c'. c') (each j v note there c);
   }
 
   -- one view changes, which is ahead of the same, stored the same notes, builds what it built, and killed no more
-  pub notes-less : (views : List V) (i : ℕ) (v w : V) → Notes turn_of side_of layout cell k words views → get_elem? views i ≡ some v → SameAhead (turn_of v) (turn_of w) → IsGiven turn_of side_of layout k words w → ((id : ConnId) → Contains (side_of w).kills id → Contains (side_of v).kills id) → (side_of w).notes ≡ (side_of v).notes → ((id : ConnId) → Contains (side_of v).builds id → Contains (side_of w).builds id) →
+  pub notes-less : (views : List V) (i : ℕ) (v w : V) → Notes turn_of side_of layout cell k words views → get_elem? views i ≡ some v → SameAhead (turn_of v) (turn_of w) →
+      IsGiven turn_of side_of layout k words w → ((id : ConnId) → Contains (side_of w).kills id → Contains (side_of v).kills id) →
+      (side_of w).notes ≡ (side_of v).notes → ((id : ConnId) → Contains (side_of v).builds id → Contains (side_of w).builds id) →
       NotesStay layout k k' cell cell' words words' → Notes turn_of side_of layout cell' k' words' (set views i w)
   notes-less views i v w kept at same given kills notes builds stay = notes_so views (set views i w) kept stay nobody both aheads each
     where
@@ -205,13 +204,16 @@ module _ {S V : Type 0} (turn_of : V → Option (Turn S)) (side_of : V → PoolS
           (at_set views i j w u e)
 
   -- one view changes, and it killed the same
-  pub notes-set : (views : List V) (i : ℕ) (v w : V) → Notes turn_of side_of layout cell k words views → get_elem? views i ≡ some v → SameAhead (turn_of v) (turn_of w) → (side_of w).kills ≡ (side_of v).kills → (side_of w).gave_up ≡ (side_of v).gave_up → (side_of w).notes ≡ (side_of v).notes → ((id : ConnId) → Contains (side_of v).builds id → Contains (side_of w).builds id) →
+  pub notes-set : (views : List V) (i : ℕ) (v w : V) → Notes turn_of side_of layout cell k words views → get_elem? views i ≡ some v → SameAhead (turn_of v) (turn_of w) →
+      (side_of w).kills ≡ (side_of v).kills → (side_of w).gave_up ≡ (side_of v).gave_up → (side_of w).notes ≡ (side_of v).notes →
+      ((id : ConnId) → Contains (side_of v).builds id → Contains (side_of w).builds id) →
       NotesStay layout k k' cell cell' words words' → Notes turn_of side_of layout cell' k' words' (set views i w)
   notes-set views i v w kept at same kills gave notes builds stay = notes-less views i v w kept at same
       (given_same turn_of side_of layout k words v w kills gave (λ id way. kept.given i v id way at)) (λ id c. subst (λ ids. Contains ids id) kills c) notes builds stay
 
   -- one slot changes: a Live connection has bare notes there, and a view may have fewer notes, and other kills of which what is said holds
-  pub notes-acted : (views : List V) (i : ℕ) (v w : V) (slot : ℕ) → Notes turn_of side_of layout cell k words views → get_elem? views i ≡ some v → SameAhead (turn_of v) (turn_of w) → IsGiven turn_of side_of layout k' words w → IsToldSo turn_of side_of layout k' words w →
+  pub notes-acted : (views : List V) (i : ℕ) (v w : V) (slot : ℕ) → Notes turn_of side_of layout cell k words views → get_elem? views i ≡ some v →
+      SameAhead (turn_of v) (turn_of w) → IsGiven turn_of side_of layout k' words w → IsToldSo turn_of side_of layout k' words w →
       ((note : Note) → Contains (side_of w).notes note → FitsNote layout k words (side_of w).builds note) → ((digits : ℕ → ℕ) → AreDigits digits → AgreesOnPath digits cell cell') →
       ((p : ℕ) (way : Way) → note_word layout words' p way ≡ note_word layout words p way) → ((key : Key) → k'.holder key ≡ k.holder key) → ((p : ℕ) → p ≢ slot → k'.slot p ≡ k.slot p) →
       (stage_phase (k'.slot slot).stage ≡ 1 → (way : Way) → HoldsNone k' (last_id k' slot) way → note_word layout words slot way ≡ 0) → Notes turn_of side_of layout cell' k' words' (set views i w)
@@ -237,7 +239,8 @@ module _ {S V : Type 0} (turn_of : V → Option (Turn S)) (side_of : V → PoolS
         (λ (x : (j ≡ i) × (w ≡ u)).
         let before = same.was turn note (ap turn_of x.1 ∙ has) is in
         let fits = kept.ahead i v before.0 note at before.1 before.3 in
-        subst (λ q. FitsAhead layout k' words' q note) before.2 (ahead_fits layout k k' words words' before.0.slot note fits (same_words before.0.slot fits.way) (λ key found holds. holder key ∙ holds)))
+        subst (λ q. FitsAhead layout k' words' q note) before.2
+        (ahead_fits layout k k' words words' before.0.slot note fits (same_words before.0.slot fits.way) (λ key found holds. holder key ∙ holds)))
         (λ (x : (j ≢ i) × (get_elem? views j ≡ some u)).
         let fits = kept.ahead j u turn note x.1 has is in
         ahead_fits layout k k' words words' turn.slot note fits (same_words turn.slot fits.way) (λ key found holds. holder key ∙ holds))
@@ -251,7 +254,8 @@ module _ {S V : Type 0} (turn_of : V → Option (Turn S)) (side_of : V → PoolS
   }
 
   -- a view comes that has no turn and stored no note
-  pub notes-push : (views : List V) (w : V) → Notes turn_of side_of layout cell k words views → turn_of w ≡ None → (side_of w).kills ≡ [] → (side_of w).notes ≡ [] → NotesStay layout k k' cell cell' words words' → Notes turn_of side_of layout cell' k' words' (views ++ w ∷ [])
+  pub notes-push : (views : List V) (w : V) → Notes turn_of side_of layout cell k words views → turn_of w ≡ None → (side_of w).kills ≡ [] →
+      (side_of w).notes ≡ [] → NotesStay layout k k' cell cell' words words' → Notes turn_of side_of layout cell' k' words' (views ++ w ∷ [])
   notes-push views w kept none killless bare stay = notes_so views (views ++ w ∷ []) kept stay
       (λ slot field nobody j u e. nobody j u (at_longer views (w ∷ []) j u e))
       (λ j u e. ⊎_elim

@@ -1,20 +1,14 @@
 -- The part on pools stays through a step that leaves its words, and through one that changes the bit of a place.
 use Rattle.std.specs.Int.{bit_at}
 use Rattle.std.proofs.Common.{◌≡◌, ◌≢◌, ◌⊎◌, ℕ, ◌*◌, ◌/◌, ◌%◌, ◌<◌, ◌≤◌, List, [], ◌∷◌, ◌++◌, set, length, slice_index, refl, sym, ap, ◌∙◌, subst, ⊎_elim, inl, inr, arith, length-set}
-use Rattle.std.proofs.lemmas.Bool.{cases_eq}
-use Rattle.std.proofs.lemmas.List.{get_or-set_same, get_or-set_other}
-use Rattle.std.proofs.lemmas.List.Sums.{sum_by_push}
+use Rattle.std.proofs.lemmas.{Bool.cases_eq, List.{get_or-set_same, get_or-set_other, Sums.sum_by_push}}
 use mathlib.Core.Option.{some}
 use lib.ListN.{get_elem?}
 use Rattle.npf_core.specs.Machine.{Machine}
-use Rattle.npf_cells_words.specs.declared.layout.Layout.{Layout}
-use Rattle.npf_cells_words.specs.declared.layout.Pool.{Pool}
-use Rattle.npf_cells_words.specs.declared.layout.Pool.TheVariants.{Slots, Nodes}
+use Rattle.npf_cells_words.specs.declared.layout.{Layout.Layout, Pool.{Pool, TheVariants.{Slots, Nodes}}}
 use Rattle.npf_cells_words.specs.Layout.{pool_places, pool_words, pools_at, place_word, pool_bit, root_at}
-use Rattle.npf_seats.specs.Sums.{occurs}
-use Rattle.npf_seats.proofs.SumLemmas.{sum-set}
-use Rattle.npf_cells_lives.specs.declared.pools.PoolSide.{PoolSide}
-use Rattle.npf_cells_lives.specs.Pools.{unfreed_owners, taken, Pools}
+use Rattle.npf_seats.{specs.Sums.occurs, proofs.SumLemmas.sum-set}
+use Rattle.npf_cells_lives.specs.{declared.pools.PoolSide.PoolSide, Pools.{unfreed_owners, taken, Pools}}
 
 -- two places are one, or not
 pub one_place : (a b : Pool) (p q : ℕ) → ((a ≡ b) × (p ≡ q)) ⊎ (a ≡ b → p ≢ q)
@@ -88,7 +82,8 @@ module _ (layout : Layout) where
       not_past : (other : Pool) (p : ℕ) → other ≡ pool → p ≡ place → pool_places layout other ≤ p → ⊥
       not_past other p e same h = let places = ap (pool_places layout) e in omega (arith, places, same, h, within)
 
-      elsewhere : (other : Pool) (p : ℕ) → p < 64 * pool_words (pool_places layout other) → (other ≡ pool → p ≢ place) → pool_bit layout other (set words (place_word layout pool place) n) p ≡ pool_bit layout other words p
+      elsewhere : (other : Pool) (p : ℕ) → p < 64 * pool_words (pool_places layout other) → (other ≡ pool → p ≢ place) →
+          pool_bit layout other (set words (place_word layout pool place) n) p ≡ pool_bit layout other words p
       elsewhere other p h two = ⊎_elim
           (λ (e : place_word layout other p ≡ place_word layout pool place).
           let same = same_word other pool p place h (places_within pool place within) e in
@@ -100,7 +95,8 @@ module _ (layout : Layout) where
           (cases_eq (place_word layout other p) (place_word layout pool place))
 
 -- how many have a node that they got back and whose state they haven't freed, where one pass changes and has the same of these
-pub unfreed-set : {V : Type 0} (side_of : V → PoolSide) (views : List V) (id : ℕ) (v w : V) → get_elem? views id ≡ some v → (side_of w).unfreed ≡ (side_of v).unfreed → (p : ℕ) → unfreed_owners side_of (set views id w) p ≡ unfreed_owners side_of views p
+pub unfreed-set : {V : Type 0} (side_of : V → PoolSide) (views : List V) (id : ℕ) (v w : V) → get_elem? views id ≡ some v →
+    (side_of w).unfreed ≡ (side_of v).unfreed → (p : ℕ) → unfreed_owners side_of (set views id w) p ≡ unfreed_owners side_of views p
 unfreed-set {V} side_of views id v w at same p =
     let more = sum-set (λ (u : V). occurs p (side_of u).unfreed) views id v w at in
     let one = ap (occurs p) same in
@@ -108,7 +104,8 @@ unfreed-set {V} side_of views id v w at same p =
 
 -- what is taken, where passes change what they own
 module _ {S V : Type 0} (side_of : V → PoolSide) (published : List ℕ) (k : Machine S) (views : List V) where
-  pub taken-set : (id : ℕ) (v w : V) → get_elem? views id ≡ some v → (side_of w).nodes ≡ (side_of v).nodes → (side_of w).unfreed ≡ (side_of v).unfreed → (pool : Pool) (p : ℕ) → taken side_of published k (set views id w) pool p ≡ taken side_of published k views pool p
+  pub taken-set : (id : ℕ) (v w : V) → get_elem? views id ≡ some v → (side_of w).nodes ≡ (side_of v).nodes → (side_of w).unfreed ≡ (side_of v).unfreed →
+      (pool : Pool) (p : ℕ) → taken side_of published k (set views id w) pool p ≡ taken side_of published k views pool p
   taken-set id v w at same back Slots p = refl
   taken-set id v w at same back Nodes p =
       let more = sum-set (λ (u : V). occurs p (side_of u).nodes) views id v w at in

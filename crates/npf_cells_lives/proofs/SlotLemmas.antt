@@ -1,32 +1,16 @@
 -- The machine's slots, before a claim of one and after it.
 use Rattle.std.specs.List.{Contains}
 use Rattle.std.proofs.Common.{◌≡◌, ◌≢◌, ℕ, ◌+◌, Bool, true, false, cond, eqb, eq-eqb, ne_eqb, List, [], ◌∷◌, set, refl, sym, ap, ◌∙◌, subst, ⊎_elim, arith}
-use Rattle.std.proofs.lemmas.Bool.{cases_eq}
-use Rattle.std.proofs.lemmas.List.Elements.{Contains-append_left, Contains-append_right, Contains-push}
+use Rattle.std.proofs.lemmas.{Bool.cases_eq, List.Elements.{Contains-append_left, Contains-append_right, Contains-push}}
 use mathlib.Core.Option.{some}
 use lib.ListN.{get_elem?}
-use Rattle.npf_core.specs.declared.act.Act.TheVariants.{Claim}
-use Rattle.npf_core.specs.declared.conn_id.ConnId.{ConnId}
-use Rattle.npf_core.specs.declared.slot.Slot.{Slot}
-use Rattle.npf_core.specs.declared.stage.Stage.{Stage}
-use Rattle.npf_core.specs.declared.stage.Stage.TheVariants.{Vacant, Building, Live, Dead}
-use Rattle.npf_core.specs.Machine.{Machine, stage_at, stage_of}
-use Rattle.npf_core.specs.Meaning.{Meaning}
-use Rattle.npf_core.specs.NextState.{changed, after_act}
-use Rattle.npf_core.specs.Replies.{claimed_id}
-use Rattle.npf_core.proofs.BuildingLemmas.{claim_builds}
-use Rattle.npf_cells_words.specs.declared.layout.Pool.{Pool}
-use Rattle.npf_cells_words.specs.declared.layout.Pool.TheVariants.{Slots, Nodes}
-use Rattle.npf_seats.specs.Sums.{occurs}
-use Rattle.npf_seats.proofs.ListLemmas.{one_where, occurs-cons, occurs_or}
-use Rattle.npf_seats.proofs.PrefixLemmas.{cons_cases}
-use Rattle.npf_seats.proofs.SumLemmas.{sum-set}
-use Rattle.npf_cells_lives.specs.declared.pools.PoolSide.{PoolSide}
-use Rattle.npf_cells_lives.specs.Conns.{FitsBuilds, unstored_by}
-use Rattle.npf_cells_lives.specs.Pools.{claim_bit, taken}
-use Rattle.npf_cells_lives.specs.Turns.{stage_phase}
-use Rattle.npf_cells_lives.proofs.ConnLemmas.{BuildsIn, builds-set}
-use Rattle.npf_cells_lives.proofs.PoolLemmas.{taken-set}
+use Rattle.npf_core.specs.declared.{act.Act.TheVariants.Claim, conn_id.ConnId.ConnId, slot.Slot.Slot, stage.Stage.Stage}
+use Rattle.npf_core.specs.{declared.stage.Stage.TheVariants.{Vacant, Building, Live, Dead}, Machine.{Machine, stage_at, stage_of}, Meaning.Meaning}
+use Rattle.npf_core.{specs.{NextState.{changed, after_act}, Replies.claimed_id}, proofs.BuildingLemmas.claim_builds}
+use Rattle.npf_cells_words.specs.declared.layout.Pool.{Pool, TheVariants.{Slots, Nodes}}
+use Rattle.npf_seats.{specs.Sums.occurs, proofs.{ListLemmas.{one_where, occurs-cons, occurs_or}, PrefixLemmas.cons_cases, SumLemmas.sum-set}}
+use Rattle.npf_cells_lives.specs.{declared.pools.PoolSide.PoolSide, Conns.{FitsBuilds, unstored_by}, Pools.{claim_bit, taken}, Turns.stage_phase}
+use Rattle.npf_cells_lives.proofs.{ConnLemmas.{BuildsIn, builds-set}, PoolLemmas.taken-set}
 
 -- a slot whose bit is clear is vacant
 pub clear_vacant : {S : Type 0} (stage : Stage S) → claim_bit stage ≡ 0 → stage ≡ Vacant
@@ -59,7 +43,8 @@ module _ {S A R : Type 0} (m : Meaning S A R) (k : Machine S) (seat packet slot 
 
   module _ {V : Type 0} (side_of : V → PoolSide) (views : List V) (id : ℕ) (v w : V) (at : get_elem? views id ≡ some v) where
     -- what else is taken stays
-    pub taken_else : (published : List ℕ) → (side_of w).nodes ≡ (side_of v).nodes → (side_of w).unfreed ≡ (side_of v).unfreed → (pool : Pool) (p : ℕ) → (pool ≡ Slots → p ≢ slot) → taken side_of published claimed (set views id w) pool p ≡ taken side_of published k views pool p
+    pub taken_else : (published : List ℕ) → (side_of w).nodes ≡ (side_of v).nodes → (side_of w).unfreed ≡ (side_of v).unfreed → (pool : Pool) (p : ℕ) →
+        (pool ≡ Slots → p ≢ slot) → taken side_of published claimed (set views id w) pool p ≡ taken side_of published k views pool p
     taken_else published same back Slots p two = ap (λ (x : Slot S). claim_bit x.stage) (slot_else p (two refl))
     taken_else published same back Nodes p two = taken-set side_of published k views id v w at same back Nodes p
 
@@ -87,13 +72,18 @@ module _ {S A R : Type 0} (m : Meaning S A R) (k : Machine S) (seat packet slot 
             (λ (old : Contains (side_of v).builds i). still i ((kept id v at).building i old))
             (cons_cases (claimed_id k slot) i (side_of v).builds c);
         owing = λ p c. ⊎_elim
-            (λ (new : slot ≡ p). record { id = claimed_id k slot; built = Contains-append_left (claimed_id k slot ∷ []) (side_of v).builds (claimed_id k slot) (Contains-push [] (claimed_id k slot)); there = new })
+            (λ (new : slot ≡ p). record {
+              id = claimed_id k slot;
+              built = Contains-append_left (claimed_id k slot ∷ []) (side_of v).builds (claimed_id k slot) (Contains-push [] (claimed_id k slot));
+              there = new;
+            })
             (λ (old : Contains (side_of v).unstored p).
             let owed = (kept id v at).owing p old in
             record { id = owed.id; built = Contains-append_right (claimed_id k slot ∷ []) (side_of v).builds owed.id owed.built; there = owed.there })
             (cons_cases slot p (side_of v).unstored c);
         once = λ p. let more' = occurs-cons p slot (side_of v).unstored in let before = (kept id v at).once p in ⊎_elim
-            (λ (e : slot ≡ p). let none = ap (λ q. occurs q (side_of v).unstored) (sym e) ∙ unowed in let one : one_where (eqb slot p) ≡ 1 = ap one_where (eq-eqb slot p e) in omega (arith, more', none, one))
+            (λ (e : slot ≡ p). let none = ap (λ q. occurs q (side_of v).unstored) (sym e) ∙ unowed in
+            let one : one_where (eqb slot p) ≡ 1 = ap one_where (eq-eqb slot p e) in omega (arith, more', none, one))
             (λ (ne : slot ≢ p). let one : one_where (eqb slot p) ≡ 0 = ap one_where (ne_eqb slot p ne) in omega (arith, more', before, one))
             (cases_eq slot p);
       }

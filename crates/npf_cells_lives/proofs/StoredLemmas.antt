@@ -1,27 +1,22 @@
 -- What passes stored in their own places stays through steps that leave these words.
-use Rattle.std.specs.List.{Contains, filter}
+use Rattle.std.specs.List.{Contains}
 use Rattle.std.proofs.Common.{◌≡◌, ◌≢◌, ℕ, ◌<◌, Bool, true, false, ◌==◌, ◌&&◌, not, cond, eqb, ne_eqb, Some, List, [], ◌∷◌, ◌++◌, set, slice_index, refl, sym, ap, ◌∙◌, subst, ⊎_elim, arith}
-use Rattle.std.proofs.lemmas.Bool.Decides.{Decides-eqb, not_from_Decides}
-use Rattle.std.proofs.lemmas.List.Elements.{Contains-append_left, Contains-append_right, Contains-push}
+use Rattle.std.proofs.lemmas.{Bool.Decides.{Decides-eqb, not_from_Decides}, List.Elements.{Contains-append_left, Contains-append_right, Contains-push}}
+use Rattle.std.proofs.lemmas.Bool.{not-true}
 use mathlib.Core.Option.{some}
 use lib.ListN.{get_elem?}
 use Rattle.atomic_table.proofs.Lists.{at_set, at_snoc}
 use Rattle.npf_types.specs.declared.key.Way.{Way}
+use Rattle.npf_shelf.proofs.ListLemmas.{Contains-filter_parts}
 use Rattle.npf_core.specs.declared.conn_id.ConnId.{ConnId}
 use Rattle.npf_paths.specs.declared.place.Lock.{Lock}
 use Rattle.npf_paths.specs.declared.place.Lock.TheVariants as Locking
-use Rattle.npf_cells_words.specs.declared.layout.Layout.{Layout}
-use Rattle.npf_cells_words.specs.declared.layout.Pool.{Pool}
-use Rattle.npf_cells_words.specs.declared.layout.Pool.TheVariants.{Slots, Nodes}
-use Rattle.npf_cells_words.specs.Layout.{turn_field, phase_field, note_field, field_at}
-use Rattle.npf_cells_words.proofs.WordLemmas.{note_late, note_soon}
+use Rattle.npf_cells_words.specs.declared.layout.{Layout.Layout, Pool.{Pool, TheVariants.{Slots, Nodes}}}
+use Rattle.npf_cells_words.{specs.Layout.{turn_field, phase_field, note_field, field_at}, proofs.WordLemmas.{note_late, note_soon}}
 use Rattle.npf_cells_words.specs.Places.{lock_at, IsLockOf}
-use Rattle.npf_seats.proofs.PrefixLemmas.{none_listed, cons_cases}
-use Rattle.npf_cells_lives.specs.declared.pools.PoolSide.{PoolSide}
-use Rattle.npf_cells_lives.specs.declared.pools.StoredWord.{StoredWord}
-use Rattle.npf_cells_lives.specs.Conns.{IsBuiltIn}
-use Rattle.npf_cells_lives.specs.Stored.{is_slots, stored_value, is_of_slot, stored_but, IsOwnField, FitsStored, StoredWords}
-use Rattle.npf_cells_lives.specs.Turns.{IsTurnField}
+use Rattle.npf_seats.proofs.PrefixLemmas.{none_listed}
+use Rattle.npf_cells_lives.specs.{declared.pools.{PoolSide.PoolSide, StoredWord.StoredWord}, Conns.IsBuiltIn}
+use Rattle.npf_cells_lives.specs.{Stored.{is_slots, stored_value, is_of_slot, stored_but, IsOwnField, FitsStored, StoredWords}, Turns.IsTurnField}
 
 -- a word whose value is known was stored
 pub record WasStored (layout : Layout) (stored : List StoredWord) (word : ℕ) : Type 0 where
@@ -33,7 +28,8 @@ pub was_stored : (layout : Layout) (stored : List StoredWord) (word n : ℕ) →
 was_stored layout [] word n e = absurd cc
 was_stored layout (s ∷ rest) word n e = by_word (was_stored layout rest word n) (eqb (field_at layout s.pool s.place s.field) word) refl e
   where
-    by_word : (stored_value layout rest word ≡ Some n → WasStored layout rest word) → (b : Bool) → eqb (field_at layout s.pool s.place s.field) word ≡ b → cond b (Some s.value) (stored_value layout rest word) ≡ Some n →
+    by_word : (stored_value layout rest word ≡ Some n → WasStored layout rest word) → (b : Bool) →
+        eqb (field_at layout s.pool s.place s.field) word ≡ b → cond b (Some s.value) (stored_value layout rest word) ≡ Some n →
         WasStored layout (s ∷ rest) word
     by_word further true here is = record { s = s; listed = Contains-append_left (s ∷ []) rest s (Contains-push [] s); there = (Decides-eqb _ word).0 here }
     by_word further false here is =
@@ -48,7 +44,8 @@ fits_unstored layout words side none = record {
 }
 
 -- whoever owns the same has the same fields
-pub own_same : (layout : Layout) (side side' : PoolSide) → side'.nodes ≡ side.nodes → side'.builds ≡ side.builds → (pool : Pool) (place field : ℕ) → IsOwnField layout side pool place field → IsOwnField layout side' pool place field
+pub own_same : (layout : Layout) (side side' : PoolSide) → side'.nodes ≡ side.nodes → side'.builds ≡ side.builds →
+    (pool : Pool) (place field : ℕ) → IsOwnField layout side pool place field → IsOwnField layout side' pool place field
 own_same layout side side' nodes builds Slots place field own = (subst (λ b. IsBuiltIn b place) (sym builds) own.0, own.1, own.2, own.3, own.4)
 own_same layout side side' nodes builds Nodes place field own = (subst (λ ns. Contains ns place) (sym nodes) own.0, own.1, own.2, own.3)
 
@@ -72,7 +69,8 @@ pub stored-words : (layout : Layout) (words words' : List ℕ) (side : PoolSide)
 stored-words layout words words' side fits same = stored_kept layout words words' side side fits refl (λ pool place field own. own) (λ pool place field own. same pool place field)
 
 module _ {V : Type 0} (side_of : V → PoolSide) (layout : Layout) where
-  pub stored-set : (words : List ℕ) (views : List V) (i : ℕ) (w : V) → FitsStored layout words (side_of w) → ((j : ℕ) (v : V) → j ≢ i → get_elem? views j ≡ some v → FitsStored layout words (side_of v)) →
+  pub stored-set : (words : List ℕ) (views : List V) (i : ℕ) (w : V) → FitsStored layout words (side_of w) →
+      ((j : ℕ) (v : V) → j ≢ i → get_elem? views j ≡ some v → FitsStored layout words (side_of v)) →
       StoredWords side_of layout words (set views i w)
   stored-set words views i w mine kept j u e = ⊎_elim
       (λ (x : (j ≡ i) × (w ≡ u)). subst (λ (y : V). FitsStored layout words (side_of y)) x.1 mine)
@@ -86,59 +84,33 @@ module _ {V : Type 0} (side_of : V → PoolSide) (layout : Layout) where
       (at_snoc views w u j e)
 
 -- no lock lies in a word of a place that a pass owns
-pub no_lock : (layout : Layout) (side : PoolSide) (pool : Pool) (place field : ℕ) (lock : Lock) → IsOwnField layout side pool place field → IsLockOf layout lock → lock_at layout lock ≢ field_at layout pool place field
+pub no_lock : (layout : Layout) (side : PoolSide) (pool : Pool) (place field : ℕ) (lock : Lock) → IsOwnField layout side pool place field →
+    IsLockOf layout lock → lock_at layout lock ≢ field_at layout pool place field
 no_lock layout side Slots place field (Locking.Root digit) own h e = absurd (omega (arith, h, e))
 no_lock layout side Slots place field (Locking.Node node) own h e = absurd (omega (arith, h, e))
 no_lock layout side Nodes place field (Locking.Root digit) own h e = absurd (omega (arith, h, e))
 no_lock layout side Nodes place field (Locking.Node node) own h e = let short = own.2 in own.3 (omega (arith, e, short))
 
 -- nor a note
-pub no_note : (layout : Layout) (side : PoolSide) (pool : Pool) (place field slot : ℕ) (way : Way) → IsOwnField layout side pool place field → field_at layout Slots slot (note_field way) ≢ field_at layout pool place field
+pub no_note : (layout : Layout) (side : PoolSide) (pool : Pool) (place field slot : ℕ) (way : Way) → IsOwnField layout side pool place field →
+    field_at layout Slots slot (note_field way) ≢ field_at layout pool place field
 no_note layout side Slots place field slot way own e = let short = own.3 in let late = note_late way in let soon = note_soon way in absurd (omega (arith, short, late, soon, e))
 no_note layout side Nodes place field slot way own e = let low = own.1 in let short = own.2 in absurd (omega (arith, low, short, e))
 
 -- nor a turn or a phase
-pub no_turn : (layout : Layout) (side : PoolSide) (pool : Pool) (place field slot f : ℕ) → IsOwnField layout side pool place field → slot < layout.slots → IsTurnField f → field_at layout Slots slot f ≢ field_at layout pool place field
+pub no_turn : (layout : Layout) (side : PoolSide) (pool : Pool) (place field slot f : ℕ) → IsOwnField layout side pool place field →
+    slot < layout.slots → IsTurnField f → field_at layout Slots slot f ≢ field_at layout pool place field
 no_turn layout side Slots place field slot f own h is e = ⊎_elim
     (λ (turn : f ≡ turn_field). absurd (let low = own.2 in let high = own.3 in omega (arith, turn, low, high, e)))
     (λ (phase : f ≡ phase_field). own.4 (let high = own.3 in omega (arith, phase, high, e)))
     is
 no_turn layout side Nodes place field slot f own h is e = absurd (let low = own.1 in let high = own.2 in omega (arith, low, high, e))
 
-not_true : (test : Bool) → not test ≡ true → test ≡ false
-not_true true e = sym e
-not_true false e = refl
-
--- what a filter keeps
-pub filter_has : {X : Type 0} (p : X → Bool) (xs : List X) (x : X) → Contains (filter p xs) x → Contains xs x × (p x ≡ true)
-filter_has p [] x c = absurd (none_listed x c)
-filter_has {X} p (y ∷ ys) x c = by_test (λ d. filter_has p ys x d) (p y) refl c
-  where
-    by_test : (Contains (filter p ys) x → Contains ys x × (p x ≡ true)) → (test : Bool) → p y ≡ test → Contains (cond test (y ∷ filter p ys) (filter p ys)) x → Contains (y ∷ ys) x × (p x ≡ true)
-    by_test rest true e d = ⊎_elim
-        (λ (same : y ≡ x). (Contains-append_left (y ∷ []) ys x (subst (λ (z : X). Contains (y ∷ []) z) same (Contains-push [] y)), ap p (sym same) ∙ e))
-        (λ (f : Contains (filter p ys) x). let r = rest f in (Contains-append_right (y ∷ []) ys x r.0, r.1))
-        (cons_cases y x (filter p ys) d)
-    by_test rest false e d = let r = rest d in (Contains-append_right (y ∷ []) ys x r.0, r.1)
-
-pub has_filtered : {X : Type 0} (p : X → Bool) (xs : List X) (x : X) → Contains xs x → p x ≡ true → Contains (filter p xs) x
-has_filtered p [] x c e = absurd (none_listed x c)
-has_filtered {X} p (y ∷ ys) x c e = by_test (λ d. has_filtered p ys x d e) (p y) refl
-  where
-    by_test : (Contains ys x → Contains (filter p ys) x) → (test : Bool) → p y ≡ test → Contains (cond test (y ∷ filter p ys) (filter p ys)) x
-    by_test rest true is = ⊎_elim
-        (λ (same : y ≡ x). Contains-append_left (y ∷ []) (filter p ys) x (subst (λ (z : X). Contains (y ∷ []) z) same (Contains-push [] y)))
-        (λ (d : Contains ys x). Contains-append_right (y ∷ []) (filter p ys) x (rest d))
-        (cons_cases y x ys c)
-    by_test rest false is = ⊎_elim
-        (λ (same : y ≡ x). absurd (let no : true ≡ false = sym e ∙ (ap p (sym same) ∙ is) in cc))
-        rest
-        (cons_cases y x ys c)
-
 -- a slot's words are forgotten: the others stand still
 module _ (layout : Layout) (words : List ℕ) (side : PoolSide) (slot : ℕ) where
   -- a word of another place isn't one of the slot's
-  other_place : (a b : Pool) (p q f g : ℕ) → is_slots a && (p == slot) ≡ true → is_slots b && (q == slot) ≡ false → IsOwnField layout side a p f → IsOwnField layout side b q g → field_at layout a p f ≢ field_at layout b q g
+  other_place : (a b : Pool) (p q f g : ℕ) → is_slots a && (p == slot) ≡ true → is_slots b && (q == slot) ≡ false →
+      IsOwnField layout side a p f → IsOwnField layout side b q g → field_at layout a p f ≢ field_at layout b q g
   other_place Slots Slots p q f g mine other own own' e =
       let same : p ≡ slot = (Decides-eqb p slot).0 mine in
       let ne : q ≢ slot = not_from_Decides _ (Decides-eqb q slot) other in
@@ -158,21 +130,25 @@ module _ (layout : Layout) (words : List ℕ) (side : PoolSide) (slot : ℕ) whe
           stored_value layout (cond (not b) (s ∷ stored_but slot rest) (stored_but slot rest)) word ≡ Some n → stored_value layout (s ∷ rest) word ≡ Some n
       by_slot more true is d =
           let left = was_stored layout (stored_but slot rest) word n d in
-          let kept = filter_has (λ x. not (is_of_slot slot x)) rest left.s left.listed in
-          let apart = other_place s.pool left.s.pool s.place left.s.place s.field left.s.field is (not_true (is_of_slot slot left.s) kept.1) (own s first) (own left.s (Contains-append_right (s ∷ []) rest left.s kept.0)) in
+          let kept = Contains-filter_parts (λ x. not (is_of_slot slot x)) rest left.s left.listed in
+          let apart = other_place s.pool left.s.pool s.place left.s.place s.field left.s.field is (not-true (is_of_slot slot left.s) kept.1)
+          (own s first) (own left.s (Contains-append_right (s ∷ []) rest left.s kept.0)) in
           ap (λ b. cond b (Some s.value) (stored_value layout rest word)) (ne_eqb (field_at layout s.pool s.place s.field) word (λ here. apart (here ∙ sym left.there))) ∙ more d
       by_slot more false is d = by_word (eqb (field_at layout s.pool s.place s.field) word) refl d
         where
-          by_word : (b : Bool) → eqb (field_at layout s.pool s.place s.field) word ≡ b → cond b (Some s.value) (stored_value layout (stored_but slot rest) word) ≡ Some n → cond b (Some s.value) (stored_value layout rest word) ≡ Some n
+          by_word : (b : Bool) → eqb (field_at layout s.pool s.place s.field) word ≡ b →
+              cond b (Some s.value) (stored_value layout (stored_but slot rest) word) ≡ Some n → cond b (Some s.value) (stored_value layout rest word) ≡ Some n
           by_word true here f = f
           by_word false here f = more f
 
-  pub fits_but : FitsStored layout words side → (builds : List ConnId) → ((p : ℕ) → p ≢ slot → IsBuiltIn side.builds p → IsBuiltIn builds p) → FitsStored layout words (record side { builds = builds; stored = stored_but slot side.stored })
+  pub fits_but : FitsStored layout words side → (builds : List ConnId) → ((p : ℕ) → p ≢ slot → IsBuiltIn side.builds p → IsBuiltIn builds p) →
+      FitsStored layout words (record side { builds = builds; stored = stored_but slot side.stored })
   fits_but fits builds still = record {
-    own = λ s c. (let left = filter_has (λ x. not (is_of_slot slot x)) side.stored s c in owns s.pool s.place s.field (not_true (is_of_slot slot s) left.1) (fits.own s left.0));
+    own = λ s c. (let left = Contains-filter_parts (λ x. not (is_of_slot slot x)) side.stored s c in owns s.pool s.place s.field (not-true (is_of_slot slot s) left.1) (fits.own s left.0));
     stands = λ word n e. fits.stands word n (forgets side.stored fits.own word n e);
   }
     where
-      owns : (pool : Pool) (place field : ℕ) → is_slots pool && (place == slot) ≡ false → IsOwnField layout side pool place field → IsOwnField layout (record side { builds = builds; stored = stored_but slot side.stored }) pool place field
+      owns : (pool : Pool) (place field : ℕ) → is_slots pool && (place == slot) ≡ false → IsOwnField layout side pool place field →
+          IsOwnField layout (record side { builds = builds; stored = stored_but slot side.stored }) pool place field
       owns Slots place field other own = (still place (not_from_Decides _ (Decides-eqb place slot) other) own.0, own.1, own.2, own.3, own.4)
       owns Nodes place field other own = own

@@ -1,18 +1,13 @@
 -- The part on turns stays through steps that leave its words, and through one that changes who has the turn of a slot.
 use Rattle.std.proofs.Common.{◌≡◌, ◌≢◌, ℕ, ◌<◌, ◌≤◌, cond, eq-eqb, ne_eqb, Option, Some, None, List, [], ◌∷◌, ◌++◌, set, length, refl, sym, ap, ◌∙◌, subst, ⊎_elim, inl, inr, arith}
-use Rattle.std.proofs.lemmas.Bool.{cases_eq}
-use Rattle.std.proofs.lemmas.List.Sums.{sum_by_push}
+use Rattle.std.proofs.lemmas.{Bool.cases_eq, List.Sums.sum_by_push}
 use mathlib.Core.Option.{some}
 use lib.ListN.{get_elem?}
 use Rattle.atomic_table.proofs.Lists.{at_set, at_snoc}
-use Rattle.npf_core.specs.declared.slot.Slot.{Slot}
-use Rattle.npf_core.specs.declared.stage.Stage.{Stage}
-use Rattle.npf_core.specs.declared.stage.Stage.TheVariants.{Vacant, Building, Live, Dead}
-use Rattle.npf_core.specs.Machine.{Machine}
+use Rattle.npf_core.specs.{declared.{slot.Slot.Slot, stage.Stage.{Stage, TheVariants.{Vacant, Building, Live, Dead}}}, Machine.Machine}
 use Rattle.npf_cells_words.specs.declared.layout.Layout.{Layout}
 use Rattle.npf_seats.proofs.SumLemmas.{sum-set, one_of_sum, two_of_sum}
-use Rattle.npf_cells_lives.specs.declared.turn.Turn.{Turn}
-use Rattle.npf_cells_lives.specs.LivesLaw.{TurnAlone}
+use Rattle.npf_cells_lives.specs.{declared.turn.Turn.Turn, LivesLaw.TurnAlone}
 use Rattle.npf_cells_lives.specs.Turns.{Homes, running, stage_phase, turn_word, phase_word, has_turn, turn_holders, StaysAt, FitsTurn, IsAtHome, Turns}
 
 -- a slot whose phase is 0 holds nothing
@@ -23,7 +18,8 @@ nothing_runs (Live flow steps) e = absurd cc
 nothing_runs Dead e = refl
 
 pub phase_stays : {S : Type 0} (was now : Slot S) → StaysAt was now → stage_phase now.stage ≡ stage_phase was.stage
-phase_stays {S} was now stays = ⊎_elim (λ (same : now ≡ was). ap (λ (x : Slot S). stage_phase x.stage) same) (λ (none : (stage_phase was.stage ≡ 0) × (stage_phase now.stage ≡ 0)). none.1 ∙ sym none.0) stays
+phase_stays {S} was now stays = ⊎_elim (λ (same : now ≡ was). ap (λ (x : Slot S). stage_phase x.stage) same)
+    (λ (none : (stage_phase was.stage ≡ 0) × (stage_phase now.stage ≡ 0)). none.1 ∙ sym none.0) stays
 
 pub running_stays : {S : Type 0} (was now : Slot S) → StaysAt was now → running now.stage ≡ running was.stage
 running_stays {S} was now stays = ⊎_elim
@@ -60,7 +56,8 @@ module _ {S V : Type 0} (turn_of : V → Option (Turn S)) (layout : Layout) wher
 
   -- the part after such a step, where who has a turn is the same
   pub turns_so : (k k' : Machine S) (words words' : List ℕ) (homes : Homes S) (views views' : List V) → Turns turn_of layout k words homes views → TurnsStay k k' words words' →
-      ((slot : ℕ) → turn_holders turn_of views' slot ≡ turn_holders turn_of views slot) → ((j : ℕ) (v : V) (turn : Turn S) → get_elem? views' j ≡ some v → turn_of v ≡ Some turn → FitsTurn layout k words turn) →
+      ((slot : ℕ) → turn_holders turn_of views' slot ≡ turn_holders turn_of views slot) →
+      ((j : ℕ) (v : V) (turn : Turn S) → get_elem? views' j ≡ some v → turn_of v ≡ Some turn → FitsTurn layout k words turn) →
       Turns turn_of layout k' words' homes views'
   turns_so k k' words words' homes views views' kept same holders each = record {
     reach = kept.reach;
@@ -89,13 +86,15 @@ module _ {S V : Type 0} (turn_of : V → Option (Turn S)) (layout : Layout) wher
       (at_set views i j w u e)
 
   -- one view changes, and has the turn that it had
-  pub turns-kept : (k k' : Machine S) (words words' : List ℕ) (homes : Homes S) (views : List V) (i : ℕ) (v w : V) → Turns turn_of layout k words homes views → get_elem? views i ≡ some v → turn_of w ≡ turn_of v →
+  pub turns-kept : (k k' : Machine S) (words words' : List ℕ) (homes : Homes S) (views : List V) (i : ℕ) (v w : V) →
+      Turns turn_of layout k words homes views → get_elem? views i ≡ some v → turn_of w ≡ turn_of v →
       TurnsStay k k' words words' → Turns turn_of layout k' words' homes (set views i w)
   turns-kept k k' words words' homes views i v w kept at same stay =
       turns_so k k' words words' homes views (set views i w) kept stay (holders-set views i v w at same) (each-set k words homes views i v w kept at same)
 
   -- one view changes, which has a turn of the same slot, that fits
-  pub turns-like : (k k' : Machine S) (words words' : List ℕ) (homes : Homes S) (views : List V) (i : ℕ) (v w : V) → Turns turn_of layout k words homes views → get_elem? views i ≡ some v → ((slot : ℕ) → has_turn slot (turn_of w) ≡ has_turn slot (turn_of v)) →
+  pub turns-like : (k k' : Machine S) (words words' : List ℕ) (homes : Homes S) (views : List V) (i : ℕ) (v w : V) → Turns turn_of layout k words homes views →
+      get_elem? views i ≡ some v → ((slot : ℕ) → has_turn slot (turn_of w) ≡ has_turn slot (turn_of v)) →
       ((turn : Turn S) → turn_of w ≡ Some turn → FitsTurn layout k words turn) → TurnsStay k k' words words' → Turns turn_of layout k' words' homes (set views i w)
   turns-like k k' words words' homes views i v w kept at same fits stay =
       turns_so k k' words words' homes views (set views i w) kept stay
@@ -106,7 +105,8 @@ module _ {S V : Type 0} (turn_of : V → Option (Turn S)) (layout : Layout) wher
       (at_set views i j w u e))
 
   -- a view comes that has no turn
-  pub turns-push : (k : Machine S) (words : List ℕ) (homes : Homes S) (views : List V) (w : V) → Turns turn_of layout k words homes views → turn_of w ≡ None → Turns turn_of layout k words homes (views ++ w ∷ [])
+  pub turns-push : (k : Machine S) (words : List ℕ) (homes : Homes S) (views : List V) (w : V) →
+      Turns turn_of layout k words homes views → turn_of w ≡ None → Turns turn_of layout k words homes (views ++ w ∷ [])
   turns-push k words homes views w kept none = turns_so k k words words homes views (views ++ w ∷ []) kept (record { turn = λ slot h. refl; phase = λ slot h. refl; slots = λ slot. inl refl })
       (λ slot. (let more = sum_by_push (λ (u : V). has_turn slot (turn_of u)) views w in
       let no : has_turn slot (turn_of w) ≡ 0 = ap (has_turn slot) none in
@@ -117,7 +117,8 @@ module _ {S V : Type 0} (turn_of : V → Option (Turn S)) (layout : Layout) wher
       (at_snoc views w u j e))
 
   -- the turn of a pass is had once
-  pub turn_held : (k : Machine S) (words : List ℕ) (homes : Homes S) (views : List V) (i : ℕ) (v : V) (turn : Turn S) → Turns turn_of layout k words homes views → get_elem? views i ≡ some v → turn_of v ≡ Some turn →
+  pub turn_held : (k : Machine S) (words : List ℕ) (homes : Homes S) (views : List V) (i : ℕ) (v : V) (turn : Turn S) →
+      Turns turn_of layout k words homes views → get_elem? views i ≡ some v → turn_of v ≡ Some turn →
       turn_holders turn_of views turn.slot ≡ 1
   turn_held k words homes views i v turn kept at has =
       let most = kept.alone turn.slot (kept.each i v turn at has).exists in
@@ -152,7 +153,8 @@ module _ {S V : Type 0} (turn_of : V → Option (Turn S)) (layout : Layout) wher
     pub at_home : turn_holders turn_of (set views id w) slot ≡ 0 → IsAtHome layout k' words' homes' slot
     pub mine : (turn' : Turn S) → turn_of w ≡ Some turn' → FitsTurn layout k' words' turn'
 
-  pub turns-changed : (k k' : Machine S) (words words' : List ℕ) (homes homes' : Homes S) (views : List V) (id : ℕ) (v w : V) (slot : ℕ) → Turns turn_of layout k words homes views → get_elem? views id ≡ some v →
+  pub turns-changed : (k k' : Machine S) (words words' : List ℕ) (homes homes' : Homes S) (views : List V) (id : ℕ) (v w : V) (slot : ℕ) →
+      Turns turn_of layout k words homes views → get_elem? views id ≡ some v →
       Changes k k' words words' homes homes' views id v w slot → Turns turn_of layout k' words' homes' (set views id w)
   turns-changed k k' words words' homes homes' views id v w slot kept at change = record {
     reach = change.reach ∙ kept.reach;

@@ -1,3 +1,4 @@
+// What a pass holds of the pools, and what it stored in what it holds.
 use npf_cells_words::Pool;
 use npf_core::{ConnId, Found};
 use std::collections::LinkedList;

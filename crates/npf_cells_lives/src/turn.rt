@@ -1,3 +1,4 @@
+// What a pass knows of the slot whose turn it has.
 use npf_core::Slot;
 
 /// A note of a held way whose leaf is yet to be moved: the pass has stored the number of the place to which it is about to move the leaf.

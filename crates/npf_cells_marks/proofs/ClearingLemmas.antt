@@ -4,30 +4,19 @@ use Rattle.std.proofs.Common.{◌≡◌, ◌≢◌, ℕ, ◌<◌, ◌≤◌, Boo
 use Rattle.std.proofs.lemmas.List.Elements.{Contains-append_left, Contains-push}
 use mathlib.Core.Option.{some}
 use lib.ListN.{get_elem?}
+use Rattle.npf_shelf.proofs.ListLemmas.{Contains-later}
 use Rattle.npf_paths.specs.declared.cell.Cell.TheVariants as Cells
 use Rattle.npf_paths.specs.declared.place.Lock.TheVariants as Locking
-use Rattle.npf_paths.specs.declared.place.Place.{Place}
+use Rattle.npf_paths.{specs.{declared.place.Place.Place, CellWords.cell_word, Places.lock_of}, proofs.FillingLemmas.same_or_apart}
 use Rattle.npf_paths.specs.declared.place.Place.TheVariants as Places
-use Rattle.npf_paths.specs.CellWords.{cell_word}
-use Rattle.npf_paths.specs.Places.{lock_of}
-use Rattle.npf_paths.proofs.FillingLemmas.{same_or_apart}
-use Rattle.npf_cells_words.specs.declared.layout.Layout.{Layout}
-use Rattle.npf_cells_words.specs.declared.mark.Emptied.{Emptied}
-use Rattle.npf_cells_words.specs.declared.mark.Marked.{Marked}
-use Rattle.npf_cells_words.specs.declared.mark.MetMark.{MetMark}
-use Rattle.npf_cells_words.specs.Codes.{place_code}
-use Rattle.npf_cells_words.specs.Layout.{epoch_word}
-use Rattle.npf_cells_words.specs.MarkWords.{state_word, IsMarkOf, IsBareNode}
-use Rattle.npf_cells_words.specs.Places.{place_at, IsInTrie, IsPlaceIn}
-use Rattle.npf_cells_words.proofs.CodeLemmas.{codes_are_apart}
-use Rattle.npf_seats.proofs.PrefixLemmas.{cons_cases}
-use Rattle.npf_seats.proofs.SumLemmas.{set_there}
-use Rattle.npf_cells_lives.specs.Deaths.{has_epoch}
-use Rattle.npf_cells_lives.proofs.DeathLemmas.{epoch_note}
+use Rattle.npf_cells_words.specs.{declared.{layout.Layout.Layout, mark.{Emptied.Emptied, Marked.Marked, MetMark.MetMark}}, Codes.place_code, Layout.epoch_word}
+use Rattle.npf_cells_words.{specs.{MarkWords.{state_word, IsMarkOf, IsBareNode}, Places.{place_at, IsInTrie, IsPlaceIn}}, proofs.CodeLemmas.codes_are_apart}
+use Rattle.npf_seats.proofs.{PrefixLemmas.cons_cases, SumLemmas.set_there}
+use Rattle.npf_cells_lives.{specs.Deaths.has_epoch, proofs.DeathLemmas.epoch_note}
 use Rattle.npf_cells_marks.specs.Marks.{MarkSide, RestsIn, FitsPlaced, FitsMarked, FitsEmptied, FitsMet, HasMark, IsUnfreed, Marks}
 use Rattle.npf_cells_marks.specs.Steps.{GetsNodeBack, FreesState}
 use Rattle.npf_cells_marks.proofs.MarkLemmas.{no_epoch_twice, placed_at, marks-changed, unfreed_on, placed_on, marked_on, emptied_on, met_on, bare_on, stands_once}
-use Rattle.npf_cells_marks.proofs.StepLemmas.{later, one_lock}
+use Rattle.npf_cells_marks.proofs.StepLemmas.{one_lock}
 
 -- a place of a node is one of a node that the table has, under that node's lock
 pub in_node : (layout : Layout) (p : Place) (n : ℕ) → IsPlaceIn n p → IsInTrie layout p → (n < layout.nodes) × (lock_of p ≡ Locking.Node n)
@@ -35,11 +24,12 @@ in_node layout (Places.Root digit) n within inside = absurd within
 in_node layout (Places.Node other digit) n within inside = (subst (λ x. x < layout.nodes) within inside.0, ap (λ x. Locking.Node x) within)
 
 -- and nothing stands in it where the node is bare
-bare_place : (layout : Layout) (words : List ℕ) (p : Place) (n : ℕ) → IsPlaceIn n p → IsInTrie layout p → IsBareNode layout words n → slice_index words (place_at layout p) ≡ 0
+pub bare_place : (layout : Layout) (words : List ℕ) (p : Place) (n : ℕ) → IsPlaceIn n p → IsInTrie layout p → IsBareNode layout words n → slice_index words (place_at layout p) ≡ 0
 bare_place layout words (Places.Root digit) n within inside bare = absurd within
 bare_place layout words (Places.Node other digit) n within inside bare = ap (λ x. slice_index words (place_at layout (Places.Node x digit))) within ∙ bare digit inside.1
 
-module _ {V : Type 0} (side_of : V → MarkSide) (layout : Layout) (published published' words words' : List ℕ) (views : List V) (i : ℕ) (p : Place) (node epoch : ℕ) (v w : V) (kept : Marks side_of layout published words views) (at : get_elem? views i ≡ some v)
+module _ {V : Type 0} (side_of : V → MarkSide) (layout : Layout) (published published' words words' : List ℕ) (views : List V) (i : ℕ) (p : Place)
+    (node epoch : ℕ) (v w : V) (kept : Marks side_of layout published words views) (at : get_elem? views i ≡ some v)
     (step : GetsNodeBack side_of layout published published' words words' views i p node epoch v w) where
   clearer_rests : (n : ℕ) → HasMark layout words n → RestsIn (side_of w) n → RestsIn (side_of v) n × ((side_of w).protecting ≡ (side_of v).protecting)
   clearer_rests n mark rests = (step.rests.rests n rests, step.rests.protecting)
@@ -102,8 +92,10 @@ module _ {V : Type 0} (side_of : V → MarkSide) (layout : Layout) (published pu
           let here = marked_there in
           ne (omega (arith, stands, here))
 
-  marked_left : (side side' : MarkSide) (m : Marked) → FitsMarked side_of layout published words views side m → m.node ≢ node → Contains side'.locks (Locking.Node m.node) → side'.loaded ≡ side.loaded → FitsMarked side_of layout published' words' (set views i w) side' m
-  marked_left side side' m was ne locked loaded = marked_on side_of layout published published' words words' views i v w at clearer_goes clearer_rests side side' m was locked (λ _. loaded) (step.left m.node was.listed ne)
+  marked_left : (side side' : MarkSide) (m : Marked) → FitsMarked side_of layout published words views side m → m.node ≢ node →
+      Contains side'.locks (Locking.Node m.node) → side'.loaded ≡ side.loaded → FitsMarked side_of layout published' words' (set views i w) side' m
+  marked_left side side' m was ne locked loaded =
+      marked_on side_of layout published published' words words' views i v w at clearer_goes clearer_rests side side' m was locked (λ _. loaded) (step.left m.node was.listed ne)
       (step.changes.parents m.node was.exists) (bare_left m.node was.exists was.bare) (λ q inside names. step.changes.others q inside (elsewhere side m was ne q inside names))
 
   -- the place where the mark was is all that the seat knows to be empty
@@ -116,7 +108,8 @@ module _ {V : Type 0} (side_of : V → MarkSide) (layout : Layout) (published pu
         exists = there.0;
         listed = step.left e.node (step.hung e.node knows.0) (λ same. full (bare_place layout words p e.node knows.0 inside_p (subst (λ n. IsBareNode layout words n) (sym same) fits_there.bare)));
         locked = subst (λ ls. Contains ls (Locking.Node e.node)) (sym step.locks) locked;
-        unmarked = λ m c same. full (bare_place layout words p e.node knows.0 inside_p (subst (λ n. IsBareNode layout words n) same (kept.marks i v m at (subst (λ ms. Contains ms m) step.marks c)).bare));
+        unmarked = λ m c same.
+            full (bare_place layout words p e.node knows.0 inside_p (subst (λ n. IsBareNode layout words n) same (kept.marks i v m at (subst (λ ms. Contains ms m) step.marks c)).bare));
         parent = λ code has. absurd (let no : None ≡ Some code = sym knows.1 ∙ has in cc);
         bare = λ digit c low. ap (λ q. slice_index words' (place_at layout q)) (sym (knows.2 digit c)) ∙ step.stored;
       }
@@ -132,7 +125,8 @@ module _ {V : Type 0} (side_of : V → MarkSide) (layout : Layout) (published pu
     seat = i;
     view = w;
     there = set_there views i v w at;
-    has = subst (λ ns. Contains ns n) (sym step.unfreed) (subst (λ x. Contains (node ∷ (side_of v).unfreed) x) (sym same) (Contains-append_left (node ∷ []) (side_of v).unfreed node (Contains-push [] node)));
+    has = subst (λ ns. Contains ns n) (sym step.unfreed) (subst (λ x. Contains (node ∷ (side_of v).unfreed) x)
+        (sym same) (Contains-append_left (node ∷ []) (side_of v).unfreed node (Contains-push [] node)));
   }
 
   pub marks-cleared : Marks side_of layout published' words' (set views i w)
@@ -140,7 +134,8 @@ module _ {V : Type 0} (side_of : V → MarkSide) (layout : Layout) (published pu
       (λ q n inside is.
       let was = stood q n inside is in
       let fits = kept.placed q n inside was in
-      placed_on side_of layout published published' words words' views i v w at clearer_goes clearer_rests q n inside was fits (step.changes.parents n fits.exists) (step.changes.states n fits.exists) (bare_left n fits.exists fits.bare)
+      placed_on side_of layout published published' words words' views i v w at clearer_goes clearer_rests q n inside was fits
+      (step.changes.parents n fits.exists) (step.changes.states n fits.exists) (bare_left n fits.exists fits.bare)
       (step.left n fits.listed (else_node q n inside is)))
       (λ q n inside is c. subst (λ ms. Contains ms (placed_at q n)) (sym step.marks) (kept.held i v q n at inside (stood q n inside is) (subst (λ ls. Contains ls (Locking.Node n)) step.locks c)))
       (λ j u q n ne e inside is c. kept.held j u q n e inside (stood q n inside is) c)
@@ -151,7 +146,8 @@ module _ {V : Type 0} (side_of : V → MarkSide) (layout : Layout) (published pu
       new_emptied
       (λ j u y ne e is.
       let was = kept.emptied j u y e is in
-      emptied_on side_of layout published published' words words' views i v w at (side_of u) (side_of u) y was was.locked was.unmarked (step.left y.node was.listed (other_node j u y.node e was.locked)) (step.changes.parents y.node was.exists)
+      emptied_on side_of layout published published' words words' views i v w at (side_of u) (side_of u) y was was.locked was.unmarked
+      (step.left y.node was.listed (other_node j u y.node e was.locked)) (step.changes.parents y.node was.exists)
       (λ digit c low. ⊎_elim
       (λ (here : Places.Node y.node digit ≡ p). absurd (full (ap (λ q. slice_index words (place_at layout q)) (sym here) ∙ was.bare digit c low)))
       (λ (else' : Places.Node y.node digit ≢ p). step.changes.others (Places.Node y.node digit) (was.exists, low) else')
@@ -160,7 +156,8 @@ module _ {V : Type 0} (side_of : V → MarkSide) (layout : Layout) (published pu
       (λ j u y ne e is.
       let was = kept.met j u y e is in
       let else' : y.place ≢ p = (λ here. step.alone j u ne e (subst (λ q. Contains (side_of u).locks (lock_of q)) here was.locked)) in
-      met_on side_of layout published published' words words' views i v w at (side_of u) (side_of u) y was was.locked (step.changes.others y.place was.inside else') (step.changes.states y.node was.exists))
+      met_on side_of layout published published' words words' views i v w at (side_of u) (side_of u) y was was.locked
+      (step.changes.others y.place was.inside else') (step.changes.states y.node was.exists))
       (λ n c. ⊎_elim
       (λ (same : node ≡ n). subst (λ x. (x < layout.nodes) × (has_epoch (state_word layout words' x) ≡ 1)) same (met_mark.exists, epoch_there))
       (λ (had : Contains (side_of v).unfreed n). epoch_stays n (kept.unfreed i v n at had))
@@ -174,10 +171,12 @@ module _ {V : Type 0} (side_of : V → MarkSide) (layout : Layout) (published pu
       inr (now_unfreed n (omega (arith, also, this))))
       (λ (else' : mark.place ≢ p). inl (record { place = mark.place; inside = mark.inside; stands = step.changes.others mark.place mark.inside else' ∙ mark.stands }))
       (same_or_apart mark.place p))
-      (λ (was : IsUnfreed side_of views n). inr (unfreed_on side_of layout published published' words words' views i v w at n (λ c. subst (λ ns. Contains ns n) (sym step.unfreed) (later node n (side_of v).unfreed c)) was))
+      (λ (was : IsUnfreed side_of views n). inr (unfreed_on side_of layout published published' words words' views i v w at n
+      (λ c. subst (λ ns. Contains ns n) (sym step.unfreed) (Contains-later node n (side_of v).unfreed c)) was))
       (kept.states n exists (ap has_epoch (sym (step.changes.states n exists)) ∙ e)))
 
-module _ {V : Type 0} (side_of : V → MarkSide) (layout : Layout) (published words words' : List ℕ) (views : List V) (i : ℕ) (node : ℕ) (v w : V) (kept : Marks side_of layout published words views) (at : get_elem? views i ≡ some v)
+module _ {V : Type 0} (side_of : V → MarkSide) (layout : Layout) (published words words' : List ℕ) (views : List V) (i : ℕ)
+    (node : ℕ) (v w : V) (kept : Marks side_of layout published words views) (at : get_elem? views i ≡ some v)
     (step : FreesState side_of layout published words words' views i node v w) where
   owner_rests : (n : ℕ) → HasMark layout words n → RestsIn (side_of w) n → RestsIn (side_of v) n × ((side_of w).protecting ≡ (side_of v).protecting)
   owner_rests n mark rests = (step.rests.rests n rests, step.rests.protecting)
@@ -197,16 +196,21 @@ module _ {V : Type 0} (side_of : V → MarkSide) (layout : Layout) (published wo
   epoch_else : (n : ℕ) → n ≢ node → (n < layout.nodes) × (has_epoch (state_word layout words n) ≡ 1) → (n < layout.nodes) × (has_epoch (state_word layout words' n) ≡ 1)
   epoch_else n ne was = (was.0, ap has_epoch (step.changes.others n was.0 (apart n ne)) ∙ was.1)
 
-  marked_same : (side side' : MarkSide) (m : Marked) → FitsMarked side_of layout published words views side m → side'.locks ≡ side.locks → side'.loaded ≡ side.loaded → FitsMarked side_of layout published words' (set views i w) side' m
-  marked_same side side' m was locks loaded = marked_on side_of layout published published words words' views i v w at owner_goes owner_rests side side' m was (subst (λ ls. Contains ls (Locking.Node m.node)) (sym locks) was.locked) (λ _. loaded) was.listed
+  marked_same : (side side' : MarkSide) (m : Marked) → FitsMarked side_of layout published words views side m → side'.locks ≡ side.locks →
+      side'.loaded ≡ side.loaded → FitsMarked side_of layout published words' (set views i w) side' m
+  marked_same side side' m was locks loaded = marked_on side_of layout published published words words' views i v w at owner_goes owner_rests side side' m was
+      (subst (λ ls. Contains ls (Locking.Node m.node)) (sym locks) was.locked) (λ _. loaded) was.listed
       (step.changes.parents m.node was.exists) (bare_on layout words words' step.changes.places m.node was.exists was.bare) (λ q inside names. step.changes.places q inside)
 
   emptied_same : (side side' : MarkSide) (e : Emptied) → FitsEmptied layout published words side e → side'.locks ≡ side.locks → side'.marks ≡ side.marks → FitsEmptied layout published words' side' e
-  emptied_same side side' e was locks marks = emptied_on side_of layout published published words words' views i v w at side side' e was (subst (λ ls. Contains ls (Locking.Node e.node)) (sym locks) was.locked)
-      (λ m c. was.unmarked m (subst (λ ms. Contains ms m) marks c)) was.listed (step.changes.parents e.node was.exists) (λ digit c low. step.changes.places (Places.Node e.node digit) (was.exists, low))
+  emptied_same side side' e was locks marks =
+      emptied_on side_of layout published published words words' views i v w at side side' e was (subst (λ ls. Contains ls (Locking.Node e.node)) (sym locks) was.locked)
+      (λ m c. was.unmarked m (subst (λ ms. Contains ms m) marks c)) was.listed (step.changes.parents e.node was.exists)
+      (λ digit c low. step.changes.places (Places.Node e.node digit) (was.exists, low))
 
   met_same : (side side' : MarkSide) (x : MetMark) → FitsMet layout words side x → side'.locks ≡ side.locks → FitsMet layout words' side' x
-  met_same side side' x was locks = met_on side_of layout published published words words' views i v w at side side' x was (subst (λ ls. Contains ls (lock_of x.place)) (sym locks) was.locked) (step.changes.places x.place was.inside)
+  met_same side side' x was locks = met_on side_of layout published published words words' views i v w at side side' x was
+      (subst (λ ls. Contains ls (lock_of x.place)) (sym locks) was.locked) (step.changes.places x.place was.inside)
       (step.changes.others x.node was.exists (marked_else x.place x.node was.inside was.stands))
 
   pub marks-regained : Marks side_of layout published words' (set views i w)
@@ -214,9 +218,11 @@ module _ {V : Type 0} (side_of : V → MarkSide) (layout : Layout) (published wo
       (λ q n inside is.
       let was = stood_still q n inside is in
       let fits = kept.placed q n inside was in
-      placed_on side_of layout published published words words' views i v w at owner_goes owner_rests q n inside was fits (step.changes.parents n fits.exists) (step.changes.others n fits.exists (marked_else q n inside was))
+      placed_on side_of layout published published words words' views i v w at owner_goes owner_rests q n inside was fits
+      (step.changes.parents n fits.exists) (step.changes.others n fits.exists (marked_else q n inside was))
       (bare_on layout words words' step.changes.places n fits.exists fits.bare) fits.listed)
-      (λ q n inside is c. subst (λ ms. Contains ms (placed_at q n)) (sym step.marks) (kept.held i v q n at inside (stood_still q n inside is) (subst (λ ls. Contains ls (Locking.Node n)) step.locks c)))
+      (λ q n inside is c. subst (λ ms. Contains ms (placed_at q n)) (sym step.marks)
+      (kept.held i v q n at inside (stood_still q n inside is) (subst (λ ls. Contains ls (Locking.Node n)) step.locks c)))
       (λ j u q n ne e inside is c. kept.held j u q n e inside (stood_still q n inside is) c)
       (λ m c. marked_same (side_of v) (side_of w) m (kept.marks i v m at (subst (λ ms. Contains ms m) step.marks c)) step.locks step.loaded)
       (λ j u m ne e c. marked_same (side_of u) (side_of u) m (kept.marks j u m e c) refl refl)
@@ -233,6 +239,7 @@ module _ {V : Type 0} (side_of : V → MarkSide) (layout : Layout) (published wo
       absurd (no_epoch_twice (state_word layout words' n) (ap has_epoch none) e))
       (λ (ne : Locking.Node node ≢ Locking.Node n). ⊎_elim
       (λ (mark : HasMark layout words n). inl (record { place = mark.place; inside = mark.inside; stands = step.changes.places mark.place mark.inside ∙ mark.stands }))
-      (λ (was : IsUnfreed side_of views n). inr (unfreed_on side_of layout published published words words' views i v w at n (λ c. step.freed n c (λ same. ne (ap (λ x. Locking.Node x) (sym same)))) was))
+      (λ (was : IsUnfreed side_of views n).
+      inr (unfreed_on side_of layout published published words words' views i v w at n (λ c. step.freed n c (λ same. ne (ap (λ x. Locking.Node x) (sym same)))) was))
       (kept.states n exists (ap has_epoch (sym (step.changes.others n exists ne)) ∙ e)))
       (one_lock (Locking.Node node) (Locking.Node n)))

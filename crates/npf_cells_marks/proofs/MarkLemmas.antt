@@ -1,27 +1,17 @@
 -- The part on marks from its clauses, where one seat changes; and what it says of two places, of two seats, and of one that may be in a node.
-use Rattle.std.specs.List.{Contains}
-use Rattle.std.proofs.Common.{◌≡◌, ◌≢◌, ◌⊎◌, ℕ, ◌<◌, ◌≤◌, true, Some, List, set, slice_index, sym, ap, ◌∙◌, subst, ⊎_elim, arith}
+use Rattle.std.{specs.List.Contains, proofs.Common.{◌≡◌, ◌≢◌, ◌⊎◌, ℕ, ◌<◌, ◌≤◌, true, Some, List, set, slice_index, sym, ap, ◌∙◌, subst, ⊎_elim, arith}}
 use Rattle.std.proofs.lemmas.Bool.{cases_eq}
 use mathlib.Core.Option.{some, some-injective}
 use lib.ListN.{get_elem?}
 use Rattle.atomic_table.proofs.Lists.{at_set, set_else}
 use Rattle.npf_paths.specs.declared.place.Lock.TheVariants as Locking
-use Rattle.npf_paths.specs.declared.place.Place.{Place}
+use Rattle.npf_paths.specs.{declared.place.Place.Place, Places.lock_of}
 use Rattle.npf_paths.specs.declared.place.Place.TheVariants as Places
-use Rattle.npf_paths.specs.Places.{lock_of}
-use Rattle.npf_cells_words.specs.declared.layout.Layout.{Layout}
-use Rattle.npf_cells_words.specs.declared.layout.Pool.TheVariants.{Nodes}
-use Rattle.npf_cells_words.specs.declared.mark.Emptied.{Emptied}
-use Rattle.npf_cells_words.specs.declared.mark.Marked.{Marked}
-use Rattle.npf_cells_words.specs.declared.mark.MetMark.{MetMark}
-use Rattle.npf_cells_words.specs.Codes.{place_code}
-use Rattle.npf_cells_words.specs.Layout.{epoch_word, field_at}
-use Rattle.npf_cells_words.specs.MarkWords.{state_word, parent_word, IsMarkOf, IsBareNode}
-use Rattle.npf_cells_words.specs.Places.{place_at, IsInTrie}
-use Rattle.npf_cells_words.proofs.CodeLemmas.{codes_are_apart}
+use Rattle.npf_cells_words.specs.declared.{layout.{Layout.Layout, Pool.TheVariants.Nodes}, mark.{Emptied.Emptied, Marked.Marked, MetMark.MetMark}}
+use Rattle.npf_cells_words.specs.{Codes.place_code, Layout.{epoch_word, field_at}, MarkWords.{state_word, parent_word, IsMarkOf, IsBareNode}}
+use Rattle.npf_cells_words.{specs.Places.{place_at, IsInTrie}, proofs.CodeLemmas.codes_are_apart}
 use Rattle.npf_seats.proofs.SumLemmas.{set_there}
-use Rattle.npf_cells_lives.specs.Deaths.{has_epoch, IsProtectedBy}
-use Rattle.npf_cells_lives.proofs.LockLemmas.{locks_alone}
+use Rattle.npf_cells_lives.{specs.Deaths.{has_epoch, IsProtectedBy}, proofs.LockLemmas.locks_alone}
 use Rattle.npf_cells_marks.specs.Marks.{MarkSide, RestsIn, IsPastNode, FitsPlaced, FitsMarked, FitsEmptied, FitsMet, HasMark, IsUnfreed, Marks}
 use Rattle.npf_cells_marks.specs.MarksLaw.{MarkStandsOnce, MarkedHoldsBack, MarkerIsAlone}
 
@@ -40,7 +30,8 @@ module _ {V : Type 0} (side_of : V → MarkSide) (layout : Layout) (published pu
   -- the part from its clauses, of the seat that changed and of the others
   pub marks-changed : ((p : Place) (node : ℕ) → IsInTrie layout p → IsMarkOf layout words' p node → FitsPlaced side_of layout published' words' views' p node) →
       ((p : Place) (node : ℕ) → IsInTrie layout p → IsMarkOf layout words' p node → Contains (side_of w).locks (Locking.Node node) → Contains (side_of w).marks (placed_at p node)) →
-      ((j : ℕ) (u : V) (p : Place) (node : ℕ) → j ≢ i → get_elem? views j ≡ some u → IsInTrie layout p → IsMarkOf layout words' p node → Contains (side_of u).locks (Locking.Node node) → Contains (side_of u).marks (placed_at p node)) →
+      ((j : ℕ) (u : V) (p : Place) (node : ℕ) → j ≢ i → get_elem? views j ≡ some u → IsInTrie layout p → IsMarkOf layout words' p node →
+      Contains (side_of u).locks (Locking.Node node) → Contains (side_of u).marks (placed_at p node)) →
       ((m : Marked) → Contains (side_of w).marks m → FitsMarked side_of layout published' words' views' (side_of w) m) →
       ((j : ℕ) (u : V) (m : Marked) → j ≢ i → get_elem? views j ≡ some u → Contains (side_of u).marks m → FitsMarked side_of layout published' words' views' (side_of u) m) →
       ((e : Emptied) → (side_of w).emptied ≡ Some e → FitsEmptied layout published' words' (side_of w) e) →
@@ -53,7 +44,8 @@ module _ {V : Type 0} (side_of : V → MarkSide) (layout : Layout) (published pu
   marks-changed placed held held_else marks marks_else emptied emptied_else met met_else unfreed unfreed_else states = record {
     placed = placed;
     held = λ j u p node e inside is c. ⊎_elim
-        (λ (x : (j ≡ i) × (w ≡ u)). subst (λ (y : V). Contains (side_of y).marks (placed_at p node)) x.1 (held p node inside is (subst (λ (y : V). Contains (side_of y).locks (Locking.Node node)) (sym x.1) c)))
+        (λ (x : (j ≡ i) × (w ≡ u)). subst (λ (y : V). Contains (side_of y).marks (placed_at p node)) x.1
+        (held p node inside is (subst (λ (y : V). Contains (side_of y).locks (Locking.Node node)) (sym x.1) c)))
         (λ (x : (j ≢ i) × (get_elem? views j ≡ some u)). held_else j u p node x.0 x.1 inside is c)
         (at_set views i j w u e);
     marks = λ j u m e c. ⊎_elim
@@ -99,7 +91,8 @@ module _ {V : Type 0} (side_of : V → MarkSide) (layout : Layout) (published pu
     }
 
     module _ (rests : (node : ℕ) → HasMark layout words node → RestsIn (side_of w) node → RestsIn (side_of v) node × ((side_of w).protecting ≡ (side_of v).protecting)) where
-      pub placed_on : (p : Place) (node : ℕ) → IsInTrie layout p → IsMarkOf layout words p node → FitsPlaced side_of layout published words views p node → parent_word layout words' node ≡ parent_word layout words node →
+      pub placed_on : (p : Place) (node : ℕ) → IsInTrie layout p → IsMarkOf layout words p node →
+          FitsPlaced side_of layout published words views p node → parent_word layout words' node ≡ parent_word layout words node →
           state_word layout words' node ≡ state_word layout words node → IsBareNode layout words' node → Contains published' node → FitsPlaced side_of layout published' words' views' p node
       placed_on p node inside stands was parent state bare listed = record {
         exists = was.exists;
@@ -110,9 +103,11 @@ module _ {V : Type 0} (side_of : V → MarkSide) (layout : Layout) (published pu
         left = λ epoch e. past_on node epoch (rests node (record { place = p; inside = inside; stands = stands })) (was.left epoch (sym state ∙ e));
       }
 
-      pub marked_on : (side side' : MarkSide) (m : Marked) → FitsMarked side_of layout published words views side m → Contains side'.locks (Locking.Node m.node) → (1 ≤ side'.loaded → side'.loaded ≡ side.loaded) →
+      pub marked_on : (side side' : MarkSide) (m : Marked) → FitsMarked side_of layout published words views side m →
+          Contains side'.locks (Locking.Node m.node) → (1 ≤ side'.loaded → side'.loaded ≡ side.loaded) →
           Contains published' m.node → parent_word layout words' m.node ≡ parent_word layout words m.node → IsBareNode layout words' m.node →
-          ((q : Place) → IsInTrie layout q → m.parent ≡ place_code q → slice_index words' (place_at layout q) ≡ slice_index words (place_at layout q)) → FitsMarked side_of layout published' words' views' side' m
+          ((q : Place) → IsInTrie layout q → m.parent ≡ place_code q → slice_index words' (place_at layout q) ≡ slice_index words (place_at layout q)) →
+          FitsMarked side_of layout published' words' views' side' m
       marked_on side side' m was locked loaded listed parent bare same = record {
         exists = was.exists;
         listed = listed;
@@ -130,8 +125,10 @@ module _ {V : Type 0} (side_of : V → MarkSide) (layout : Layout) (published pu
             (past_on m.node side.loaded (rests m.node (record { place = was.place; inside = was.inside; stands = was.stands e })) (was.past e (subst (λ n. 1 ≤ n) one some')));
       }
 
-  pub emptied_on : (side side' : MarkSide) (e : Emptied) → FitsEmptied layout published words side e → Contains side'.locks (Locking.Node e.node) → ((m : Marked) → Contains side'.marks m → m.node ≢ e.node) → Contains published' e.node →
-      parent_word layout words' e.node ≡ parent_word layout words e.node → ((digit : ℕ) → Contains e.digits digit → digit < 16 → slice_index words' (field_at layout Nodes e.node digit) ≡ slice_index words (field_at layout Nodes e.node digit)) →
+  pub emptied_on : (side side' : MarkSide) (e : Emptied) → FitsEmptied layout published words side e → Contains side'.locks (Locking.Node e.node) →
+      ((m : Marked) → Contains side'.marks m → m.node ≢ e.node) → Contains published' e.node →
+      parent_word layout words' e.node ≡ parent_word layout words e.node → ((digit : ℕ) → Contains e.digits digit → digit < 16 →
+      slice_index words' (field_at layout Nodes e.node digit) ≡ slice_index words (field_at layout Nodes e.node digit)) →
       FitsEmptied layout published' words' side' e
   emptied_on side side' e was locked unmarked listed parent same = record {
     exists = was.exists;
@@ -142,7 +139,8 @@ module _ {V : Type 0} (side_of : V → MarkSide) (layout : Layout) (published pu
     bare = λ digit c low. same digit c low ∙ was.bare digit c low;
   }
 
-  pub met_on : (side side' : MarkSide) (x : MetMark) → FitsMet layout words side x → Contains side'.locks (lock_of x.place) → slice_index words' (place_at layout x.place) ≡ slice_index words (place_at layout x.place) →
+  pub met_on : (side side' : MarkSide) (x : MetMark) → FitsMet layout words side x → Contains side'.locks (lock_of x.place) →
+      slice_index words' (place_at layout x.place) ≡ slice_index words (place_at layout x.place) →
       state_word layout words' x.node ≡ state_word layout words x.node → FitsMet layout words' side' x
   met_on side side' x was locked same state = record {
     inside = was.inside;
@@ -153,11 +151,13 @@ module _ {V : Type 0} (side_of : V → MarkSide) (layout : Layout) (published pu
   }
 
 -- where each place has its word still, a bare node is bare
-pub bare_on : (layout : Layout) (words words' : List ℕ) → ((p : Place) → IsInTrie layout p → slice_index words' (place_at layout p) ≡ slice_index words (place_at layout p)) → (node : ℕ) → node < layout.nodes → IsBareNode layout words node → IsBareNode layout words' node
+pub bare_on : (layout : Layout) (words words' : List ℕ) → ((p : Place) → IsInTrie layout p → slice_index words' (place_at layout p) ≡ slice_index words (place_at layout p)) →
+    (node : ℕ) → node < layout.nodes → IsBareNode layout words node → IsBareNode layout words' node
 bare_on layout words words' same node exists bare digit low = same (Places.Node node digit) (exists, low) ∙ bare digit low
 
 -- the parent of a node whose mark stands names one place
-pub stands_once : {V : Type 0} (side_of : V → MarkSide) (layout : Layout) (published words : List ℕ) (views : List V) (p q : Place) (node : ℕ) → Marks side_of layout published words views → IsInTrie layout p → IsInTrie layout q →
+pub stands_once : {V : Type 0} (side_of : V → MarkSide) (layout : Layout) (published words : List ℕ) (views : List V) (p q : Place) (node : ℕ) →
+    Marks side_of layout published words views → IsInTrie layout p → IsInTrie layout q →
     IsMarkOf layout words p node → IsMarkOf layout words q node → p ≡ q
 stands_once side_of layout published words views p q node kept inside inside' is is' =
     codes_are_apart layout p q inside inside' (sym (kept.placed p node inside is).parent ∙ (kept.placed q node inside' is').parent)
@@ -172,7 +172,8 @@ marker_is_alone layout published words sides i j v w m n kept locks at there min
     (λ ne.
     let first = kept.marks i v m at mine in
     let other = kept.marks j w n there theirs in
-    absurd (locks_alone (λ (side : MarkSide). side.locks) layout words sides i j v w (Locking.Node m.node) locks first.exists at there first.locked (subst (λ node. Contains w.locks (Locking.Node node)) (sym one) other.locked) ne))
+    absurd (locks_alone (λ (side : MarkSide). side.locks) layout words sides i j v w (Locking.Node m.node) locks first.exists at there first.locked
+    (subst (λ node. Contains w.locks (Locking.Node node)) (sym one) other.locked) ne))
     (cases_eq i j)
 
 -- who may be in a node that was let go is protected with its epoch or an earlier one

@@ -3,31 +3,22 @@ use Rattle.std.specs.List.{Contains}
 use Rattle.std.proofs.Common.{◌≡◌, ◌≢◌, ℕ, ◌<◌, ◌≤◌, Bool, true, false, Some, None, List, set, slice_index, refl, sym, ap, ◌∙◌, subst, ⊎_elim, inl, inr, arith}
 use mathlib.Core.Option.{some}
 use lib.ListN.{get_elem?}
+use Rattle.npf_shelf.proofs.ListLemmas.{Contains-later}
 use Rattle.npf_paths.specs.declared.cell.Cell.TheVariants as Cells
 use Rattle.npf_paths.specs.declared.place.Lock.TheVariants as Locking
-use Rattle.npf_paths.specs.declared.place.Place.{Place}
+use Rattle.npf_paths.{specs.{declared.place.Place.Place, CellWords.cell_word, Places.lock_of}, proofs.FillingLemmas.same_or_apart}
 use Rattle.npf_paths.specs.declared.place.Place.TheVariants as Places
-use Rattle.npf_paths.specs.CellWords.{cell_word}
-use Rattle.npf_paths.specs.Places.{lock_of}
-use Rattle.npf_paths.proofs.FillingLemmas.{same_or_apart}
-use Rattle.npf_cells_words.specs.declared.layout.Layout.{Layout}
-use Rattle.npf_cells_words.specs.declared.mark.Emptied.{Emptied}
-use Rattle.npf_cells_words.specs.declared.mark.Marked.{Marked}
-use Rattle.npf_cells_words.specs.declared.mark.MetMark.{MetMark}
-use Rattle.npf_cells_words.specs.Codes.{place_code}
-use Rattle.npf_cells_words.specs.Layout.{epoch_word}
-use Rattle.npf_cells_words.specs.MarkWords.{state_word, parent_word, IsMarkOf, IsBareNode}
-use Rattle.npf_cells_words.specs.Places.{place_at, IsInTrie}
-use Rattle.npf_cells_words.proofs.CodeLemmas.{codes_are_apart}
+use Rattle.npf_cells_words.specs.{declared.{layout.Layout.Layout, mark.{Emptied.Emptied, Marked.Marked, MetMark.MetMark}}, Codes.place_code, Layout.epoch_word}
+use Rattle.npf_cells_words.{specs.{MarkWords.{state_word, parent_word, IsMarkOf, IsBareNode}, Places.{place_at, IsInTrie}}, proofs.CodeLemmas.codes_are_apart}
 use Rattle.npf_seats.proofs.PrefixLemmas.{cons_cases}
-use Rattle.npf_cells_lives.specs.Deaths.{has_epoch}
-use Rattle.npf_cells_lives.proofs.DeathLemmas.{low_note}
+use Rattle.npf_cells_lives.{specs.Deaths.has_epoch, proofs.DeathLemmas.low_note}
 use Rattle.npf_cells_marks.specs.Marks.{MarkSide, RestsIn, FitsPlaced, FitsMarked, FitsEmptied, FitsMet, HasMark, IsUnfreed, Marks}
 use Rattle.npf_cells_marks.specs.Steps.{MarksNode, PlacesMark}
 use Rattle.npf_cells_marks.proofs.MarkLemmas.{no_epoch_twice, placed_at, marks-changed, unfreed_on, placed_on, marked_on, emptied_on, met_on, bare_on}
-use Rattle.npf_cells_marks.proofs.StepLemmas.{later, one_lock}
+use Rattle.npf_cells_marks.proofs.StepLemmas.{one_lock}
 
-module _ {V : Type 0} (side_of : V → MarkSide) (layout : Layout) (published words words' : List ℕ) (views : List V) (i : ℕ) (p : Place) (found : Emptied) (v w : V) (kept : Marks side_of layout published words views) (at : get_elem? views i ≡ some v)
+module _ {V : Type 0} (side_of : V → MarkSide) (layout : Layout) (published words words' : List ℕ) (views : List V) (i : ℕ) (p : Place)
+    (found : Emptied) (v w : V) (kept : Marks side_of layout published words views) (at : get_elem? views i ≡ some v)
     (step : MarksNode side_of layout words words' p found v w) where
   marker_rests : (node : ℕ) → HasMark layout words node → RestsIn (side_of w) node → RestsIn (side_of v) node × ((side_of w).protecting ≡ (side_of v).protecting)
   marker_rests node mark rests = (step.rests.rests node rests, step.rests.protecting)
@@ -82,30 +73,35 @@ module _ {V : Type 0} (side_of : V → MarkSide) (layout : Layout) (published wo
       (step.changes.others node was.exists (mark_apart q node inside (stood q node inside is))) (bare_on layout words words' step.changes.places node was.exists was.bare) was.listed)
       (λ q node inside is c.
       let had = kept.held i v q node at inside (stood q node inside is) (subst (λ ls. Contains ls (Locking.Node node)) step.locks c) in
-      subst (λ ms. Contains ms (placed_at q node)) (sym step.marks) (later (record { node = found.node; parent = place_code p; placed = false }) (placed_at q node) (side_of v).marks had))
+      subst (λ ms. Contains ms (placed_at q node)) (sym step.marks) (Contains-later (record { node = found.node; parent = place_code p; placed = false }) (placed_at q node) (side_of v).marks had))
       (λ j u q node ne e inside is c. kept.held j u q node e inside (stood q node inside is) c)
       (λ m c. ⊎_elim
       (λ (e : record { node = found.node; parent = place_code p; placed = false } ≡ m). subst (λ (x : Marked). FitsMarked side_of layout published words' (set views i w) (side_of w) x) e new_fits)
       (λ (had : Contains (side_of v).marks m).
       let was = kept.marks i v m at had in
-      marked_on side_of layout published published words words' views i v w at marker_goes marker_rests (side_of v) (side_of w) m was (subst (λ ls. Contains ls (Locking.Node m.node)) (sym step.locks) was.locked) (λ _. step.loaded) was.listed
+      marked_on side_of layout published published words words' views i v w at marker_goes marker_rests (side_of v) (side_of w) m was
+      (subst (λ ls. Contains ls (Locking.Node m.node)) (sym step.locks) was.locked) (λ _. step.loaded) was.listed
       (step.changes.parents m.node was.exists) (bare_on layout words words' step.changes.places m.node was.exists was.bare) (λ q inside names. step.changes.places q inside))
       (cons_cases (record { node = found.node; parent = place_code p; placed = false }) m (side_of v).marks (subst (λ ms. Contains ms m) step.marks c)))
       (λ j u m ne e c.
       let was = kept.marks j u m e c in
-      marked_on side_of layout published published words words' views i v w at marker_goes marker_rests (side_of u) (side_of u) m was was.locked (λ _. refl) was.listed (step.changes.parents m.node was.exists)
+      marked_on side_of layout published published words words' views i v w at marker_goes marker_rests (side_of u)
+      (side_of u) m was was.locked (λ _. refl) was.listed (step.changes.parents m.node was.exists)
       (bare_on layout words words' step.changes.places m.node was.exists was.bare) (λ q inside names. step.changes.places q inside))
       (λ y is. absurd (let no : None ≡ Some y = sym step.emptied ∙ is in cc))
       (λ j u y ne e is.
       let was = kept.emptied j u y e is in
-      emptied_on side_of layout published published words words' views i v w at (side_of u) (side_of u) y was was.locked was.unmarked was.listed (step.changes.parents y.node was.exists) (λ digit c low. step.changes.places (Places.Node y.node digit) (was.exists, low)))
+      emptied_on side_of layout published published words words' views i v w at (side_of u) (side_of u) y was was.locked was.unmarked was.listed
+      (step.changes.parents y.node was.exists) (λ digit c low. step.changes.places (Places.Node y.node digit) (was.exists, low)))
       (λ y is.
       let was = kept.met i v y at (sym step.met ∙ is) in
-      met_on side_of layout published published words words' views i v w at (side_of v) (side_of w) y was (subst (λ ls. Contains ls (lock_of y.place)) (sym step.locks) was.locked) (step.changes.places y.place was.inside)
+      met_on side_of layout published published words words' views i v w at (side_of v) (side_of w) y was
+      (subst (λ ls. Contains ls (lock_of y.place)) (sym step.locks) was.locked) (step.changes.places y.place was.inside)
       (step.changes.others y.node was.exists (mark_apart y.place y.node was.inside was.stands)))
       (λ j u y ne e is.
       let was = kept.met j u y e is in
-      met_on side_of layout published published words words' views i v w at (side_of u) (side_of u) y was was.locked (step.changes.places y.place was.inside) (step.changes.others y.node was.exists (mark_apart y.place y.node was.inside was.stands)))
+      met_on side_of layout published published words words' views i v w at (side_of u) (side_of u) y was was.locked
+      (step.changes.places y.place was.inside) (step.changes.others y.node was.exists (mark_apart y.place y.node was.inside was.stands)))
       (λ node c. epoch_stays node (kept.unfreed i v node at (subst (λ ns. Contains ns node) step.unfreed c)))
       (λ j u node ne e c. epoch_stays node (kept.unfreed j u node e c))
       (λ node exists e. ⊎_elim
@@ -125,7 +121,8 @@ module _ {V : Type 0} (side_of : V → MarkSide) (layout : Layout) (published wo
           (λ (ne : Locking.Node found.node ≢ Locking.Node node). ap has_epoch (sym (step.changes.others node exists ne)) ∙ e)
           (one_lock (Locking.Node found.node) (Locking.Node node))
 
-module _ {V : Type 0} (side_of : V → MarkSide) (layout : Layout) (published words words' : List ℕ) (views : List V) (i : ℕ) (p : Place) (node : ℕ) (v w : V) (kept : Marks side_of layout published words views) (at : get_elem? views i ≡ some v)
+module _ {V : Type 0} (side_of : V → MarkSide) (layout : Layout) (published words words' : List ℕ) (views : List V) (i : ℕ) (p : Place)
+    (node : ℕ) (v w : V) (kept : Marks side_of layout published words views) (at : get_elem? views i ≡ some v)
     (step : PlacesMark side_of layout words words' views i p node v w) where
   placer_rests : (n : ℕ) → HasMark layout words n → RestsIn (side_of w) n → RestsIn (side_of v) n × ((side_of w).protecting ≡ (side_of v).protecting)
   placer_rests n mark rests = (step.rests.rests n rests, step.rests.protecting)
@@ -189,7 +186,8 @@ module _ {V : Type 0} (side_of : V → MarkSide) (layout : Layout) (published wo
       by_placed false is = no_other m.node ne (ap (λ x. slice_index words (place_at layout x)) (sym there) ∙ fits.hangs is)
       by_placed true is = no_mark m.node (ap (λ x. slice_index words (place_at layout x)) (sym there) ∙ fits.stands is)
 
-  same_else : (side : MarkSide) (m : Marked) → FitsMarked side_of layout published words views side m → m.node ≢ node → (q : Place) → IsInTrie layout q → m.parent ≡ place_code q → slice_index words' (place_at layout q) ≡ slice_index words (place_at layout q)
+  same_else : (side : MarkSide) (m : Marked) → FitsMarked side_of layout published words views side m → m.node ≢ node → (q : Place) →
+      IsInTrie layout q → m.parent ≡ place_code q → slice_index words' (place_at layout q) ≡ slice_index words (place_at layout q)
   same_else side m fits ne q inside names = step.changes.others q inside (elsewhere side m fits ne q inside names)
 
   new_marked : FitsMarked side_of layout published words' (set views i w) (side_of w) (placed_at p node)
@@ -207,15 +205,18 @@ module _ {V : Type 0} (side_of : V → MarkSide) (layout : Layout) (published wo
     past = λ e some'. absurd (let none = step.loaded in omega (arith, none, some'));
   }
 
-  emptied_left : (side side' : MarkSide) (e : Emptied) → FitsEmptied layout published words side e → Contains side'.locks (Locking.Node e.node) → ((m : Marked) → Contains side'.marks m → m.node ≢ e.node) → FitsEmptied layout published words' side' e
-  emptied_left side side' e was locked unmarked = emptied_on side_of layout published published words words' views i v w at side side' e was locked unmarked was.listed (step.changes.parents e.node was.exists)
+  emptied_left : (side side' : MarkSide) (e : Emptied) → FitsEmptied layout published words side e → Contains side'.locks (Locking.Node e.node) →
+      ((m : Marked) → Contains side'.marks m → m.node ≢ e.node) → FitsEmptied layout published words' side' e
+  emptied_left side side' e was locked unmarked =
+      emptied_on side_of layout published published words words' views i v w at side side' e was locked unmarked was.listed (step.changes.parents e.node was.exists)
       (λ digit c low. ⊎_elim
       (λ (here : Places.Node e.node digit ≡ p). absurd (full (ap (λ q. slice_index words (place_at layout q)) (sym here) ∙ was.bare digit c low)))
       (λ (ne : Places.Node e.node digit ≢ p). step.changes.others (Places.Node e.node digit) (was.exists, low) ne)
       (same_or_apart (Places.Node e.node digit) p))
 
   met_left : (side side' : MarkSide) (x : MetMark) → FitsMet layout words side x → Contains side'.locks (lock_of x.place) → FitsMet layout words' side' x
-  met_left side side' x was locked = met_on side_of layout published published words words' views i v w at side side' x was locked (step.changes.others x.place was.inside (mark_left x.place x.node was.inside was.stands)) (step.changes.states x.node was.exists)
+  met_left side side' x was locked = met_on side_of layout published published words words' views i v w at side side' x was locked
+      (step.changes.others x.place was.inside (mark_left x.place x.node was.inside was.stands)) (step.changes.states x.node was.exists)
 
   held_placed : (q : Place) (n : ℕ) → IsInTrie layout q → IsMarkOf layout words' q n → Contains (side_of w).locks (Locking.Node n) → Contains (side_of w).marks (placed_at q n)
   held_placed q n inside is c = ⊎_elim
@@ -238,7 +239,8 @@ module _ {V : Type 0} (side_of : V → MarkSide) (layout : Layout) (published wo
       (λ (ne : q ≢ p).
       let was = stood_else q n inside ne is in
       let fits = kept.placed q n inside was in
-      placed_on side_of layout published published words words' views i v w at placer_goes placer_rests q n inside was fits (step.changes.parents n fits.exists) (step.changes.states n fits.exists) (bare_left n fits.exists fits.bare) fits.listed)
+      placed_on side_of layout published published words words' views i v w at placer_goes placer_rests q n inside was fits
+      (step.changes.parents n fits.exists) (step.changes.states n fits.exists) (bare_left n fits.exists fits.bare) fits.listed)
       (same_or_apart q p))
       held_placed
       (λ j u q n ne e inside is c. ⊎_elim
@@ -250,14 +252,17 @@ module _ {V : Type 0} (side_of : V → MarkSide) (layout : Layout) (published wo
       (λ m c. ⊎_elim
       (λ (old : Contains (side_of v).marks m × (m.node ≢ node)).
       let was = kept.marks i v m at old.0 in
-      marked_on side_of layout published published words words' views i v w at placer_goes placer_rests (side_of v) (side_of w) m was (subst (λ ls. Contains ls (Locking.Node m.node)) (sym step.locks) was.locked)
-      (λ some'. absurd (let none = step.loaded in omega (arith, none, some'))) was.listed (step.changes.parents m.node was.exists) (bare_left m.node was.exists was.bare) (same_else (side_of v) m was old.1))
+      marked_on side_of layout published published words words' views i v w at placer_goes placer_rests (side_of v)
+      (side_of w) m was (subst (λ ls. Contains ls (Locking.Node m.node)) (sym step.locks) was.locked)
+      (λ some'. absurd (let none = step.loaded in omega (arith, none, some'))) was.listed (step.changes.parents m.node was.exists)
+      (bare_left m.node was.exists was.bare) (same_else (side_of v) m was old.1))
       (λ (new : m ≡ placed_at p node). subst (λ (x : Marked). FitsMarked side_of layout published words' (set views i w) (side_of w) x) (sym new) new_marked)
       (step.marks m c))
       (λ j u m ne e c.
       let was = kept.marks j u m e c in
       let other : m.node ≢ node = (λ same. step.alone j u ne e (subst (λ x. Contains (side_of u).locks (Locking.Node x)) same was.locked)) in
-      marked_on side_of layout published published words words' views i v w at placer_goes placer_rests (side_of u) (side_of u) m was was.locked (λ _. refl) was.listed (step.changes.parents m.node was.exists) (bare_left m.node was.exists was.bare)
+      marked_on side_of layout published published words words' views i v w at placer_goes placer_rests (side_of u) (side_of u) m was was.locked
+      (λ _. refl) was.listed (step.changes.parents m.node was.exists) (bare_left m.node was.exists was.bare)
       (same_else (side_of u) m was other))
       (λ y is.
       let was = kept.emptied i v y at (sym step.emptied ∙ is) in
@@ -271,7 +276,11 @@ module _ {V : Type 0} (side_of : V → MarkSide) (layout : Layout) (published wo
       (λ n c. epoch_stays n (kept.unfreed i v n at (subst (λ ns. Contains ns n) step.unfreed c)))
       (λ j u n ne e c. epoch_stays n (kept.unfreed j u n e c))
       (λ n exists e. ⊎_elim
-      (λ (mark : HasMark layout words n). inl (record { place = mark.place; inside = mark.inside; stands = step.changes.others mark.place mark.inside (mark_left mark.place n mark.inside mark.stands) ∙ mark.stands }))
+      (λ (mark : HasMark layout words n). inl (record {
+        place = mark.place;
+        inside = mark.inside;
+        stands = step.changes.others mark.place mark.inside (mark_left mark.place n mark.inside mark.stands) ∙ mark.stands;
+      }))
       (λ (was : IsUnfreed side_of views n). inr (unfreed_on side_of layout published published words words' views i v w at n (λ c. subst (λ ns. Contains ns n) (sym step.unfreed) c) was))
       (kept.states n exists (ap has_epoch (sym (step.changes.states n exists)) ∙ e)))
     where

@@ -1,11 +1,9 @@
 -- Each kind of step keeps the part on marks, over the sides alone.
 use Rattle.npf_cells_words.specs.declared.layout.Layout.{Layout}
-use Rattle.npf_cells_marks.specs.StepsLaw.{ClearingKeepsMarks, FreeingKeepsMarks, LearningKeepsMarks, LeavingKeepsMarks, LoadingKeepsMarks, LockingKeepsMarks, MarkingKeepsMarks, OwningKeepsMarks, PlacingKeepsMarks, StoringKeepsMarks, UnlockingKeepsMarks}
-use Rattle.npf_cells_marks.proofs.ClearingLemmas.{marks-cleared, marks-regained}
-use Rattle.npf_cells_marks.proofs.LearningLemmas.{marks-learned}
-use Rattle.npf_cells_marks.proofs.PlacingLemmas.{marks-marked, marks-placed}
-use Rattle.npf_cells_marks.proofs.StepLemmas.{marks-same, marks-loading, marks-got, marks-freed}
-use Rattle.npf_cells_marks.proofs.StoringLemmas.{marks-owned, marks-stored}
+use Rattle.npf_cells_marks.specs.StepsLaw.{ClearingKeepsMarks, FreeingKeepsMarks, LearningKeepsMarks, LeavingKeepsMarks, LoadingKeepsMarks, LockingKeepsMarks}
+use Rattle.npf_cells_marks.specs.StepsLaw.{MarkingKeepsMarks, OwningKeepsMarks, PlacingKeepsMarks, StoringKeepsMarks, UnlockingKeepsMarks}
+use Rattle.npf_cells_marks.proofs.{ClearingLemmas.{marks-cleared, marks-regained}, LearningLemmas.marks-learned, PlacingLemmas.{marks-marked, marks-placed}}
+use Rattle.npf_cells_marks.proofs.{StepLemmas.{marks-same, marks-loading, marks-got, marks-freed}, StoringLemmas.{marks-owned, marks-stored}}
 
 pub leaving_keeps : (layout : Layout) → LeavingKeepsMarks layout
 leaving_keeps layout published published' words words' sides i v w kept at step = marks-same (λ x. x) layout published published' words words' sides i v w kept at step

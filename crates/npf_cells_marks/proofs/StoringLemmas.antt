@@ -4,30 +4,22 @@ use Rattle.std.proofs.Common.{◌≡◌, ◌≢◌, ℕ, ◌<◌, ◌≤◌, Boo
 use mathlib.Core.Option.{some}
 use lib.ListN.{get_elem?}
 use Rattle.npf_paths.specs.declared.place.Lock.TheVariants as Locking
-use Rattle.npf_paths.specs.declared.place.Place.{Place}
+use Rattle.npf_paths.specs.{declared.place.Place.Place, Places.lock_of}
 use Rattle.npf_paths.specs.declared.place.Place.TheVariants as Places
-use Rattle.npf_paths.specs.Places.{lock_of}
-use Rattle.npf_cells_words.specs.declared.layout.Layout.{Layout}
-use Rattle.npf_cells_words.specs.declared.mark.Emptied.{Emptied}
-use Rattle.npf_cells_words.specs.declared.mark.Marked.{Marked}
-use Rattle.npf_cells_words.specs.declared.mark.MetMark.{MetMark}
-use Rattle.npf_cells_words.specs.Codes.{place_code}
-use Rattle.npf_cells_words.specs.Layout.{epoch_word}
-use Rattle.npf_cells_words.specs.MarkWords.{state_word, IsMarkOf}
-use Rattle.npf_cells_words.specs.Places.{place_at, IsInTrie, IsPlaceIn}
-use Rattle.npf_cells_words.proofs.CodeLemmas.{codes_are_apart}
+use Rattle.npf_cells_words.specs.{declared.{layout.Layout.Layout, mark.{Emptied.Emptied, Marked.Marked, MetMark.MetMark}}, Codes.place_code, Layout.epoch_word}
+use Rattle.npf_cells_words.{specs.{MarkWords.{state_word, IsMarkOf}, Places.{place_at, IsInTrie, IsPlaceIn}}, proofs.CodeLemmas.codes_are_apart}
 use Rattle.npf_cells_lives.specs.Deaths.{has_epoch}
-use Rattle.npf_cells_marks.specs.Marks.{MarkSide, RestsIn, FitsMarked, FitsEmptied, FitsMet, HasMark, IsUnfreed, Marks}
-use Rattle.npf_cells_marks.specs.Steps.{StoresInOwn, StoresInPlace}
-use Rattle.npf_cells_marks.proofs.ClearingLemmas.{in_node}
-use Rattle.npf_cells_marks.proofs.MarkLemmas.{placed_at, marks-changed, unfreed_on, placed_on, marked_on, emptied_on, met_on}
+use Rattle.npf_cells_marks.specs.{Marks.{MarkSide, RestsIn, FitsMarked, FitsEmptied, FitsMet, HasMark, IsUnfreed, Marks}, Steps.{StoresInOwn, StoresInPlace}}
+use Rattle.npf_cells_marks.proofs.{ClearingLemmas.in_node, MarkLemmas.{placed_at, marks-changed, unfreed_on, placed_on, marked_on, emptied_on, met_on}}
 
 -- whatever changes in a place that is none of a bare node's, the node stays bare
-bare_beside : (layout : Layout) (words words' : List ℕ) (p : Place) → ((q : Place) → IsInTrie layout q → q ≢ p → slice_index words' (place_at layout q) ≡ slice_index words (place_at layout q)) → (n : ℕ) → n < layout.nodes → ¬ (IsPlaceIn n p) →
+bare_beside : (layout : Layout) (words words' : List ℕ) (p : Place) → ((q : Place) → IsInTrie layout q → q ≢ p → slice_index words' (place_at layout q) ≡ slice_index words (place_at layout q)) →
+    (n : ℕ) → n < layout.nodes → ¬ (IsPlaceIn n p) →
     (digit : ℕ) → digit < 16 → slice_index words' (place_at layout (Places.Node n digit)) ≡ slice_index words (place_at layout (Places.Node n digit))
 bare_beside layout words words' p others n exists out digit low = others (Places.Node n digit) (exists, low) (λ e. out (subst (IsPlaceIn n) e refl))
 
-module _ {V : Type 0} (side_of : V → MarkSide) (layout : Layout) (published published' words words' : List ℕ) (views : List V) (i : ℕ) (p : Place) (v w : V) (kept : Marks side_of layout published words views) (at : get_elem? views i ≡ some v)
+module _ {V : Type 0} (side_of : V → MarkSide) (layout : Layout) (published published' words words' : List ℕ) (views : List V) (i : ℕ)
+    (p : Place) (v w : V) (kept : Marks side_of layout published words views) (at : get_elem? views i ≡ some v)
     (step : StoresInPlace side_of layout published published' words words' views i p v w) where
   storer_rests : (n : ℕ) → HasMark layout words n → RestsIn (side_of w) n → RestsIn (side_of v) n × ((side_of w).protecting ≡ (side_of v).protecting)
   storer_rests n mark rests = (step.rests.rests n rests, step.rests.protecting)
@@ -59,10 +51,13 @@ module _ {V : Type 0} (side_of : V → MarkSide) (layout : Layout) (published pu
       by_placed false is = step.no_node m.node (ap (λ x. slice_index words (place_at layout x)) (sym there) ∙ fits.hangs is)
       by_placed true is = step.no_mark m.node (ap (λ x. slice_index words (place_at layout x)) (sym there) ∙ fits.stands is)
 
-  marked_beside : (side side' : MarkSide) (m : Marked) → FitsMarked side_of layout published words views side m → ¬ (IsPlaceIn m.node p) → Contains side'.locks (Locking.Node m.node) → (1 ≤ side'.loaded → side'.loaded ≡ side.loaded) →
+  marked_beside : (side side' : MarkSide) (m : Marked) → FitsMarked side_of layout published words views side m → ¬ (IsPlaceIn m.node p) →
+      Contains side'.locks (Locking.Node m.node) → (1 ≤ side'.loaded → side'.loaded ≡ side.loaded) →
       FitsMarked side_of layout published' words' (set views i w) side' m
-  marked_beside side side' m was out locked loaded = marked_on side_of layout published published' words words' views i v w at storer_goes storer_rests side side' m was locked loaded (step.listed m.node was.listed) (step.changes.parents m.node was.exists)
-      (λ digit low. bare_beside layout words words' p step.changes.others m.node was.exists out digit low ∙ was.bare digit low) (λ q inside names. step.changes.others q inside (elsewhere side m was q inside names))
+  marked_beside side side' m was out locked loaded = marked_on side_of layout published published' words words' views i v w at storer_goes storer_rests side side' m was locked loaded
+      (step.listed m.node was.listed) (step.changes.parents m.node was.exists)
+      (λ digit low. bare_beside layout words words' p step.changes.others m.node was.exists out digit low ∙ was.bare digit low)
+      (λ q inside names. step.changes.others q inside (elsewhere side m was q inside names))
 
   met_beside : (side side' : MarkSide) (x : MetMark) → FitsMet layout words side x → Contains side'.locks (lock_of x.place) → FitsMet layout words' side' x
   met_beside side side' x was locked = met_on side_of layout published published' words words' views i v w at side side' x was locked
@@ -102,7 +97,8 @@ module _ {V : Type 0} (side_of : V → MarkSide) (layout : Layout) (published pu
       now_emptied
       (λ j u y ne e is.
       let was = kept.emptied j u y e is in
-      emptied_on side_of layout published published' words words' views i v w at (side_of u) (side_of u) y was was.locked was.unmarked (step.listed y.node was.listed) (step.changes.parents y.node was.exists)
+      emptied_on side_of layout published published' words words' views i v w at (side_of u) (side_of u) y was was.locked was.unmarked
+      (step.listed y.node was.listed) (step.changes.parents y.node was.exists)
       (λ digit c low. bare_beside layout words words' p step.changes.others y.node was.exists (out_of_theirs j u y.node ne e was.locked) digit low))
       (λ y is. (let was = kept.met i v y at (sym step.met ∙ is) in met_beside (side_of v) (side_of w) y was (subst (λ ls. Contains ls (lock_of y.place)) (sym step.locks) was.locked)))
       (λ j u y ne e is. (let was = kept.met j u y e is in met_beside (side_of u) (side_of u) y was was.locked))
@@ -117,7 +113,8 @@ module _ {V : Type 0} (side_of : V → MarkSide) (layout : Layout) (published pu
       (λ (was : IsUnfreed side_of views n). inr (unfreed_on side_of layout published published' words words' views i v w at n (λ c. subst (λ ns. Contains ns n) (sym step.unfreed) c) was))
       (kept.states n exists (ap has_epoch (sym (step.changes.states n exists)) ∙ e)))
 
-module _ {V : Type 0} (side_of : V → MarkSide) (layout : Layout) (published words words' : List ℕ) (views : List V) (i : ℕ) (p : Place) (own : ℕ) (v w : V) (kept : Marks side_of layout published words views) (at : get_elem? views i ≡ some v)
+module _ {V : Type 0} (side_of : V → MarkSide) (layout : Layout) (published words words' : List ℕ) (views : List V) (i : ℕ) (p : Place)
+    (own : ℕ) (v w : V) (kept : Marks side_of layout published words views) (at : get_elem? views i ≡ some v)
     (step : StoresInOwn side_of layout published words words' p own v w) where
   owner_rests : (n : ℕ) → HasMark layout words n → RestsIn (side_of w) n → RestsIn (side_of v) n × ((side_of w).protecting ≡ (side_of v).protecting)
   owner_rests n mark rests = (subst (λ (side : MarkSide). RestsIn side n) step.same rests, ap (λ (side : MarkSide). side.protecting) step.same)
@@ -141,14 +138,18 @@ module _ {V : Type 0} (side_of : V → MarkSide) (layout : Layout) (published wo
       let same : own ≡ n = cc in
       step.unlisted (subst (λ x. Contains published x) (sym same) listed)
 
-  marked_apart : (side side' : MarkSide) (m : Marked) → FitsMarked side_of layout published words views side m → side'.locks ≡ side.locks → side'.loaded ≡ side.loaded → FitsMarked side_of layout published words' (set views i w) side' m
-  marked_apart side side' m was locks loaded = marked_on side_of layout published published words words' views i v w at owner_goes owner_rests side side' m was (subst (λ ls. Contains ls (Locking.Node m.node)) (sym locks) was.locked) (λ _. loaded) was.listed
+  marked_apart : (side side' : MarkSide) (m : Marked) → FitsMarked side_of layout published words views side m → side'.locks ≡ side.locks →
+      side'.loaded ≡ side.loaded → FitsMarked side_of layout published words' (set views i w) side' m
+  marked_apart side side' m was locks loaded = marked_on side_of layout published published words words' views i v w at owner_goes owner_rests side side' m was
+      (subst (λ ls. Contains ls (Locking.Node m.node)) (sym locks) was.locked) (λ _. loaded) was.listed
       (step.changes.parents m.node was.exists) (λ digit low. bare_beside layout words words' p step.changes.others m.node was.exists (out_of_listed m.node was.listed) digit low ∙ was.bare digit low)
       (λ q inside names. step.changes.others q inside (λ e. step.unnamed m.node was.listed (was.parent ∙ (names ∙ ap place_code e))))
 
   emptied_apart : (side side' : MarkSide) (e : Emptied) → FitsEmptied layout published words side e → side'.locks ≡ side.locks → side'.marks ≡ side.marks → FitsEmptied layout published words' side' e
-  emptied_apart side side' e was locks marks = emptied_on side_of layout published published words words' views i v w at side side' e was (subst (λ ls. Contains ls (Locking.Node e.node)) (sym locks) was.locked)
-      (λ m c. was.unmarked m (subst (λ ms. Contains ms m) marks c)) was.listed (step.changes.parents e.node was.exists) (λ digit c low. bare_beside layout words words' p step.changes.others e.node was.exists (out_of_listed e.node was.listed) digit low)
+  emptied_apart side side' e was locks marks =
+      emptied_on side_of layout published published words words' views i v w at side side' e was (subst (λ ls. Contains ls (Locking.Node e.node)) (sym locks) was.locked)
+      (λ m c. was.unmarked m (subst (λ ms. Contains ms m) marks c)) was.listed (step.changes.parents e.node was.exists)
+      (λ digit c low. bare_beside layout words words' p step.changes.others e.node was.exists (out_of_listed e.node was.listed) digit low)
 
   met_apart : (side side' : MarkSide) (x : MetMark) → FitsMet layout words side x → side'.locks ≡ side.locks → FitsMet layout words' side' x
   met_apart side side' x was locks = met_on side_of layout published published words words' views i v w at side side' x was (subst (λ ls. Contains ls (lock_of x.place)) (sym locks) was.locked)
@@ -164,11 +165,14 @@ module _ {V : Type 0} (side_of : V → MarkSide) (layout : Layout) (published wo
       let fits = kept.placed q n inside was in
       placed_on side_of layout published published words words' views i v w at owner_goes owner_rests q n inside was fits (step.changes.parents n fits.exists) (step.changes.states n fits.exists)
       (λ digit low. bare_beside layout words words' p step.changes.others n fits.exists (out_of_listed n fits.listed) digit low ∙ fits.bare digit low) fits.listed)
-      (λ q n inside is c. subst (λ (side : MarkSide). Contains side.marks (placed_at q n)) (sym step.same) (kept.held i v q n at inside (stood_there q n inside is) (subst (λ (side : MarkSide). Contains side.locks (Locking.Node n)) step.same c)))
+      (λ q n inside is c. subst (λ (side : MarkSide). Contains side.marks (placed_at q n)) (sym step.same)
+      (kept.held i v q n at inside (stood_there q n inside is) (subst (λ (side : MarkSide). Contains side.locks (Locking.Node n)) step.same c)))
       (λ j u q n ne e inside is c. kept.held j u q n e inside (stood_there q n inside is) c)
-      (λ m c. marked_apart (side_of v) (side_of w) m (kept.marks i v m at (subst (λ (side : MarkSide). Contains side.marks m) step.same c)) (ap (λ (side : MarkSide). side.locks) step.same) (ap (λ (side : MarkSide). side.loaded) step.same))
+      (λ m c. marked_apart (side_of v) (side_of w) m (kept.marks i v m at (subst (λ (side : MarkSide). Contains side.marks m) step.same c))
+      (ap (λ (side : MarkSide). side.locks) step.same) (ap (λ (side : MarkSide). side.loaded) step.same))
       (λ j u m ne e c. marked_apart (side_of u) (side_of u) m (kept.marks j u m e c) refl refl)
-      (λ y is. emptied_apart (side_of v) (side_of w) y (kept.emptied i v y at (ap (λ (side : MarkSide). side.emptied) (sym step.same) ∙ is)) (ap (λ (side : MarkSide). side.locks) step.same) (ap (λ (side : MarkSide). side.marks) step.same))
+      (λ y is. emptied_apart (side_of v) (side_of w) y (kept.emptied i v y at (ap (λ (side : MarkSide). side.emptied) (sym step.same) ∙ is))
+      (ap (λ (side : MarkSide). side.locks) step.same) (ap (λ (side : MarkSide). side.marks) step.same))
       (λ j u y ne e is. emptied_apart (side_of u) (side_of u) y (kept.emptied j u y e is) refl refl)
       (λ y is. met_apart (side_of v) (side_of w) y (kept.met i v y at (ap (λ (side : MarkSide). side.met) (sym step.same) ∙ is)) (ap (λ (side : MarkSide). side.locks) step.same))
       (λ j u y ne e is. met_apart (side_of u) (side_of u) y (kept.met j u y e is) refl)
@@ -180,5 +184,6 @@ module _ {V : Type 0} (side_of : V → MarkSide) (layout : Layout) (published wo
         inside = mark.inside;
         stands = step.changes.others mark.place mark.inside (λ here. unstood n (subst (λ q. IsMarkOf layout words q n) here mark.stands)) ∙ mark.stands;
       }))
-      (λ (was : IsUnfreed side_of views n). inr (unfreed_on side_of layout published published words words' views i v w at n (λ c. subst (λ (side : MarkSide). Contains side.unfreed n) (sym step.same) c) was))
+      (λ (was : IsUnfreed side_of views n).
+      inr (unfreed_on side_of layout published published words words' views i v w at n (λ c. subst (λ (side : MarkSide). Contains side.unfreed n) (sym step.same) c) was))
       (kept.states n exists (ap has_epoch (sym (step.changes.states n exists)) ∙ e)))

@@ -1,6 +1,6 @@
--- The part of the rule on marks; no kind of step marks a node yet. A node in whose places nothing stands is marked by who has its
--- lock, and then its mark takes its place, until the table's epoch is two more than one that it had since; whoever may still be in the node is
--- protected from that epoch on or from an earlier one. Then a pass may clear the mark, and the node is that pass's.
+-- The part of the rule on marks. A node in whose places nothing stands is marked by who has its lock, and then its mark takes its place, until
+-- the table's epoch is two more than one that it had since; whoever may still be in the node is protected from that epoch on or from an
+-- earlier one. Then a pass may clear the mark, and the node is that pass's. The kinds of step that do so are those of npf_cells_returns.
 use Rattle.std.specs.Prelude.{◌≡◌, ◌≢◌, ◌⊎◌, ℕ, ◌+◌, ◌^◌, ◌<◌, ◌≤◌, true, false, Option, Some, None, List, Contains, slice_index}
 use mathlib.Core.Option.{some}
 use lib.ListN.{get_elem?}

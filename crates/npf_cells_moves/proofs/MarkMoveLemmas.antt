@@ -1,40 +1,23 @@
 -- The part on marks stays where a seat comes or goes that has no marks, and through a load of the epoch.
 use Rattle.std.specs.List.{Contains}
 use Rattle.std.proofs.Common.{◌≡◌, ◌≢◌, ◌⊎◌, ℕ, ◌<◌, ◌≤◌, Option, Some, None, List, [], ◌∷◌, ◌++◌, set, slice_index, refl, sym, ap, ◌∙◌, subst, ⊎_elim, inl, inr, arith}
-use Rattle.std.proofs.lemmas.Bool.{cases_eq}
-use Rattle.std.proofs.lemmas.List.{set-get_or}
-use Rattle.std.proofs.lemmas.List.Elements.{Contains-append_cases, Contains-append_left, Contains-append_right}
+use Rattle.std.proofs.lemmas.{Bool.cases_eq, List.{set-get_or, Elements.{Contains-append_cases, Contains-append_left, Contains-append_right}}}
 use mathlib.Core.Option.{some, some-injective}
 use lib.ListN.{get_elem?}
-use Rattle.atomic_table.specs.Table.{State}
-use Rattle.atomic_table.proofs.Lists.{at_longer, at_map, at_set, at_snoc, set_else}
+use Rattle.atomic_table.{specs.Table.State, proofs.Lists.{at_longer, at_map, at_set, at_snoc, set_else}}
 use Rattle.npf_types.specs.declared.key.Key.{Key}
 use Rattle.npf_core.specs.Meaning.{Meaning}
 use Rattle.npf_paths.specs.declared.place.Lock.TheVariants as Locking
 use Rattle.npf_paths.specs.declared.place.Place.{Place}
-use Rattle.npf_cells_words.specs.declared.layout.Layout.{Layout}
-use Rattle.npf_cells_words.specs.declared.mark.Emptied.{Emptied}
-use Rattle.npf_cells_words.specs.declared.mark.Marked.{Marked}
-use Rattle.npf_cells_words.specs.declared.mark.MetMark.{MetMark}
-use Rattle.npf_cells_words.specs.Layout.{epoch_word}
-use Rattle.npf_cells_words.specs.MarkWords.{IsMarkOf}
-use Rattle.npf_cells_words.specs.Places.{IsInTrie}
-use Rattle.npf_seats.proofs.PrefixLemmas.{none_listed}
-use Rattle.npf_seats.proofs.SumLemmas.{set_there}
-use Rattle.npf_cells_pins.specs.declared.pin.Pin.{Pin}
-use Rattle.npf_cells_pins.specs.declared.pin.Pin.TheVariants.{Idle, Pinned, Protected}
-use Rattle.npf_cells_pins.specs.Epochs.{PinAllows}
-use Rattle.npf_cells_pins.specs.Pinning.{loading}
-use Rattle.npf_cells_lives.specs.Deaths.{IsProtectedBy}
-use Rattle.npf_cells_lives.specs.Turns.{Running}
+use Rattle.npf_cells_words.specs.{declared.{layout.Layout.Layout, mark.{Emptied.Emptied, Marked.Marked, MetMark.MetMark}}, Layout.epoch_word}
+use Rattle.npf_cells_words.specs.{MarkWords.IsMarkOf, Places.IsInTrie}
+use Rattle.npf_seats.proofs.{PrefixLemmas.none_listed, SumLemmas.set_there}
+use Rattle.npf_cells_pins.specs.{declared.pin.Pin.{Pin, TheVariants.{Idle, Pinned, Protected}}, Epochs.PinAllows, Pinning.loading}
+use Rattle.npf_cells_lives.specs.{Deaths.IsProtectedBy, Turns.Running}
 use Rattle.npf_cells_marks.specs.Marks.{MarkSide, RestsIn, IsPastNode, FitsEmptied, FitsMarked, FitsMet, IsUnfreed, Marks}
-use Rattle.npf_cells_marks.proofs.MarkLemmas.{placed_at, unfreed_on}
-use Rattle.npf_cells_marks.proofs.StepLemmas.{marks-loading}
-use Rattle.npf_cells_rule.specs.declared.view.CellView.{CellView}
-use Rattle.npf_cells_rule.specs.Cells.{IsCells}
-use Rattle.npf_cells_rule.specs.Passes.{IsProtected}
-use Rattle.npf_cells_rule.specs.Views.{reader_view, protecting_epoch, mark_side, nothing_left}
-use Rattle.npf_cells_rule.proofs.MarkFrames.{in_none}
+use Rattle.npf_cells_marks.proofs.{MarkLemmas.{placed_at, unfreed_on}, StepLemmas.marks-loading}
+use Rattle.npf_cells_rule.specs.{declared.view.CellView.CellView, Cells.IsCells, Passes.IsProtected}
+use Rattle.npf_cells_rule.{specs.Views.{reader_view, protecting_epoch, mark_side, nothing_left}, proofs.MarkFrames.in_none}
 use Rattle.npf_cells_moves.specs.Moves.{gives_reader, given_view, takes_in}
 
 -- a seat without marks, in no node
@@ -56,9 +39,11 @@ module _ {V : Type 0} (side_of : V → MarkSide) (layout : Layout) (published wo
     where
       rested_by : (side : MarkSide) → CameFrom side_of views side → RestsIn side node → IsProtectedBy epoch side.protecting
       rested_by side (nobody bare) rests = absurd (nowhere node (subst (λ (x : MarkSide). RestsIn x node) bare rests))
-      rested_by side (from_seat j u there same) rests = subst (IsProtectedBy epoch) (ap (λ (x : MarkSide). x.protecting) (sym same)) (past.rested j u there (subst (λ (x : MarkSide). RestsIn x node) same rests))
+      rested_by side (from_seat j u there same) rests =
+          subst (IsProtectedBy epoch) (ap (λ (x : MarkSide). x.protecting) (sym same)) (past.rested j u there (subst (λ (x : MarkSide). RestsIn x node) same rests))
 
-  held_moved : (side : MarkSide) (p : Place) (node : ℕ) → CameFrom side_of views side → IsInTrie layout p → IsMarkOf layout words p node → Contains side.locks (Locking.Node node) → Contains side.marks (placed_at p node)
+  held_moved : (side : MarkSide) (p : Place) (node : ℕ) → CameFrom side_of views side → IsInTrie layout p →
+      IsMarkOf layout words p node → Contains side.locks (Locking.Node node) → Contains side.marks (placed_at p node)
   held_moved side p node (nobody bare) inside is c = absurd (none_listed (Locking.Node node) (subst (λ (x : MarkSide). Contains x.locks (Locking.Node node)) bare c))
   held_moved side p node (from_seat j u there same) inside is c =
       subst (λ (x : MarkSide). Contains x.marks (placed_at p node)) (sym same) (kept.held j u p node there inside is (subst (λ (x : MarkSide). Contains x.locks (Locking.Node node)) same c))
@@ -85,7 +70,14 @@ module _ {V : Type 0} (side_of : V → MarkSide) (layout : Layout) (published wo
   emptied_moved side y (nobody bare) is = absurd (let no : None ≡ Some y = ap (λ (x : MarkSide). x.emptied) (sym bare) ∙ is in cc)
   emptied_moved side y (from_seat j u there same) is =
       let was = kept.emptied j u y there (ap (λ (x : MarkSide). x.emptied) (sym same) ∙ is) in
-      subst (λ (x : MarkSide). FitsEmptied layout published words x y) (sym same) (record { exists = was.exists; listed = was.listed; locked = was.locked; unmarked = was.unmarked; parent = was.parent; bare = was.bare })
+      subst (λ (x : MarkSide). FitsEmptied layout published words x y) (sym same) (record {
+        exists = was.exists;
+        listed = was.listed;
+        locked = was.locked;
+        unmarked = was.unmarked;
+        parent = was.parent;
+        bare = was.bare;
+      })
 
   met_moved : (side : MarkSide) (y : MetMark) → CameFrom side_of views side → side.met ≡ Some y → FitsMet layout words side y
   met_moved side y (nobody bare) is = absurd (let no : None ≡ Some y = ap (λ (x : MarkSide). x.met) (sym bare) ∙ is in cc)
@@ -94,9 +86,17 @@ module _ {V : Type 0} (side_of : V → MarkSide) (layout : Layout) (published wo
       subst (λ (x : MarkSide). FitsMet layout words x y) (sym same) (record { inside = was.inside; exists = was.exists; locked = was.locked; stands = was.stands; left = was.left })
 
   -- the words stay, and each seat comes from one, or has no marks; and the nodes that seats got back are the same
-  pub marks-moved : ((j : ℕ) (u : V) (node : ℕ) → get_elem? views' j ≡ some u → Contains (side_of u).unfreed node → IsUnfreed side_of views node) → ((node : ℕ) → IsUnfreed side_of views node → IsUnfreed side_of views' node) → Marks side_of layout published words views'
+  pub marks-moved : ((j : ℕ) (u : V) (node : ℕ) → get_elem? views' j ≡ some u → Contains (side_of u).unfreed node → IsUnfreed side_of views node) →
+      ((node : ℕ) → IsUnfreed side_of views node → IsUnfreed side_of views' node) → Marks side_of layout published words views'
   marks-moved back forth = record {
-    placed = λ p node inside is. (let was = kept.placed p node inside is in record { exists = was.exists; listed = was.listed; parent = was.parent; bare = was.bare; taken = was.taken; left = λ epoch e. past_moved node epoch (was.left epoch e) });
+    placed = λ p node inside is. (let was = kept.placed p node inside is in record {
+      exists = was.exists;
+      listed = was.listed;
+      parent = was.parent;
+      bare = was.bare;
+      taken = was.taken;
+      left = λ epoch e. past_moved node epoch (was.left epoch e);
+    });
     held = λ j u p node e inside is c. held_moved (side_of u) p node (from j u e) inside is c;
     marks = λ j u mark e c. marked_moved (side_of u) mark (from j u e) c;
     emptied = λ j u y e is. emptied_moved (side_of u) y (from j u e) is;
@@ -105,7 +105,8 @@ module _ {V : Type 0} (side_of : V → MarkSide) (layout : Layout) (published wo
     states = λ node exists e. ⊎_elim (λ mark. inl mark) (λ was. inr (forth node was)) (kept.states node exists e);
   }
 
-module _ {S A R : Type 0} (m : Meaning S A R) (digest : Key → ℕ) (layout : Layout) (s : State (Running S) (CellView S A R)) (id : ℕ) (v : CellView S A R) (kept : IsCells m digest layout s) (at : get_elem? s.views id ≡ some v) where
+module _ {S A R : Type 0} (m : Meaning S A R) (digest : Key → ℕ) (layout : Layout) (s : State (Running S) (CellView S A R))
+    (id : ℕ) (v : CellView S A R) (kept : IsCells m digest layout s) (at : get_elem? s.views id ≡ some v) where
   -- whoever may be in a node is protected, with no later epoch than the table's
   in_now : (j : ℕ) (u : CellView S A R) (node : ℕ) → get_elem? s.views j ≡ some u → RestsIn (mark_side u) node → IsProtectedBy (epoch_word s.words) (protecting_epoch u.epochs.pin)
   in_now j u node e rests = by_pin u.epochs.pin refl
@@ -120,7 +121,8 @@ module _ {S A R : Type 0} (m : Meaning S A R) (digest : Key → ℕ) (layout : L
 
   pub marks_loaded : Marks mark_side layout kept.published (set s.words 0 (epoch_word s.words)) (set s.views id (record v { epochs = loading v.epochs (epoch_word s.words) }))
   marks_loaded = subst (λ ws. Marks mark_side layout kept.published ws (set s.views id (record v { epochs = loading v.epochs (epoch_word s.words) }))) (sym (set-get_or s.words 0 0))
-      (marks-loading mark_side layout kept.published s.words s.views id v (record v { epochs = loading v.epochs (epoch_word s.words) }) kept.marks at (record { is = refl; now = λ j u node e rests. in_now j u node e rests }))
+      (marks-loading mark_side layout kept.published s.words s.views id v (record v { epochs = loading v.epochs (epoch_word s.words) }) kept.marks at
+      (record { is = refl; now = λ j u node e rests. in_now j u node e rests }))
 
   -- where the seat is split
   pub marks_split : Marks mark_side layout kept.published s.words (set s.views id (gives_reader v) ++ given_view v ∷ [])
@@ -182,11 +184,21 @@ module _ {S A R : Type 0} (m : Meaning S A R) (digest : Key → ℕ) (layout : L
     joined_forth node has = ⊎_elim
         (λ (theirs : has.seat ≡ other).
         let one : has.view ≡ w = some-injective has.view w (sym has.there ∙ (ap (get_elem? s.views) theirs ∙ was)) in
-        record { seat = id; view = takes_in v w; there = taker_there; has = Contains-append_right v.pools.unfreed w.pools.unfreed node (subst (λ (y : CellView S A R). Contains y.pools.unfreed node) one has.has) })
+        record {
+          seat = id;
+          view = takes_in v w;
+          there = taker_there;
+          has = Contains-append_right v.pools.unfreed w.pools.unfreed node (subst (λ (y : CellView S A R). Contains y.pools.unfreed node) one has.has);
+        })
         (λ (ne : has.seat ≢ other). ⊎_elim
         (λ (mine : has.seat ≡ id).
         let one : has.view ≡ v = some-injective has.view v (sym has.there ∙ (ap (get_elem? s.views) mine ∙ at)) in
-        record { seat = id; view = takes_in v w; there = taker_there; has = Contains-append_left v.pools.unfreed w.pools.unfreed node (subst (λ (y : CellView S A R). Contains y.pools.unfreed node) one has.has) })
+        record {
+          seat = id;
+          view = takes_in v w;
+          there = taker_there;
+          has = Contains-append_left v.pools.unfreed w.pools.unfreed node (subst (λ (y : CellView S A R). Contains y.pools.unfreed node) one has.has);
+        })
         (λ (ne' : has.seat ≢ id). record {
           seat = has.seat;
           view = has.view;

@@ -1,20 +1,15 @@
 -- The part on epochs stays through the base's moves, and through a step by what it shows of one seat.
 use Rattle.std.specs.List.{Contains}
 use Rattle.std.proofs.Common.{◌≡◌, ◌≢◌, ◌⊎◌, ℕ, ◌+◌, ◌^◌, ◌≤◌, max, Bool, true, false, cond, eqb, List, [], ◌∷◌, ◌++◌, set, take, drop, refl, sym, ap, ◌∙◌, subst, ⊎_elim, inl, inr, arith}
-use Rattle.std.proofs.lemmas.Bool.{cases_eq}
-use Rattle.std.proofs.lemmas.List.Sums.{sum_by-append, sum_by_push, sum_by-take-drop}
+use Rattle.std.proofs.lemmas.{Bool.cases_eq, List.Sums.{sum_by-append, sum_by_push, sum_by-take-drop}}
 use mathlib.Core.Option.{some}
 use lib.ListN.{get_elem?}
 use Rattle.atomic_table.proofs.Lists.{at_set, at_snoc, set_else}
 use Rattle.npf_connections.specs.Worn.{last_epoch}
-use Rattle.npf_seats.specs.Sums.{occurs}
-use Rattle.npf_seats.proofs.PrefixLemmas.{none_listed}
-use Rattle.npf_seats.proofs.SumLemmas.{sum-set}
-use Rattle.npf_cells_pins.specs.declared.pin.Pin.{Pin}
-use Rattle.npf_cells_pins.specs.declared.pin.Pin.TheVariants.{Idle}
+use Rattle.npf_seats.{specs.Sums.occurs, proofs.{PrefixLemmas.none_listed, SumLemmas.sum-set}}
+use Rattle.npf_cells_pins.specs.declared.pin.Pin.{Pin, TheVariants.Idle}
 use Rattle.npf_cells_pins.specs.Epochs.{idle_side, ReaderView, pin_place, pin_word, reader_holds, NotProtectedBefore, FitsEpochs, Epochs, all_raises}
-use Rattle.npf_cells_pins.specs.Pinning.{joined_epochs}
-use Rattle.npf_cells_pins.specs.PinsLaw.{HoldsEpochBack, ScansPassBy}
+use Rattle.npf_cells_pins.specs.{Pinning.joined_epochs, PinsLaw.{HoldsEpochBack, ScansPassBy}}
 
 nothing_either : (b : Bool) (n : ℕ) → n ≡ 0 → cond b n 0 ≡ 0
 nothing_either true n e = e
@@ -110,7 +105,8 @@ module _ (now : ℕ) (reader : ℕ → ℕ) (readings : List ReaderView) where
     epochs-split id k r e idle = epochs_from _ counted (λ j q d. ⊎_elim
         (λ (there : get_elem? (set readings id (record { places = take k r.places; side = r.side })) j ≡ some q). ⊎_elim
         (λ (x : (j ≡ id) × (record { places = take k r.places; side = r.side } ≡ q)). subst ComesFrom x.1
-        (resettled id r (take k r.places) r.side.greatest r.side.known r.side.raises e idle (kept.each id r e).greatest (kept.each id r e).known (λ place owns. idle_word id r e idle place ((some_of r k place).0 owns))))
+        (resettled id r (take k r.places) r.side.greatest r.side.known r.side.raises e idle (kept.each id r e).greatest
+        (kept.each id r e).known (λ place owns. idle_word id r e idle place ((some_of r k place).0 owns))))
         (λ (x : (j ≢ id) × (get_elem? readings j ≡ some q)). as_it_was j q x.1)
         (at_set readings id j _ q there))
         (λ (x : record { places = drop k r.places; side = idle_side } ≡ q). subst ComesFrom x
@@ -133,7 +129,8 @@ module _ (now : ℕ) (reader : ℕ → ℕ) (readings : List ReaderView) where
         epochs_from _ counted (λ j u f. ⊎_elim
         (λ (x : (j ≡ other) × (record { places = []; side = idle_side } ≡ u)). subst ComesFrom x.1 (newly [] (λ place owns. absurd (omega (arith, owns)))))
         (λ (x : (j ≢ other) × (get_elem? (set readings id both) j ≡ some u)). ⊎_elim
-        (λ (y : (j ≡ id) × (both ≡ u)). subst ComesFrom y.1 (resettled id r (r.places ++ q.places) (max r.side.greatest q.side.greatest) (max r.side.known q.side.known) (r.side.raises + q.side.raises) e r-idle found most words))
+        (λ (y : (j ≡ id) × (both ≡ u)). subst ComesFrom y.1 (resettled id r (r.places ++ q.places) (max r.side.greatest q.side.greatest)
+        (max r.side.known q.side.known) (r.side.raises + q.side.raises) e r-idle found most words))
         (λ (y : (j ≢ id) × (get_elem? readings j ≡ some u)). as_it_was j u y.1)
         (at_set readings id j both u x.1))
         (at_set (set readings id both) other j _ u f))
@@ -205,8 +202,10 @@ changed now now' reader reader' readings id w kept c = record {
       (at_set readings id j w r e);
   scans = λ i j r q e d. ⊎_elim
       (λ (x : (i ≡ id) × (w ≡ r)). ⊎_elim
-      (λ (y : (j ≡ id) × (w ≡ q)). subst (λ (u : ReaderView × ReaderView). Contains u.0.side.scanned (pin_place u.1.places) → NotProtectedBefore u.0.side.loaded u.1.side.pin) (λ k. (x.1 k, y.1 k)) c.itself)
-      (λ (y : (j ≢ id) × (get_elem? readings j ≡ some q)). subst (λ (u : ReaderView). Contains u.side.scanned (pin_place q.places) → NotProtectedBefore u.side.loaded q.side.pin) x.1 (c.scanner j q y.0 y.1))
+      (λ (y : (j ≡ id) × (w ≡ q)). subst (λ (u : ReaderView × ReaderView). Contains u.0.side.scanned (pin_place u.1.places) →
+      NotProtectedBefore u.0.side.loaded u.1.side.pin) (λ k. (x.1 k, y.1 k)) c.itself)
+      (λ (y : (j ≢ id) × (get_elem? readings j ≡ some q)). subst (λ (u : ReaderView). Contains u.side.scanned (pin_place q.places) →
+      NotProtectedBefore u.side.loaded q.side.pin) x.1 (c.scanner j q y.0 y.1))
       (at_set readings id j w q d))
       (λ (x : (i ≢ id) × (get_elem? readings i ≡ some r)). ⊎_elim
       (λ (y : (j ≡ id) × (w ≡ q)). subst (λ (u : ReaderView). Contains r.side.scanned (pin_place u.places) → NotProtectedBefore r.side.loaded u.side.pin) y.1 (c.target i r x.0 x.1))

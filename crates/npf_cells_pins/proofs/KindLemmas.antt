@@ -5,14 +5,10 @@ use Rattle.std.proofs.lemmas.Bool.{cases_eq}
 use mathlib.Core.Option.{some}
 use lib.ListN.{get_elem?}
 use Rattle.npf_connections.specs.Pass.{all_places}
-use Rattle.npf_seats.specs.Sums.{occurs}
-use Rattle.npf_seats.proofs.PrefixLemmas.{none_listed, cons_cases}
-use Rattle.npf_seats.proofs.SumLemmas.{first_occurs, sum-set}
-use Rattle.npf_cells_pins.specs.declared.pin.Pin.{Pin}
-use Rattle.npf_cells_pins.specs.declared.pin.Pin.TheVariants.{Idle, Pinned, Protected}
+use Rattle.npf_seats.{specs.Sums.occurs, proofs.{PrefixLemmas.{none_listed, cons_cases}, SumLemmas.{first_occurs, sum-set}}}
+use Rattle.npf_cells_pins.specs.declared.pin.Pin.{Pin, TheVariants.{Idle, Pinned, Protected}}
 use Rattle.npf_cells_pins.specs.Epochs.{ReaderView, pin_place, pin_word, PinAllows, NotProtectedBefore, FitsEpochs, Epochs, all_raises, HasScannedAll}
-use Rattle.npf_cells_pins.specs.Pinning.{loading, protecting, pinned_epoch, passes_by, IsMet}
-use Rattle.npf_cells_pins.proofs.EpochLemmas.{Change}
+use Rattle.npf_cells_pins.{specs.Pinning.{loading, protecting, pinned_epoch, passes_by, IsMet}, proofs.EpochLemmas.Change}
 
 pinned_apart : (epoch : ℕ) → Pinned epoch ≡ Idle → ⊥
 pinned_apart epoch e = cc
@@ -84,7 +80,8 @@ module _ (now : ℕ) (reader : ℕ → ℕ) (readings : List ReaderView) (id : �
       by_pin Idle e = tt
       by_pin (Pinned epoch) e = tt
       by_pin (Protected pinned epoch) e =
-          let some' : 1 ≤ length q.places = ⊎_elim (λ none. absurd (protected_apart pinned epoch (sym e ∙ fits.pinned none))) (λ (ne : length q.places ≢ 0). omega (arith, ne)) (cases_eq (length q.places) 0) in
+          let some' : 1 ≤ length q.places = ⊎_elim (λ none. absurd (protected_apart pinned epoch (sym e ∙ fits.pinned none)))
+          (λ (ne : length q.places ≢ 0). omega (arith, ne)) (cases_eq (length q.places) 0) in
           let guards : (pinned ≤ epoch) × (epoch ≤ now) × (now ≤ epoch + 1) = rw e at fits.guards in
           let first = first_occurs q.places some' in
           let word : reader place ≡ pinned + 1 =
@@ -103,7 +100,10 @@ module _ (now : ℕ) (reader : ℕ → ℕ) (readings : List ReaderView) (id : �
           (cases_eq (reader place) 0)
 
   pub scans : (place : ℕ) (b : Bool) → passes_by r.side (reader place) ≡ b →
-      Change now reader readings id (record { places = r.places; side = record r.side { scanned = cond b (place ∷ r.side.scanned) r.side.scanned; behind = cond b r.side.behind (place ∷ r.side.behind) } })
+      Change now reader readings id (record {
+        places = r.places;
+        side = record r.side { scanned = cond b (place ∷ r.side.scanned) r.side.scanned; behind = cond b r.side.behind (place ∷ r.side.behind) };
+      })
   scans place false by = record {
     from = kept.from;
     most = kept.most;
@@ -168,13 +168,15 @@ module _ (now : ℕ) (reader : ℕ → ℕ) (readings : List ReaderView) (id : �
   }
 
   -- the epoch is raised by one: no seat is protected from before it
-  pub advances : (reader' : ℕ → ℕ) (met greatest known raises : ℕ) → now ≡ r.side.loaded → r.side.loaded < 2 ^ 62 → HasScannedAll r.side → greatest ≤ r.side.loaded + 1 → known ≤ r.side.loaded + 1 → raises ≡ r.side.raises + 1 →
+  pub advances : (reader' : ℕ → ℕ) (met greatest known raises : ℕ) → now ≡ r.side.loaded → r.side.loaded < 2 ^ 62 →
+      HasScannedAll r.side → greatest ≤ r.side.loaded + 1 → known ≤ r.side.loaded + 1 → raises ≡ r.side.raises + 1 →
       ((place : ℕ) → reader' place ≡ reader place) → ((j place : ℕ) (q : ReaderView) → get_elem? readings j ≡ some q → 1 ≤ occurs place q.places → place < all_places) →
       Change (r.side.loaded + 1) reader' readings id (record { places = r.places; side = record r.side { met = met; greatest = greatest; known = known; raises = raises } })
   advances reader' met greatest known raises same below all found le once words within = record {
     from = (let a = kept.from in omega (arith, a, same));
     most = omega (arith, below);
-    counted = (let sums = sums_with (record { places = r.places; side = record r.side { met = met; greatest = greatest; known = known; raises = raises } }) in let all = kept.counted in omega (arith, sums, all, same, once));
+    counted = (let sums = sums_with (record { places = r.places; side = record r.side { met = met; greatest = greatest; known = known; raises = raises } }) in
+        let all = kept.counted in omega (arith, sums, all, same, once));
     fits = record {
       loaded = omega arith;
       greatest = found;
@@ -208,14 +210,16 @@ module _ (now : ℕ) (reader : ℕ → ℕ) (readings : List ReaderView) (id : �
           by_pin Idle h = tt
           by_pin (Pinned epoch) h = let before : epoch ≤ now = rw h at fits.guards in omega (arith, before, same)
           by_pin (Protected pinned epoch) h =
-              let some' : 1 ≤ length q.places = ⊎_elim (λ none. absurd (protected_apart pinned epoch (sym h ∙ fits.pinned none))) (λ (ne : length q.places ≢ 0). omega (arith, ne)) (cases_eq (length q.places) 0) in
+              let some' : 1 ≤ length q.places = ⊎_elim (λ none. absurd (protected_apart pinned epoch (sym h ∙ fits.pinned none)))
+              (λ (ne : length q.places ≢ 0). omega (arith, ne)) (cases_eq (length q.places) 0) in
               let guards : (pinned ≤ epoch) × (epoch ≤ now) × (now ≤ epoch + 1) = rw h at fits.guards in
               let seen = all (pin_place q.places) (within j (pin_place q.places) q e (first_occurs q.places some')) in
               let late : r.side.loaded ≤ epoch = rw h at (kept.scans id j r q at e seen) in
               (guards.0, omega (arith, guards.1, same), omega (arith, late))
 
   -- the epoch is another
-  pub misses : (met greatest known raises : ℕ) → greatest ≤ now → known ≤ now → raises ≡ r.side.raises → Change now reader readings id (record { places = r.places; side = record r.side { met = met; greatest = greatest; known = known; raises = raises } })
+  pub misses : (met greatest known raises : ℕ) → greatest ≤ now → known ≤ now → raises ≡ r.side.raises →
+      Change now reader readings id (record { places = r.places; side = record r.side { met = met; greatest = greatest; known = known; raises = raises } })
   misses met greatest known raises found le none = record {
     from = kept.from;
     most = kept.most;

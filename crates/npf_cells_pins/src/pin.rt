@@ -1,3 +1,4 @@
+// What a pass knows of epochs.
 use std::collections::LinkedList;
 
 /// How a pass reads.

@@ -6,47 +6,23 @@ use Rattle.std.proofs.lemmas.List.{get_or-set_other}
 use mathlib.Core.Option.{some}
 use lib.ListN.{get_elem?}
 use Rattle.atomic_table.specs.Table.{State, stepped, keeps}
-use Rattle.npf_types.specs.declared.key.Key.{Key}
-use Rattle.npf_types.specs.declared.key.Way.{Way}
-use Rattle.npf_core.specs.declared.conn_id.ConnId.{ConnId}
-use Rattle.npf_core.specs.declared.entry.Entry.{Entry}
-use Rattle.npf_core.specs.History.{state_of}
-use Rattle.npf_core.specs.Machine.{Machine}
-use Rattle.npf_core.specs.Meaning.{Meaning}
+use Rattle.npf_types.specs.declared.key.{Key.Key, Way.Way}
+use Rattle.npf_core.specs.{declared.{conn_id.ConnId.ConnId, entry.Entry.Entry}, History.state_of, Machine.Machine, Meaning.Meaning}
 use Rattle.npf_connections.specs.Pass.{all_places}
-use Rattle.npf_paths.specs.declared.cell.Cell.{Cell}
-use Rattle.npf_paths.specs.declared.cell.Cell.TheVariants.{Leaf}
-use Rattle.npf_paths.specs.declared.place.Place.{Place}
-use Rattle.npf_paths.specs.Paths.{AreDigits, IsOnPath}
-use Rattle.npf_paths.proofs.PathLemmas.{same_places}
-use Rattle.npf_cells_words.specs.declared.layout.Layout.{Layout}
-use Rattle.npf_cells_words.specs.declared.layout.Pool.TheVariants.{Slots}
+use Rattle.npf_paths.{specs.{declared.{cell.Cell.{Cell, TheVariants.Leaf}, place.Place.Place}, Paths.{AreDigits, IsOnPath}}, proofs.PathLemmas.same_places}
+use Rattle.npf_cells_words.specs.declared.layout.{Layout.Layout, Pool.TheVariants.Slots}
 use Rattle.npf_cells_words.specs.Layout.{epoch_word, field_at, inc_field, note_field, notes_field, phase_field, reader_word, root_at, turn_field}
-use Rattle.npf_seats.specs.declared.side.SeatSide.{SeatSide}
-use Rattle.npf_seats.specs.Seats.{Seats}
-use Rattle.npf_seats.specs.Sums.{occurs}
-use Rattle.npf_seats.proofs.SumLemmas.{side_same, sum-set}
+use Rattle.npf_seats.{specs.{declared.side.SeatSide.SeatSide, Seats.Seats, Sums.occurs}, proofs.SumLemmas.{side_same, sum-set}}
 use Rattle.npf_cells_pins.specs.Epochs.{Epochs}
 use Rattle.npf_cells_leaves.specs.Trie.{Trie, trie_words}
-use Rattle.npf_cells_lives.specs.Conns.{entry_seat, Conns}
-use Rattle.npf_cells_lives.specs.Deaths.{Deaths, FitsKill, IsPast, has_epoch, slots_named, unreclaimed}
-use Rattle.npf_cells_lives.specs.Known.{Known}
-use Rattle.npf_cells_lives.specs.Locks.{Locks}
-use Rattle.npf_cells_lives.specs.Notes.{Notes}
-use Rattle.npf_cells_lives.specs.Pools.{taken, Pools}
-use Rattle.npf_cells_lives.specs.Stored.{StoredWords}
-use Rattle.npf_cells_lives.specs.Turns.{Running, Turns}
-use Rattle.npf_cells_lives.proofs.ConnLemmas.{builds-kept, conns-same, unstored-set}
-use Rattle.npf_cells_lives.proofs.DeathLemmas.{RestsNoMore, deaths-set, kill_kept, same_dates, spares_all}
-use Rattle.npf_cells_lives.proofs.FreedLemmas.{freed_stays, gone_in}
-use Rattle.npf_cells_lives.proofs.NoteLemmas.{notes-set, same_ahead}
-use Rattle.npf_cells_lives.proofs.TurnLemmas.{turns-kept}
+use Rattle.npf_cells_lives.specs.{Conns.{entry_seat, Conns}, Deaths.{Deaths, FitsKill, IsPast, has_epoch, slots_named, unreclaimed}, Known.Known, Locks.Locks}
+use Rattle.npf_cells_lives.specs.{Notes.Notes, Pools.{taken, Pools}, Stored.StoredWords, Turns.{Running, Turns}}
+use Rattle.npf_cells_lives.proofs.{ConnLemmas.{builds-kept, conns-same, unstored-set}, DeathLemmas.{RestsNoMore, deaths-set, kill_kept, same_dates, spares_all}}
+use Rattle.npf_cells_lives.proofs.{FreedLemmas.{freed_stays, gone_in}, NoteLemmas.{notes-set, same_ahead}, TurnLemmas.turns-kept}
 use Rattle.npf_cells_marks.specs.Marks.{Marks}
-use Rattle.npf_cells_rule.specs.declared.view.CellView.{CellView}
-use Rattle.npf_cells_rule.specs.Cells.{FitsAlone, IsCells}
+use Rattle.npf_cells_rule.specs.{declared.view.CellView.CellView, Cells.{FitsAlone, IsCells}}
 use Rattle.npf_cells_rule.specs.Views.{death_side, leaf_id, lock_side, mark_side, pool_side, protecting_epoch, reader_view, seat_side, seen_side, trie_side, turn_side}
-use Rattle.npf_cells_rule.proofs.DeathFrames.{known_apart}
-use Rattle.npf_cells_rule.proofs.Frames.{alone-set, framed}
+use Rattle.npf_cells_rule.proofs.{DeathFrames.known_apart, Frames.{alone-set, framed}}
 
 -- what a pass has of connections and of turns stays, and so does its protection
 pub record LeavesLives {S A R : Type 0} (v w : CellView S A R) : Type 0 where
@@ -65,7 +41,8 @@ pub record LeavesLives {S A R : Type 0} (v w : CellView S A R) : Type 0 where
   pub answered : w.trie.answered ≡ v.trie.answered
   pub leaf : w.trie.leaf ≡ v.trie.leaf
 
-module _ {S A R : Type 0} (m : Meaning S A R) (digest : Key → ℕ) (layout : Layout) (s : State (Running S) (CellView S A R)) (kept : IsCells m digest layout s) (word n id : ℕ) (v w : CellView S A R) (at : get_elem? s.views id ≡ some v) (leaves : LeavesLives v w)
+module _ {S A R : Type 0} (m : Meaning S A R) (digest : Key → ℕ) (layout : Layout) (s : State (Running S) (CellView S A R)) (kept : IsCells m digest layout s)
+    (word n id : ℕ) (v w : CellView S A R) (at : get_elem? s.views id ≡ some v) (leaves : LeavesLives v w)
     (behind : root_at layout ≤ word) (slots : (slot field : ℕ) → field_at layout Slots slot field ≢ word) where
   abbrev k : Machine S
   k = state_of m kept.log
@@ -140,17 +117,21 @@ module _ {S A R : Type 0} (m : Meaning S A R) (digest : Key → ℕ) (layout : L
     where
       kill_stays : (conn : ConnId) → Contains w.pools.kills conn → FitsKill death_side k (epoch_word words') views' w.epochs.loaded conn
       kill_stays conn c =
-          let was = kill_kept death_side layout k k s.words words' s.views id v w kept.deaths at (spares_all k) goes rests_so v.epochs.loaded conn (kept.deaths.kills id v conn at (subst (λ ids. Contains ids conn) leaves.kills c)) in
+          let was = kill_kept death_side layout k k s.words words' s.views id v w kept.deaths at (spares_all k) goes rests_so v.epochs.loaded conn
+          (kept.deaths.kills id v conn at (subst (λ ids. Contains ids conn) leaves.kills c)) in
           record {
             dead = was.dead;
-            past = λ some' bare. subst (λ x. IsPast death_side (epoch_word words') views' conn x) (sym (leaves.loaded some')) (was.past (let same = leaves.loaded some' in omega (arith, same, some')) bare);
+            past = λ some' bare. subst (λ x. IsPast death_side (epoch_word words') views' conn x) (sym (leaves.loaded some'))
+                (was.past (let same = leaves.loaded some' in omega (arith, same, some')) bare);
           }
 
   known_stays : Known (seen_side m) pool_side k views'
-  known_stays = known_apart m digest layout s id v w k kept at (λ conn c. subst (λ ids. Contains ids conn) leaves.kills c) (ap (λ (x : SeatSide ℕ (Entry S A R)). x.history) leaves.seats) (spares_all k)
+  known_stays = known_apart m digest layout s id v w k kept at (λ conn c. subst (λ ids. Contains ids conn) leaves.kills c)
+      (ap (λ (x : SeatSide ℕ (Entry S A R)). x.history) leaves.seats) (spares_all k)
 
   -- the notes stay, of the paths as they were; a leaf that a path meets then is one that it met before
-  notes_stay : ((digits : ℕ → ℕ) (level : ℕ) (q : Place) (slot : ℕ) (way : Way) → AreDigits digits → IsOnPath digits cell' level q → cell' q ≡ Leaf slot way → IsOnPath digits cell level q × (cell q ≡ Leaf slot way)) → Notes turn_side pool_side layout cell' k words' views'
+  notes_stay : ((digits : ℕ → ℕ) (level : ℕ) (q : Place) (slot : ℕ) (way : Way) → AreDigits digits → IsOnPath digits cell' level q → cell' q ≡ Leaf slot way →
+      IsOnPath digits cell level q × (cell q ≡ Leaf slot way)) → Notes turn_side pool_side layout cell' k words' views'
   notes_stay met = record {
     named = λ digits level q slot way are on is none. (let was = met digits level q slot way are on is in same.named digits level q slot way are was.0 was.1 none);
     bare = same.bare;
@@ -161,20 +142,25 @@ module _ {S A R : Type 0} (m : Meaning S A R) (digest : Key → ℕ) (layout : L
   }
     where
       same : Notes turn_side pool_side layout cell k words' views'
-      same = notes-set turn_side pool_side layout k k cell cell s.words words' s.views id v w kept.notes at (same_ahead v.turn w.turn leaves.turn) leaves.kills leaves.gave_up leaves.notes (λ conn c. subst (λ ids. Contains ids conn) (sym leaves.builds) c) (record {
-        cells = λ digits are level p on. refl;
-        notes = λ slot way. slot_word slot (note_field way);
-        held = λ key found h. h;
-        back = λ key found h. h;
-        slots = λ slot. inl refl;
-      })
+      same = notes-set turn_side pool_side layout k k cell cell s.words words' s.views id v w kept.notes at
+          (same_ahead v.turn w.turn leaves.turn) leaves.kills leaves.gave_up leaves.notes (λ conn c. subst (λ ids. Contains ids conn) (sym leaves.builds) c) (record {
+            cells = λ digits are level p on. refl;
+            notes = λ slot way. slot_word slot (note_field way);
+            held = λ key found h. h;
+            back = λ key found h. h;
+            slots = λ slot. inl refl;
+          })
 
   -- the rule, where the other parts hold
-  pub back_step : (published : List ℕ) (c : List (ℕ × Running S)) → Epochs (epoch_word words') (reader_word words') (map reader_view views') → Pools layout (taken pool_side published k views') words' → Trie trie_side digest layout published k words' views' → StoredWords pool_side layout words' views' → Locks lock_side layout words' views' →
-      ((digits : ℕ → ℕ) (level : ℕ) (q : Place) (slot : ℕ) (way : Way) → AreDigits digits → IsOnPath digits cell' level q → cell' q ≡ Leaf slot way → IsOnPath digits cell level q × (cell q ≡ Leaf slot way)) → Marks mark_side layout published words' views' → FitsAlone w → IsCells m digest layout (stepped s word n id c w keeps)
+  pub back_step : (published : List ℕ) (c : List (ℕ × Running S)) → Epochs (epoch_word words') (reader_word words') (map reader_view views') →
+      Pools layout (taken pool_side published k views') words' → Trie trie_side digest layout published k words' views' →
+      StoredWords pool_side layout words' views' → Locks lock_side layout words' views' →
+      ((digits : ℕ → ℕ) (level : ℕ) (q : Place) (slot : ℕ) (way : Way) → AreDigits digits → IsOnPath digits cell' level q → cell' q ≡ Leaf slot way →
+      IsOnPath digits cell level q × (cell q ≡ Leaf slot way)) → Marks mark_side layout published words' views' → FitsAlone w → IsCells m digest layout (stepped s word n id c w keeps)
   back_step published c epochs pools trie stored locks met marks alone = framed m digest layout s (stepped s word n id c w keeps) kept published kept.log (length-set s.words word n)
       seats_stay epochs pools trie connections_stay stored locks turns_stay deaths_stay known_stays (notes_stay met) marks (alone-set s.views id w alone kept.alone)
 
 -- which leaves are met stays where all cells do
-pub same_leaves : (cell cell' : Place → Cell) → ((q : Place) → cell' q ≡ cell q) → (digits : ℕ → ℕ) (level : ℕ) (q : Place) (slot : ℕ) (way : Way) → AreDigits digits → IsOnPath digits cell' level q → cell' q ≡ Leaf slot way → IsOnPath digits cell level q × (cell q ≡ Leaf slot way)
+pub same_leaves : (cell cell' : Place → Cell) → ((q : Place) → cell' q ≡ cell q) → (digits : ℕ → ℕ) (level : ℕ) (q : Place) (slot : ℕ) (way : Way) →
+    AreDigits digits → IsOnPath digits cell' level q → cell' q ≡ Leaf slot way → IsOnPath digits cell level q × (cell q ≡ Leaf slot way)
 same_leaves cell cell' same digits level q slot way are on is = (same_places (λ l p _. same p) on, sym (same q) ∙ is)

@@ -1,58 +1,37 @@
 -- The state of a node that a pass got back is freed, and the rule is kept: the node is one of the pass's own.
 use Rattle.std.specs.List.{Contains}
 use Rattle.std.proofs.Common.{◌≡◌, ◌≢◌, ℕ, ◌+◌, ◌%◌, ◌<◌, ◌≤◌, List, [], ◌∷◌, eqb, eq-eqb, ne_eqb, set, length, slice_index, refl, sym, ap, ◌∙◌, subst, ⊎_elim, arith, length-set}
-use Rattle.std.proofs.lemmas.Bool.{cases_eq}
-use Rattle.std.proofs.lemmas.List.{get_or-set_other, get_or-set_same}
-use Rattle.std.proofs.lemmas.Nat.Bits.{bit_at-lt}
+use Rattle.std.proofs.lemmas.{Bool.cases_eq, List.{get_or-set_other, get_or-set_same}, Nat.Bits.bit_at-lt}
 use mathlib.Core.Option.{some}
 use lib.ListN.{get_elem?}
 use Rattle.atomic_table.specs.Table.{Allows, Me, State, Step, keeps, stepped}
-use Rattle.npf_types.specs.declared.key.Key.{Key}
-use Rattle.npf_types.specs.declared.key.Way.{Way}
-use Rattle.npf_core.specs.History.{state_of}
-use Rattle.npf_core.specs.Machine.{Machine}
-use Rattle.npf_core.specs.Meaning.{Meaning}
-use Rattle.npf_paths.specs.declared.place.Lock.{Lock}
+use Rattle.npf_types.specs.declared.key.{Key.Key, Way.Way}
+use Rattle.npf_shelf.proofs.ListLemmas.{Contains-later}
+use Rattle.npf_core.specs.{History.state_of, Machine.Machine, Meaning.Meaning}
+use Rattle.npf_paths.specs.declared.place.{Lock.Lock, Place.Place}
 use Rattle.npf_paths.specs.declared.place.Lock.TheVariants as Locking
-use Rattle.npf_paths.specs.declared.place.Place.{Place}
-use Rattle.npf_cells_words.specs.declared.layout.Layout.{Layout}
-use Rattle.npf_cells_words.specs.declared.layout.Pool.{Pool}
-use Rattle.npf_cells_words.specs.declared.layout.Pool.TheVariants.{Nodes, Slots}
-use Rattle.npf_cells_words.specs.Layout.{field_at, inc_field, key_field, parent_field, place_word, root_at}
-use Rattle.npf_cells_words.specs.MarkWords.{state_word}
-use Rattle.npf_cells_words.specs.Places.{lock_at, place_at}
+use Rattle.npf_cells_words.specs.declared.layout.{Layout.Layout, Pool.{Pool, TheVariants.{Nodes, Slots}}}
+use Rattle.npf_cells_words.specs.{Layout.{field_at, inc_field, key_field, parent_field, place_word, root_at}, MarkWords.state_word, Places.{lock_at, place_at}}
 use Rattle.npf_cells_words.proofs.WordLemmas.{lock_behind, lock_reach, not_place, not_slot, parent_unlocked}
-use Rattle.npf_seats.specs.Sums.{occurs, others_than}
-use Rattle.npf_seats.proofs.ListLemmas.{left_others, left_same, occurs-cons, one_where, stands_once}
+use Rattle.npf_seats.{specs.Sums.{occurs, others_than}, proofs.ListLemmas.{left_others, left_same, occurs-cons, one_where, stands_once}}
 use Rattle.npf_seats.proofs.SumLemmas.{one_of_sum, sum-set, two_of_sum}
-use Rattle.npf_cells_leaves.specs.Trie.{Trie, TrieWords, key_word, trie_words}
-use Rattle.npf_cells_leaves.proofs.TrieLemmas.{KeepsTrie, cell_kept, knows_same, trie_same}
-use Rattle.npf_cells_lives.specs.Deaths.{has_epoch}
-use Rattle.npf_cells_lives.specs.Locks.{Locks, held_in, lock_holders}
-use Rattle.npf_cells_lives.specs.Pools.{Pools, node_owners, taken, unfreed_owners}
-use Rattle.npf_cells_lives.specs.Stored.{IsOwnField, StoredWords}
-use Rattle.npf_cells_lives.specs.Turns.{Running}
-use Rattle.npf_cells_lives.proofs.LockLemmas.{holders-set}
-use Rattle.npf_cells_lives.proofs.PoolLemmas.{pools-kept}
+use Rattle.npf_cells_leaves.{specs.Trie.{Trie, TrieWords, key_word, trie_words}, proofs.TrieLemmas.{KeepsTrie, cell_kept, knows_same, trie_same}}
+use Rattle.npf_cells_leaves.proofs.TakingOffLemmas.{other_listed, still_listed}
+use Rattle.npf_cells_lives.specs.{Deaths.has_epoch, Locks.{Locks, held_in, lock_holders}, Pools.{Pools, node_owners, taken, unfreed_owners}}
+use Rattle.npf_cells_lives.{specs.{Stored.{IsOwnField, StoredWords}, Turns.Running}, proofs.{LockLemmas.holders-set, PoolLemmas.pools-kept}}
 use Rattle.npf_cells_lives.proofs.StoredLemmas.{no_lock, stored-set, stored_kept}
-use Rattle.npf_cells_marks.specs.Marks.{Marks}
-use Rattle.npf_cells_marks.proofs.ClearingLemmas.{marks-regained}
-use Rattle.npf_cells_marks.proofs.StepLemmas.{later}
-use Rattle.npf_cells_rule.specs.declared.view.CellView.{CellView}
-use Rattle.npf_cells_rule.specs.Cells.{FitsAlone, IsCells}
-use Rattle.npf_cells_rule.specs.Views.{lock_side, mark_side, pool_side, trie_side, with_pools}
-use Rattle.npf_cells_rule.proofs.Frames.{alone_still, epochs_apart}
-use Rattle.npf_cells_rule.proofs.MarkFrames.{lock_changed}
-use Rattle.npf_cells_returns.specs.MarkKinds.{FreesNode, freeing_node}
-use Rattle.npf_cells_returns.proofs.BackFrames.{LeavesLives, back_step, below, same_leaves}
-use Rattle.npf_cells_returns.proofs.ListedLemmas.{other_listed, still_listed}
+use Rattle.npf_cells_marks.{specs.Marks.Marks, proofs.ClearingLemmas.marks-regained}
+use Rattle.npf_cells_rule.specs.{declared.view.CellView.CellView, Cells.{FitsAlone, IsCells}, Views.{lock_side, mark_side, pool_side, trie_side, with_pools}}
+use Rattle.npf_cells_rule.proofs.{Frames.{alone_still, epochs_apart}, MarkFrames.lock_changed}
+use Rattle.npf_cells_returns.{specs.MarkKinds.{FreesNode, freeing_node}, proofs.BackFrames.{LeavesLives, back_step, below, same_leaves}}
 
 -- nobody has a lock whose state has an epoch
 unheld : (state : ℕ) → has_epoch state ≡ 1 → held_in state ≡ 0
 unheld state gone = grind (arith, gone)
 
 module _ {S A R : Type 0} (m : Meaning S A R) (digest : Key → ℕ) (layout : Layout) where
-  module _ (s : State (Running S) (CellView S A R)) (id : ℕ) (me : Me (Running S) (CellView S A R)) (kept : IsCells m digest layout s) (at : get_elem? s.views id ≡ some me.0) (place : 1 ≤ length me.0.seats.readers)
+  module _ (s : State (Running S) (CellView S A R)) (id : ℕ) (me : Me (Running S) (CellView S A R)) (kept : IsCells m digest layout s)
+      (at : get_elem? s.views id ≡ some me.0) (place : 1 ≤ length me.0.seats.readers)
       (node : ℕ) (exists : node < layout.nodes) (mine : Contains me.0.pools.unfreed node) where
     abbrev k : Machine S
     k = state_of m kept.log
@@ -116,7 +95,8 @@ module _ {S A R : Type 0} (m : Meaning S A R) (digest : Key → ℕ) (layout : L
         ⊎_elim
         (λ (same : q ≡ node).
         let none : occurs q (others_than node me.0.pools.unfreed) ≡ 0 = ap (λ x. occurs x (others_than node me.0.pools.unfreed)) same ∙ left_same node me.0.pools.unfreed in
-        let had : occurs q me.0.pools.unfreed ≡ 1 = ap (λ x. occurs x me.0.pools.unfreed) same ∙ (let most = once in let part = owned in let one = stands_once node me.0.pools.unfreed mine in omega (arith, most, part, one)) in
+        let had : occurs q me.0.pools.unfreed ≡ 1 = ap (λ x. occurs x me.0.pools.unfreed) same ∙ (let most = once in
+        let part = owned in let one = stands_once node me.0.pools.unfreed mine in omega (arith, most, part, one)) in
         let one : one_where (eqb node q) ≡ 1 = ap one_where (eq-eqb node q (sym same)) in
         omega (arith, owners, back, more, none, had, one))
         (λ (ne : q ≢ node).
@@ -126,7 +106,22 @@ module _ {S A R : Type 0} (m : Meaning S A R) (digest : Key → ℕ) (layout : L
         (cases_eq q node)
 
     leaves : LeavesLives me.0 w
-    leaves = record { seats = refl; turn = refl; pin = refl; loaded = λ _. refl; builds = refl; unstored = refl; kills = refl; gave_up = refl; reclaims = refl; cleared = refl; dated = refl; notes = refl; answered = refl; leaf = refl }
+    leaves = record {
+      seats = refl;
+      turn = refl;
+      pin = refl;
+      loaded = λ _. refl;
+      builds = refl;
+      unstored = refl;
+      kills = refl;
+      gave_up = refl;
+      reclaims = refl;
+      cleared = refl;
+      dated = refl;
+      notes = refl;
+      answered = refl;
+      leaf = refl;
+    }
 
     slots : (slot field : ℕ) → field_at layout Slots slot field ≢ word
     slots slot field = not_slot layout slot field (Locking.Node node) exists
@@ -160,7 +155,7 @@ module _ {S A R : Type 0} (m : Meaning S A R) (digest : Key → ℕ) (layout : L
     -- the pass owns one node more
     owns_more : (pool : Pool) (q field : ℕ) → IsOwnField layout me.0.pools pool q field → IsOwnField layout w.pools pool q field
     owns_more Slots q field own = own
-    owns_more Nodes q field own = (later node q me.0.pools.nodes own.0, own.1, own.2, own.3)
+    owns_more Nodes q field own = (Contains-later node q me.0.pools.nodes own.0, own.1, own.2, own.3)
 
     stored_stay : StoredWords pool_side layout words' views'
     stored_stay = stored-set pool_side layout words' s.views id w

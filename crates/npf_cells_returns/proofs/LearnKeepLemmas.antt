@@ -1,43 +1,25 @@
 -- Loads of a node's places, of its parent and of its state keep the rule: the pass learns what stands there of an empty node, or of a mark.
 use Rattle.std.specs.List.{Contains}
-use Rattle.std.proofs.Common.{◌≡◌, ℕ, ◌-◌, ◌/◌, ◌%◌, ◌^◌, ◌<◌, ◌≤◌, ◌==◌, Bool, true, false, cond, eqb, nat_lt, Option, Some, None, List, ◌∷◌, set, length, slice_index, refl, sym, ap, ◌∙◌, subst, arith, length-set}
-use Rattle.std.proofs.lemmas.Bool.Decides.{Decides-eqb, Decides-ltb, not_from_Decides}
-use Rattle.std.proofs.lemmas.List.{set-get_or}
+use Rattle.std.proofs.Common.{◌≡◌, ℕ, ◌-◌, ◌/◌, ◌%◌, ◌^◌, ◌<◌, ◌≤◌, ◌==◌, Bool, true, false, cond, eqb, nat_lt, Option, Some, None, List, ◌∷◌}
+use Rattle.std.proofs.Common.{set, length, slice_index, refl, sym, ap, ◌∙◌, subst, arith, length-set}
+use Rattle.std.proofs.lemmas.{Bool.Decides.{Decides-eqb, Decides-ltb, not_from_Decides}, List.set-get_or}
 use mathlib.Core.Option.{some}
 use lib.ListN.{get_elem?}
 use Rattle.atomic_table.specs.Table.{State, Me, Step, Allows, stepped, keeps}
 use Rattle.npf_types.specs.declared.key.Key.{Key}
-use Rattle.npf_core.specs.History.{state_of}
-use Rattle.npf_core.specs.Machine.{Machine}
-use Rattle.npf_core.specs.Meaning.{Meaning}
+use Rattle.npf_core.specs.{History.state_of, Machine.Machine, Meaning.Meaning}
 use Rattle.npf_connections.specs.Pass.{all_places}
-use Rattle.npf_paths.specs.declared.place.Place.{Place}
+use Rattle.npf_paths.specs.{declared.place.Place.Place, Places.lock_of}
 use Rattle.npf_paths.specs.declared.place.Place.TheVariants as Places
-use Rattle.npf_paths.specs.Places.{lock_of}
-use Rattle.npf_cells_words.specs.declared.layout.Layout.{Layout}
-use Rattle.npf_cells_words.specs.declared.layout.Pool.TheVariants.{Nodes}
-use Rattle.npf_cells_words.specs.declared.mark.Emptied.{Emptied}
-use Rattle.npf_cells_words.specs.declared.mark.MetMark.{MetMark}
-use Rattle.npf_cells_words.specs.Layout.{field_at, parent_field, state_field}
-use Rattle.npf_cells_words.specs.MarkWords.{mark_word, parent_word, state_word}
-use Rattle.npf_cells_words.specs.Places.{IsInTrie, place_at}
-use Rattle.npf_seats.specs.Seats.{Seats}
-use Rattle.npf_seats.proofs.SumLemmas.{side_same}
+use Rattle.npf_cells_words.specs.declared.{layout.{Layout.Layout, Pool.TheVariants.Nodes}, mark.{Emptied.Emptied, MetMark.MetMark}}
+use Rattle.npf_cells_words.specs.{Layout.{field_at, parent_field, state_field}, MarkWords.{mark_word, parent_word, state_word}, Places.{IsInTrie, place_at}}
+use Rattle.npf_seats.{specs.Seats.Seats, proofs.SumLemmas.side_same}
 use Rattle.npf_cells_leaves.specs.Trie.{FitsTrie, Trie, trie_words}
 use Rattle.npf_cells_leaves.proofs.TrieLemmas.{fits_all, fits-set, grown-set, keeps_words, knows_same, fits_kept, trie_kept}
-use Rattle.npf_cells_lives.specs.Conns.{entry_seat}
-use Rattle.npf_cells_lives.specs.Pools.{taken}
-use Rattle.npf_cells_lives.specs.Turns.{Running}
-use Rattle.npf_cells_lives.proofs.DeathLemmas.{spares_all}
-use Rattle.npf_cells_lives.proofs.PoolLemmas.{pools-same, taken-set}
-use Rattle.npf_cells_marks.specs.Marks.{Marks}
-use Rattle.npf_cells_marks.specs.Steps.{KnowsEmptied, KnowsMet, LearnsOfMarks}
-use Rattle.npf_cells_marks.specs.Steps.KnowsEmptied.{known, digit_read, parent_read}
-use Rattle.npf_cells_marks.specs.Steps.KnowsMet.{met_before, mark_read, left_read}
-use Rattle.npf_cells_marks.proofs.LearningLemmas.{marks-learned}
-use Rattle.npf_cells_rule.specs.declared.view.CellView.{CellView}
-use Rattle.npf_cells_rule.specs.Cells.{IsCells}
-use Rattle.npf_cells_rule.specs.Views.{seat_side, trie_side, pool_side, mark_side}
+use Rattle.npf_cells_lives.{specs.{Conns.entry_seat, Pools.taken, Turns.Running}, proofs.{DeathLemmas.spares_all, PoolLemmas.{pools-same, taken-set}}}
+use Rattle.npf_cells_marks.specs.{Marks.Marks, Steps.{KnowsEmptied, KnowsMet, LearnsOfMarks, KnowsEmptied.{known, digit_read, parent_read}}}
+use Rattle.npf_cells_marks.{specs.Steps.KnowsMet.{met_before, mark_read, left_read}, proofs.LearningLemmas.marks-learned}
+use Rattle.npf_cells_rule.specs.{declared.view.CellView.CellView, Cells.IsCells, Views.{seat_side, trie_side, pool_side, mark_side}}
 use Rattle.npf_cells_rule.proofs.DeathFrames.{deaths_load, known_apart}
 use Rattle.npf_cells_rule.proofs.Frames.{alone-set, alone_still, framed, epochs_apart, conns_apart, stored_apart, locks_apart, turns_behind, notes_still}
 use Rattle.npf_cells_rule.proofs.StoodLemmas.{stood_so}
@@ -45,7 +27,8 @@ use Rattle.npf_cells_returns.specs.LoadKinds.{with_digit, met_in, loading_cell, 
 
 module _ {S A R : Type 0} (m : Meaning S A R) (digest : Key → ℕ) (layout : Layout) where
   -- a load by which the pass learns of an empty node, or of a mark, keeps the rule
-  module _ (s : State (Running S) (CellView S A R)) (kept : IsCells m digest layout s) (i id : ℕ) (v : CellView S A R) (at : get_elem? s.views id ≡ some v) (seated : 1 ≤ length v.seats.readers) (emptied : Option Emptied) (met : Option MetMark)
+  module _ (s : State (Running S) (CellView S A R)) (kept : IsCells m digest layout s) (i id : ℕ) (v : CellView S A R)
+      (at : get_elem? s.views id ≡ some v) (seated : 1 ≤ length v.seats.readers) (emptied : Option Emptied) (met : Option MetMark)
       (emptied_is : (e : Emptied) → emptied ≡ Some e → KnowsEmptied layout s.words (mark_side v) e) (met_is : (x : MetMark) → met ≡ Some x → KnowsMet layout s.words (mark_side v) x) where
     abbrev k : Machine S
     k = state_of m kept.log
@@ -86,7 +69,8 @@ module _ {S A R : Type 0} (m : Meaning S A R) (digest : Key → ℕ) (layout : L
     learns c = framed m digest layout s (stepped s i found id c learner keeps) kept kept.published kept.log (length-set s.words i found)
         (subst (λ sides. Seats entry_seat layout.slots all_places kept.log sides) (sym (side_same seat_side s.views id v learner at refl)) kept.seats)
         (epochs_apart m digest layout s i found id v learner kept at refl (λ j h. same j))
-        (pools-same layout (taken pool_side kept.published k s.views) (taken pool_side kept.published k (set s.views id learner)) s.words ws kept.pools (length-set s.words i found) (λ j h. same j) (taken-set pool_side kept.published k s.views id v learner at refl refl))
+        (pools-same layout (taken pool_side kept.published k s.views) (taken pool_side kept.published k (set s.views id learner)) s.words ws kept.pools
+        (length-set s.words i found) (λ j h. same j) (taken-set pool_side kept.published k s.views id v learner at refl refl))
         trie_after
         (conns_apart m digest layout s i found id v learner kept at refl refl (λ j h. same j))
         (stored_apart m digest layout s i found id learner kept (kept.stored id v at) (λ j h. same j))
@@ -96,15 +80,24 @@ module _ {S A R : Type 0} (m : Meaning S A R) (digest : Key → ℕ) (layout : L
         (known_apart m digest layout s id v learner k kept at (λ conn x. x) refl (spares_all k))
         (notes_still m digest layout s i found id v learner kept at refl refl refl refl (λ j h. same j))
         marks_after
-        (alone-set s.views id learner (alone_still v learner (kept.alone id v at) seated refl (λ none. record { stands = none.stands; leaf = none.leaf; seen = none.seen; meets = none.meets; answered = none.answered; locks = none.locks })) kept.alone)
+        (alone-set s.views id learner (alone_still v learner (kept.alone id v at) seated refl (λ none. record {
+          stands = none.stands;
+          leaf = none.leaf;
+          seen = none.seen;
+          meets = none.meets;
+          answered = none.answered;
+          locks = none.locks;
+        })) kept.alone)
 
   -- what a word of a place under its lock tells of the node that is found empty
-  digit_known : (s : State (Running S) (CellView S A R)) (v : CellView S A R) (p : Place) (was : Option Emptied) → v.trie.emptied ≡ was → (e : Emptied) → with_digit p (slice_index s.words (place_at layout p)) was ≡ Some e → KnowsEmptied layout s.words (mark_side v) e
+  digit_known : (s : State (Running S) (CellView S A R)) (v : CellView S A R) (p : Place) (was : Option Emptied) → v.trie.emptied ≡ was → (e : Emptied) →
+      with_digit p (slice_index s.words (place_at layout p)) was ≡ Some e → KnowsEmptied layout s.words (mark_side v) e
   digit_known s v p None has e is = absurd cc
   digit_known s v (Places.Root digit) (Some x) has e is = known e (has ∙ is)
   digit_known s v (Places.Node node digit) (Some x) has e is = by_node (eqb x.node node) (eqb (slice_index s.words (place_at layout (Places.Node node digit))) 0) refl refl is
     where
-      by_node : (a b : Bool) → eqb x.node node ≡ a → eqb (slice_index s.words (place_at layout (Places.Node node digit))) 0 ≡ b → cond a (cond b (Some (record x { digits = digit ∷ x.digits })) (Some x)) (Some x) ≡ Some e → KnowsEmptied layout s.words (mark_side v) e
+      by_node : (a b : Bool) → eqb x.node node ≡ a → eqb (slice_index s.words (place_at layout (Places.Node node digit))) 0 ≡ b →
+          cond a (cond b (Some (record x { digits = digit ∷ x.digits })) (Some x)) (Some x) ≡ Some e → KnowsEmptied layout s.words (mark_side v) e
       by_node true true here none is' =
           let there : x.node ≡ node = (Decides-eqb x.node node).0 here in
           let more : (record { node = x.node; parent = x.parent; digits = digit ∷ x.digits }) ≡ e = cc in
@@ -113,7 +106,8 @@ module _ {S A R : Type 0} (m : Meaning S A R) (digest : Key → ℕ) (layout : L
       by_node false b here none is' = known e (has ∙ is')
 
   -- and of a mark that stands there
-  mark_known : (s : State (Running S) (CellView S A R)) (v : CellView S A R) (p : Place) → IsInTrie layout p → Contains v.trie.locks (lock_of p) → (x : MetMark) → met_in p (slice_index s.words (place_at layout p)) ≡ Some x → KnowsMet layout s.words (mark_side v) x
+  mark_known : (s : State (Running S) (CellView S A R)) (v : CellView S A R) (p : Place) → IsInTrie layout p → Contains v.trie.locks (lock_of p) →
+      (x : MetMark) → met_in p (slice_index s.words (place_at layout p)) ≡ Some x → KnowsMet layout s.words (mark_side v) x
   mark_known s v p inside locked x is = by_word (eqb (word % 4) 3) refl is
     where
       word : ℕ
@@ -126,7 +120,8 @@ module _ {S A R : Type 0} (m : Meaning S A R) (digest : Key → ℕ) (layout : L
           subst (KnowsMet layout s.words (mark_side v)) there (mark_read p (word / 4) inside locked (grind (arith, three)))
       by_word false e is' = absurd cc
 
-  pub may_load_cell : (st : Step (Running S)) (id n : ℕ) (p : Place) (me : Me (Running S) (CellView S A R)) → 1 ≤ length me.0.seats.readers → me.0.seats.lives ≡ true → IsInTrie layout p → Contains me.0.trie.locks (lock_of p) →
+  pub may_load_cell : (st : Step (Running S)) (id n : ℕ) (p : Place) (me : Me (Running S) (CellView S A R)) →
+      1 ≤ length me.0.seats.readers → me.0.seats.lives ≡ true → IsInTrie layout p → Contains me.0.trie.locks (lock_of p) →
       Allows (IsCells m digest layout) n id me (place_at layout p) (λ x. x) (LoadsCell m digest layout p st me)
   may_load_cell st id n p me seated lives inside locked s kept homes at bound =
       let i = place_at layout p in
@@ -143,7 +138,8 @@ module _ {S A R : Type 0} (m : Meaning S A R) (digest : Key → ℕ) (layout : L
       )
 
   -- a parent word tells where the node that is found empty hangs
-  parent_known : (s : State (Running S) (CellView S A R)) (v : CellView S A R) (node : ℕ) (was : Option Emptied) → v.trie.emptied ≡ was → (e : Emptied) → with_parent node (parent_word layout s.words node) was ≡ Some e → KnowsEmptied layout s.words (mark_side v) e
+  parent_known : (s : State (Running S) (CellView S A R)) (v : CellView S A R) (node : ℕ) (was : Option Emptied) → v.trie.emptied ≡ was →
+      (e : Emptied) → with_parent node (parent_word layout s.words node) was ≡ Some e → KnowsEmptied layout s.words (mark_side v) e
   parent_known s v node None has e is = absurd cc
   parent_known s v node (Some x) has e is = by_node (eqb x.node node) refl is
     where
@@ -167,11 +163,13 @@ module _ {S A R : Type 0} (m : Meaning S A R) (digest : Key → ℕ) (layout : L
       )
 
   -- a node's state tells with which epoch the node of a mark was let go
-  left_known : (s : State (Running S) (CellView S A R)) (kept : IsCells m digest layout s) (id : ℕ) (v : CellView S A R) → get_elem? s.views id ≡ some v → (node : ℕ) (was : Option MetMark) → v.trie.met_mark ≡ was → (x : MetMark) → with_left node (state_word layout s.words node) was ≡ Some x → KnowsMet layout s.words (mark_side v) x
+  left_known : (s : State (Running S) (CellView S A R)) (kept : IsCells m digest layout s) (id : ℕ) (v : CellView S A R) → get_elem? s.views id ≡ some v →
+      (node : ℕ) (was : Option MetMark) → v.trie.met_mark ≡ was → (x : MetMark) → with_left node (state_word layout s.words node) was ≡ Some x → KnowsMet layout s.words (mark_side v) x
   left_known s kept id v at node None has x is = absurd cc
   left_known s kept id v at node (Some y) has x is = by_node (eqb y.node node) (nat_lt (state_word layout s.words node) (2 ^ 63)) refl refl is
     where
-      by_node : (a b : Bool) → eqb y.node node ≡ a → nat_lt (state_word layout s.words node) (2 ^ 63) ≡ b → cond a (Some (record y { left = cond b None (Some (state_word layout s.words node - 2 ^ 63)) })) (Some y) ≡ Some x → KnowsMet layout s.words (mark_side v) x
+      by_node : (a b : Bool) → eqb y.node node ≡ a → nat_lt (state_word layout s.words node) (2 ^ 63) ≡ b →
+          cond a (Some (record y { left = cond b None (Some (state_word layout s.words node - 2 ^ 63)) })) (Some y) ≡ Some x → KnowsMet layout s.words (mark_side v) x
       by_node true true here low is' =
           let fits = kept.marks.met id v y at has in
           let there : (record { node = y.node; place = y.place; left = None }) ≡ x = cc in

@@ -1,7 +1,6 @@
 pub mod BackFrames
 pub mod FreeingKeepLemmas
 pub mod LearnKeepLemmas
-pub mod ListedLemmas
 pub mod LockedLemmas
 pub mod MarkLawLemmas
 pub mod MarkingKeepLemmas

@@ -4,16 +4,10 @@ use mathlib.Core.Option.{some}
 use lib.ListN.{get_elem?}
 use Rattle.atomic_table.specs.Table.{State}
 use Rattle.npf_core.specs.Meaning.{Meaning}
-use Rattle.npf_cells_words.specs.declared.layout.Layout.{Layout}
-use Rattle.npf_cells_words.specs.Layout.{epoch_word}
-use Rattle.npf_cells_pins.specs.declared.pin.Pin.{Pin}
-use Rattle.npf_cells_pins.specs.declared.pin.Pin.TheVariants.{Idle, Pinned, Protected}
-use Rattle.npf_cells_lives.specs.Deaths.{IsProtectedBy}
-use Rattle.npf_cells_lives.specs.Turns.{Running}
-use Rattle.npf_cells_rule.specs.declared.view.CellView.{CellView}
-use Rattle.npf_cells_rule.specs.Views.{protecting_epoch}
-use Rattle.npf_cells_rule.proofs.LawLemmas.{holds_back}
-use Rattle.npf_cells_rule.proofs.MarkMetLemmas.{mark_holds_none}
+use Rattle.npf_cells_words.specs.{declared.layout.Layout.Layout, Layout.epoch_word}
+use Rattle.npf_cells_pins.specs.declared.pin.Pin.{Pin, TheVariants.{Idle, Pinned, Protected}}
+use Rattle.npf_cells_lives.specs.{Deaths.IsProtectedBy, Turns.Running}
+use Rattle.npf_cells_rule.{specs.{declared.view.CellView.CellView, Views.protecting_epoch}, proofs.{LawLemmas.holds_back, MarkMetLemmas.mark_holds_none}}
 use Rattle.npf_cells_returns.specs.MarkLaw.{MarksHoldNone, MarkedNodesAreBare, MarkedNodesHoldBack}
 
 pub marks_hold_none : {S A R : Type 0} (m : Meaning S A R) (layout : Layout) → MarksHoldNone m layout

@@ -1,79 +1,39 @@
 -- Kind 20 keeps the rule: the mark of a node that the pass marked takes the node's place.
 use Rattle.std.specs.List.{Contains}
-use Rattle.std.proofs.Common.{◌≡◌, ◌≢◌, ◌⊎◌, ℕ, ◌<◌, ◌≤◌, true, false, cond, eq-eqb, ne_eqb, List, [], ◌∷◌, map, set, length, slice_index, refl, sym, ap, ◌∙◌, subst, ⊎_elim, inl, inr, arith, length-set}
-use Rattle.std.proofs.lemmas.Bool.{cases_eq}
-use Rattle.std.proofs.lemmas.List.{get_or-map, length-map, map-set}
+use Rattle.std.proofs.Common.{◌≡◌, ◌≢◌, ◌⊎◌, ℕ, ◌<◌, ◌≤◌, true, false, cond, eq-eqb, ne_eqb, List, [], ◌∷◌, map, set, length, slice_index}
+use Rattle.std.proofs.{Common.{refl, sym, ap, ◌∙◌, subst, ⊎_elim, inl, inr, arith, length-set}, lemmas.{Bool.cases_eq, List.{get_or-map, length-map, map-set}}}
 use mathlib.Core.Option.{some}
 use lib.ListN.{get_elem?}
-use Rattle.atomic_table.specs.Table.{Allows, Me, State, Step, keeps, stepped}
-use Rattle.atomic_table.proofs.Lists.{at_map}
+use Rattle.atomic_table.{specs.Table.{Allows, Me, State, Step, keeps, stepped}, proofs.Lists.at_map}
 use Rattle.npf_types.specs.declared.key.Key.{Key}
-use Rattle.npf_core.specs.History.{state_of}
-use Rattle.npf_core.specs.Machine.{Machine}
-use Rattle.npf_core.specs.Meaning.{Meaning}
-use Rattle.npf_paths.specs.declared.cell.Cell.TheVariants.{Node}
+use Rattle.npf_shelf.proofs.ListLemmas.{Contains-later}
+use Rattle.npf_core.specs.{History.state_of, Machine.Machine, Meaning.Meaning}
+use Rattle.npf_paths.specs.{declared.{cell.Cell.TheVariants.Node, place.Place.Place}, CellWords.cell_word, Paths.IsOnPath, Places.lock_of}
 use Rattle.npf_paths.specs.declared.place.Lock.TheVariants as Locking
-use Rattle.npf_paths.specs.declared.place.Place.{Place}
-use Rattle.npf_paths.specs.CellWords.{cell_word}
-use Rattle.npf_paths.specs.Paths.{IsOnPath}
-use Rattle.npf_paths.specs.Places.{lock_of}
 use Rattle.npf_paths.proofs.FillingLemmas.{same_or_apart}
-use Rattle.npf_cells_words.specs.declared.layout.Layout.{Layout}
-use Rattle.npf_cells_words.specs.declared.layout.Pool.TheVariants.{Slots}
-use Rattle.npf_cells_words.specs.declared.mark.Marked.{Marked}
-use Rattle.npf_cells_words.specs.Codes.{place_code}
-use Rattle.npf_cells_words.specs.Layout.{epoch_word, field_at, reader_word, root_at}
-use Rattle.npf_cells_words.specs.MarkWords.{mark_word, parent_word, shown_of}
-use Rattle.npf_cells_words.specs.Places.{IsInTrie, place_at}
-use Rattle.npf_cells_words.proofs.CodeLemmas.{codes_are_apart}
-use Rattle.npf_cells_words.proofs.MarkLemmas.{marks_lead_on, said_shown}
+use Rattle.npf_cells_words.specs.{declared.{layout.{Layout.Layout, Pool.TheVariants.Slots}, mark.Marked.Marked}, Codes.place_code}
+use Rattle.npf_cells_words.specs.{Layout.{epoch_word, field_at, reader_word, root_at}, MarkWords.{mark_word, parent_word, shown_of}}
+use Rattle.npf_cells_words.{specs.Places.{IsInTrie, place_at}, proofs.{CodeLemmas.codes_are_apart, MarkLemmas.{marks_lead_on, said_shown}}}
 use Rattle.npf_cells_words.proofs.WordLemmas.{place_behind, slot_apart}
-use Rattle.npf_seats.proofs.PrefixLemmas.{cons_cases, none_listed}
-use Rattle.npf_seats.proofs.SumLemmas.{side_same, sum-set}
-use Rattle.npf_cells_pins.specs.Epochs.{Epochs, ReaderView, pin_place}
-use Rattle.npf_cells_pins.proofs.EpochLemmas.{changed}
-use Rattle.npf_cells_leaves.specs.Trie.{FitsTrie, IsHung, Trie, TrieWords, trie_words}
-use Rattle.npf_cells_leaves.proofs.ParentLemmas.{stands_in_trie}
+use Rattle.npf_seats.proofs.{PrefixLemmas.{cons_cases, none_listed}, SumLemmas.side_same}
+use Rattle.npf_cells_pins.specs.Epochs.{Epochs}
+use Rattle.npf_cells_leaves.{specs.Trie.{FitsTrie, IsHung, Trie, TrieWords, trie_words}, proofs.ParentLemmas.stands_in_trie}
 use Rattle.npf_cells_leaves.proofs.TrieLemmas.{KeepsTrie, cell_there, fits-set, fits_all, fits_kept, grown-set, knows_same, trie_kept}
-use Rattle.npf_cells_lives.specs.Locks.{Locks}
-use Rattle.npf_cells_lives.specs.Pools.{Pools, taken}
-use Rattle.npf_cells_lives.specs.Turns.{Running}
-use Rattle.npf_cells_lives.proofs.LockLemmas.{holders-set, locks-same, locks_alone}
-use Rattle.npf_cells_lives.proofs.PoolLemmas.{pools-kept, taken-set}
-use Rattle.npf_cells_lives.proofs.StoredLemmas.{own_same}
-use Rattle.npf_cells_marks.specs.Marks.{FitsMarked, Marks}
-use Rattle.npf_cells_marks.proofs.PlacingLemmas.{marks-placed}
-use Rattle.npf_cells_marks.proofs.StepLemmas.{later}
-use Rattle.npf_cells_rule.specs.declared.view.CellView.{CellView}
-use Rattle.npf_cells_rule.specs.Cells.{FitsAlone, IsCells}
-use Rattle.npf_cells_rule.specs.Views.{lock_side, mark_side, pool_side, reader_view, trie_side, unloaded}
-use Rattle.npf_cells_rule.proofs.Frames.{alone_still, epochs_apart}
-use Rattle.npf_cells_rule.proofs.MarkFrames.{place_changed}
-use Rattle.npf_cells_returns.specs.MarkKinds.{MarksPlace, MayMarkPlace, placed_mark, placing}
-use Rattle.npf_cells_returns.proofs.BackFrames.{LeavesLives, back_step, below, same_leaves}
-use Rattle.npf_cells_returns.proofs.LockedLemmas.{cell_else, cell_here, inc_else, key_else, lock_else, locked_state, parent_else, stored_stays, stored_there}
-
--- who forgets the epoch that it loaded, and what it scanned with it, keeps the part on epochs
-epochs_forgot : (now : ℕ) (reader : ℕ → ℕ) (readings : List ReaderView) (id : ℕ) (r : ReaderView) → Epochs now reader readings → get_elem? readings id ≡ some r → Epochs now reader (set readings id (record r { side = unloaded r.side }))
-epochs_forgot now reader readings id r kept there =
-    let fits = kept.each id r there in
-    changed now now reader reader readings id (record r { side = unloaded r.side }) kept (record {
-      from = kept.from;
-      most = kept.most;
-      counted = (let sums = sum-set (λ (u : ReaderView). u.side.raises) readings id r (record r { side = unloaded r.side }) there in let all = kept.counted in omega (arith, sums, all));
-      fits = record { loaded = omega arith; greatest = fits.greatest; known = fits.known; guards = fits.guards; kept = fits.kept; pinned = fits.pinned };
-      others = λ j q ne e. kept.each j q e;
-      scanner = λ j q ne e c. absurd (none_listed (pin_place q.places) c);
-      target = λ i q ne e. kept.scans i id q r e there;
-      itself = λ c. absurd (none_listed (pin_place r.places) c);
-    })
+use Rattle.npf_cells_lives.{specs.{Locks.Locks, Pools.{Pools, taken}, Turns.Running}, proofs.LockLemmas.{holders-set, locks-same, locks_alone}}
+use Rattle.npf_cells_lives.proofs.{PoolLemmas.{pools-kept, taken-set}, StoredLemmas.own_same}
+use Rattle.npf_cells_marks.{specs.Marks.{FitsMarked, Marks}, proofs.PlacingLemmas.marks-placed}
+use Rattle.npf_cells_rule.specs.{declared.view.CellView.CellView, Cells.{FitsAlone, IsCells}, Views.{lock_side, mark_side, pool_side, reader_view, trie_side}}
+use Rattle.npf_cells_rule.proofs.{Frames.{alone_still, epochs_apart}, MarkFrames.place_changed}
+use Rattle.npf_cells_holds.proofs.{ForgottenLemmas.epochs_forgot, PlaceLemmas.{cell_else, cell_here, inc_else, key_else, lock_else, parent_else}}
+use Rattle.npf_cells_returns.{specs.MarkKinds.{MarksPlace, MayMarkPlace, placed_mark, placing}, proofs.BackFrames.{LeavesLives, back_step, below, same_leaves}}
+use Rattle.npf_cells_returns.proofs.LockedLemmas.{locked_state, stored_stays, stored_there}
 
 -- what a map lists comes from something that was listed, and whatever was listed it lists
 from_listed : {X Y : Type 0} (f : X → Y) (xs : List X) (y : Y) → Contains (map f xs) y → (x : X) × Contains xs x × (f x ≡ y)
 from_listed f [] y c = absurd (none_listed y c)
 from_listed {X} {Y} f (x ∷ xs) y c = ⊎_elim
     (λ (e : f x ≡ y). (x, (0, omega arith, refl), e))
-    (λ (d : Contains (map f xs) y). let was = from_listed f xs y d in (was.0, later x was.0 xs was.1, was.2))
+    (λ (d : Contains (map f xs) y). let was = from_listed f xs y d in (was.0, Contains-later x was.0 xs was.1, was.2))
     (cons_cases (f x) y (map f xs) c)
 
 to_listed : {X Y : Type 0} (f : X → Y) (xs : List X) (x : X) → Contains xs x → Contains (map f xs) (f x)
@@ -90,7 +50,8 @@ placed_else : (node : ℕ) (x : Marked) → x.node ≢ node → placed_mark node
 placed_else node x ne = ap (λ b. cond b (record x { placed = true }) x) (ne_eqb x.node node ne)
 
 module _ {S A R : Type 0} (m : Meaning S A R) (digest : Key → ℕ) (layout : Layout) where
-  module _ (s : State (Running S) (CellView S A R)) (id : ℕ) (me : Me (Running S) (CellView S A R)) (kept : IsCells m digest layout s) (at : get_elem? s.views id ≡ some me.0) (place : 1 ≤ length me.0.seats.readers)
+  module _ (s : State (Running S) (CellView S A R)) (id : ℕ) (me : Me (Running S) (CellView S A R)) (kept : IsCells m digest layout s)
+      (at : get_elem? s.views id ≡ some me.0) (place : 1 ≤ length me.0.seats.readers)
       (node : ℕ) (p : Place) (inside : IsInTrie layout p) (may : MayMarkPlace me.0 p node) where
     abbrev k : Machine S
     k = state_of m kept.log
@@ -127,7 +88,8 @@ module _ {S A R : Type 0} (m : Meaning S A R) (digest : Key → ℕ) (layout : L
     hung = kept.trie.hang node fits.listed
 
     here : hung.place ≡ p
-    here = codes_are_apart layout hung.place p (stands_in_trie layout s.words hung.place node hung.there) inside (sym (kept.trie.parents hung.digits hung.level hung.place node hung.are hung.on_path hung.there) ∙ fits.parent)
+    here = codes_are_apart layout hung.place p (stands_in_trie layout s.words hung.place node hung.there) inside
+        (sym (kept.trie.parents hung.digits hung.level hung.place node hung.are hung.on_path hung.there) ∙ fits.parent)
 
     on : IsOnPath hung.digits t.cell hung.level p
     on = subst (λ q. IsOnPath hung.digits t.cell hung.level q) here hung.on_path
@@ -160,7 +122,22 @@ module _ {S A R : Type 0} (m : Meaning S A R) (digest : Key → ℕ) (layout : L
         (fits-set trie_side digest layout.slots k t' s.views id w fits_still (fits_all trie_side digest layout.slots k k t t' s.views keeps_trie kept.trie.each))
 
     leaves : LeavesLives me.0 w
-    leaves = record { seats = refl; turn = refl; pin = refl; loaded = λ some'. absurd (omega (arith, some')); builds = refl; unstored = refl; kills = refl; gave_up = refl; reclaims = refl; cleared = refl; dated = refl; notes = refl; answered = refl; leaf = refl }
+    leaves = record {
+      seats = refl;
+      turn = refl;
+      pin = refl;
+      loaded = λ some'. absurd (omega (arith, some'));
+      builds = refl;
+      unstored = refl;
+      kills = refl;
+      gave_up = refl;
+      reclaims = refl;
+      cleared = refl;
+      dated = refl;
+      notes = refl;
+      answered = refl;
+      leaf = refl;
+    }
 
     slots : (slot field : ℕ) → field_at layout Slots slot field ≢ word
     slots slot field = slot_apart layout p slot field inside
@@ -181,10 +158,12 @@ module _ {S A R : Type 0} (m : Meaning S A R) (digest : Key → ℕ) (layout : L
         (taken-set pool_side kept.published k s.views id me.0 w at refl refl)
 
     locks_stay : Locks lock_side layout words' views'
-    locks_stay = locks-same lock_side layout s.words words' s.views views' kept.locks (lock_else m digest layout s kept p inside (mark_word node)) (holders-set lock_side layout s.views id me.0 w at refl)
+    locks_stay = locks-same lock_side layout s.words words' s.views views' kept.locks
+        (lock_else m digest layout s kept p inside (mark_word node)) (holders-set lock_side layout s.views id me.0 w at refl)
 
     -- a mark of the same node says the same place as its parent
-    mark_cases : (x : Marked) → Contains me.0.trie.marks x → (x.node ≡ node) ⊎ (x.node ≢ node) → (Contains me.0.trie.marks (placed_mark node x) × ((placed_mark node x).node ≢ node)) ⊎ (placed_mark node x ≡ record { node = node; parent = place_code p; placed = true })
+    mark_cases : (x : Marked) → Contains me.0.trie.marks x → (x.node ≡ node) ⊎ (x.node ≢ node) →
+        (Contains me.0.trie.marks (placed_mark node x) × ((placed_mark node x).node ≢ node)) ⊎ (placed_mark node x ≡ record { node = node; parent = place_code p; placed = true })
     mark_cases x c = ⊎_elim
         (λ (same : x.node ≡ node).
         let parent : x.parent ≡ place_code p = sym (kept.marks.marks id me.0 x at c).parent ∙ (ap (parent_word layout s.words) same ∙ fits.parent) in
@@ -201,9 +180,11 @@ module _ {S A R : Type 0} (m : Meaning S A R) (digest : Key → ℕ) (layout : L
       alone = λ j u ne e c. locks_alone lock_side layout s.words s.views j id u me.0 (Locking.Node node) kept.locks fits.exists e at c fits.locked ne;
       marks = λ y c.
           let from = from_listed (placed_mark node) me.0.trie.marks y c in
-          subst (λ (z : Marked). (Contains me.0.trie.marks z × (z.node ≢ node)) ⊎ (z ≡ record { node = node; parent = place_code p; placed = true })) from.2 (mark_cases from.0 from.1 (cases_eq from.0.node node));
+          subst (λ (z : Marked). (Contains me.0.trie.marks z × (z.node ≢ node)) ⊎
+          (z ≡ record { node = node; parent = place_code p; placed = true })) from.2 (mark_cases from.0 from.1 (cases_eq from.0.node node));
       marked = λ x c ne. subst (λ (y : Marked). Contains w.trie.marks y) (placed_else node x ne) (to_listed (placed_mark node) me.0.trie.marks x c);
-      placed = subst (λ (y : Marked). Contains w.trie.marks y) (placed_here node (record { node = node; parent = place_code p; placed = false }) refl) (to_listed (placed_mark node) me.0.trie.marks (record { node = node; parent = place_code p; placed = false }) may.marked);
+      placed = subst (λ (y : Marked). Contains w.trie.marks y) (placed_here node (record { node = node; parent = place_code p; placed = false }) refl)
+          (to_listed (placed_mark node) me.0.trie.marks (record { node = node; parent = place_code p; placed = false }) may.marked);
       emptied = refl;
       met = refl;
       unfreed = refl;

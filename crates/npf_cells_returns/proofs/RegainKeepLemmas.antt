@@ -1,62 +1,32 @@
 -- Kind 21 keeps the rule: a mark is cleared, and its node is the pass's.
 use Rattle.std.specs.List.{Contains}
 use Rattle.std.proofs.Common.{◌≡◌, ◌≢◌, ℕ, ◌+◌, ◌%◌, ◌<◌, ◌≤◌, Some, None, List, [], ◌∷◌, set, length, slice_index, refl, sym, ap, ◌∙◌, subst, ⊎_elim, inl, inr, arith, eqb, eq-eqb, ne_eqb, length-set}
-use Rattle.std.proofs.lemmas.Bool.{cases_eq}
-use Rattle.std.proofs.lemmas.Nat.Bits.{bit_at-lt}
+use Rattle.std.proofs.lemmas.{Bool.cases_eq, Nat.Bits.bit_at-lt}
 use mathlib.Core.Option.{some}
 use lib.ListN.{get_elem?}
-use Rattle.atomic_table.specs.Table.{Allows, Me, State, Step, keeps, stepped}
-use Rattle.atomic_table.proofs.Lists.{at_map, at_set}
-use Rattle.npf_types.specs.declared.key.Key.{Key}
-use Rattle.npf_types.specs.declared.key.Way.{Way}
-use Rattle.npf_core.specs.History.{state_of}
-use Rattle.npf_core.specs.Machine.{Machine}
-use Rattle.npf_core.specs.Meaning.{Meaning}
-use Rattle.npf_paths.specs.declared.cell.Cell.TheVariants.{Empty, Leaf, Node}
-use Rattle.npf_paths.specs.declared.place.Place.{Place}
+use Rattle.atomic_table.{specs.Table.{Allows, Me, State, Step, keeps, stepped}, proofs.Lists.{at_map, at_set}}
+use Rattle.npf_types.specs.declared.key.{Key.Key, Way.Way}
+use Rattle.npf_core.specs.{History.state_of, Machine.Machine, Meaning.Meaning}
+use Rattle.npf_paths.specs.{declared.{cell.Cell.TheVariants.{Empty, Leaf, Node}, place.Place.Place}, Paths.{AreDigits, IsEnd, IsOnPath}, Places.lock_of}
 use Rattle.npf_paths.specs.declared.place.Place.TheVariants as Places
-use Rattle.npf_paths.specs.Paths.{AreDigits, IsEnd, IsOnPath}
-use Rattle.npf_paths.specs.Places.{lock_of}
 use Rattle.npf_paths_pruning.proofs.PruningLemmas.{pruning_told}
-use Rattle.npf_cells_words.specs.declared.layout.Layout.{Layout}
-use Rattle.npf_cells_words.specs.declared.layout.Pool.{Pool}
-use Rattle.npf_cells_words.specs.declared.layout.Pool.TheVariants.{Nodes, Slots}
-use Rattle.npf_cells_words.specs.declared.mark.Emptied.{Emptied}
-use Rattle.npf_cells_words.specs.Layout.{epoch_word, field_at, place_word, root_at}
-use Rattle.npf_cells_words.specs.Places.{IsInTrie, IsPlaceIn, place_at}
-use Rattle.npf_cells_words.proofs.CodeLemmas.{codes_are_apart}
-use Rattle.npf_cells_words.proofs.WordLemmas.{place_behind, place_lock, slot_apart}
-use Rattle.npf_seats.specs.Sums.{occurs, others_than}
-use Rattle.npf_seats.proofs.ListLemmas.{left_others, left_same, occurs-cons, one_where, stands_once}
-use Rattle.npf_seats.proofs.PrefixLemmas.{cons_cases, none_listed}
-use Rattle.npf_seats.proofs.SumLemmas.{sum-set}
-use Rattle.npf_cells_pins.specs.declared.pin.Pin.{Pin}
-use Rattle.npf_cells_pins.specs.declared.pin.Pin.TheVariants.{Idle, Pinned, Protected}
-use Rattle.npf_cells_pins.specs.Epochs.{PinAllows}
-use Rattle.npf_cells_leaves.specs.TakingOff.{StaysOutside, TakesNodeOff}
-use Rattle.npf_cells_leaves.specs.Trie.{IsHung, Trie, TrieWords, trie_words}
-use Rattle.npf_cells_leaves.proofs.ParentLemmas.{stands_in_trie}
-use Rattle.npf_cells_leaves.proofs.TakingOffLemmas.{trie_taken_off}
-use Rattle.npf_cells_lives.specs.Deaths.{IsProtectedBy}
-use Rattle.npf_cells_lives.specs.Locks.{Locks}
-use Rattle.npf_cells_lives.specs.Pools.{Pools, taken}
-use Rattle.npf_cells_lives.specs.Turns.{Running}
-use Rattle.npf_cells_lives.proofs.LockLemmas.{holders-set, locks-same, locks_alone}
-use Rattle.npf_cells_lives.proofs.PoolLemmas.{pools-kept}
-use Rattle.npf_cells_lives.proofs.StoredLemmas.{own_same}
-use Rattle.npf_cells_marks.specs.Marks.{FitsMet, FitsPlaced, IsSomePlaceIn, Marks, RestsIn}
-use Rattle.npf_cells_marks.proofs.ClearingLemmas.{marks-cleared}
-use Rattle.npf_cells_rule.specs.declared.view.CellView.{CellView}
-use Rattle.npf_cells_rule.specs.Cells.{FitsAlone, IsCells}
+use Rattle.npf_cells_words.specs.declared.{layout.{Layout.Layout, Pool.{Pool, TheVariants.{Nodes, Slots}}}, mark.Emptied.Emptied}
+use Rattle.npf_cells_words.specs.{Layout.{epoch_word, field_at, place_word, root_at}, Places.{IsInTrie, IsPlaceIn, place_at}}
+use Rattle.npf_cells_words.proofs.{CodeLemmas.codes_are_apart, WordLemmas.{place_behind, place_lock, slot_apart}}
+use Rattle.npf_seats.{specs.Sums.{occurs, others_than}, proofs.ListLemmas.{left_others, left_same, occurs-cons, one_where, stands_once}}
+use Rattle.npf_seats.proofs.{PrefixLemmas.{cons_cases, none_listed}, SumLemmas.sum-set}
+use Rattle.npf_cells_pins.specs.{declared.pin.Pin.{Pin, TheVariants.{Idle, Pinned, Protected}}, Epochs.PinAllows}
+use Rattle.npf_cells_leaves.{specs.{TakingOff.{StaysOutside, TakesNodeOff}, Trie.{IsHung, Trie, TrieWords, trie_words}}, proofs.ParentLemmas.stands_in_trie}
+use Rattle.npf_cells_leaves.proofs.TakingOffLemmas.{trie_taken_off, still_listed}
+use Rattle.npf_cells_lives.specs.{Deaths.IsProtectedBy, Locks.Locks, Pools.{Pools, taken}, Turns.Running}
+use Rattle.npf_cells_lives.proofs.{LockLemmas.{holders-set, locks-same, locks_alone}, PoolLemmas.pools-kept, StoredLemmas.own_same}
+use Rattle.npf_cells_marks.{specs.Marks.{FitsMet, FitsPlaced, IsSomePlaceIn, Marks, RestsIn}, proofs.ClearingLemmas.marks-cleared}
+use Rattle.npf_cells_rule.specs.{declared.view.CellView.CellView, Cells.{FitsAlone, IsCells}}
 use Rattle.npf_cells_rule.specs.Views.{lock_side, mark_side, point_place, pool_side, protecting_epoch, reader_view, seen_place, trie_side}
-use Rattle.npf_cells_rule.proofs.Frames.{alone_still, epochs_apart}
-use Rattle.npf_cells_rule.proofs.MarkFrames.{place_changed}
-use Rattle.npf_cells_rule.proofs.MarkMetLemmas.{empty_below, leads_on}
-use Rattle.npf_cells_holds.specs.UnlinkKinds.{emptied_at}
-use Rattle.npf_cells_returns.specs.MarkKinds.{MayClearMark, RegainsNode, regaining}
-use Rattle.npf_cells_returns.proofs.BackFrames.{LeavesLives, back_step, below}
-use Rattle.npf_cells_returns.proofs.ListedLemmas.{still_listed}
-use Rattle.npf_cells_returns.proofs.LockedLemmas.{cell_else, cell_here, inc_else, key_else, lock_else, met_listed, nobody_has, parent_else, stored_there, stored_stays}
+use Rattle.npf_cells_rule.proofs.{Frames.{alone_still, epochs_apart}, MarkFrames.place_changed, MarkMetLemmas.{empty_below, leads_on}}
+use Rattle.npf_cells_holds.{specs.UnlinkKinds.emptied_at, proofs.PlaceLemmas.{cell_else, cell_here, inc_else, key_else, lock_else, parent_else}}
+use Rattle.npf_cells_returns.{specs.MarkKinds.{MayClearMark, RegainsNode, regaining}, proofs.BackFrames.{LeavesLives, back_step, below}}
+use Rattle.npf_cells_returns.proofs.LockedLemmas.{met_listed, nobody_has, stored_there, stored_stays}
 
 -- who is protected with an epoch, or an earlier one, keeps the table's from going more than one further
 pinned_before : (pin : Pin) (now epoch : ℕ) → PinAllows pin now → IsProtectedBy epoch (protecting_epoch pin) → now ≤ epoch + 1
@@ -73,7 +43,8 @@ emptied_there (Places.Node node digit) e is =
     (refl, refl, λ d c. ⊎_elim (λ (same : digit ≡ d). ap (λ x. Places.Node node x) same) (λ no. absurd (none_listed d no)) (cons_cases digit d [] c))
 
 module _ {S A R : Type 0} (m : Meaning S A R) (digest : Key → ℕ) (layout : Layout) where
-  module _ (s : State (Running S) (CellView S A R)) (id : ℕ) (me : Me (Running S) (CellView S A R)) (kept : IsCells m digest layout s) (at : get_elem? s.views id ≡ some me.0) (place : 1 ≤ length me.0.seats.readers)
+  module _ (s : State (Running S) (CellView S A R)) (id : ℕ) (me : Me (Running S) (CellView S A R)) (kept : IsCells m digest layout s)
+      (at : get_elem? s.views id ≡ some me.0) (place : 1 ≤ length me.0.seats.readers)
       (node : ℕ) (p : Place) (inside : IsInTrie layout p) (may : MayClearMark me.0 p node) where
     abbrev k : Machine S
     k = state_of m kept.log
@@ -125,7 +96,8 @@ module _ {S A R : Type 0} (m : Meaning S A R) (digest : Key → ℕ) (layout : L
     leads = leads_on m digest layout s kept p inside node met.stands
 
     here : hung.place ≡ p
-    here = codes_are_apart layout hung.place p (stands_in_trie layout s.words hung.place node hung.there) inside (sym (kept.trie.parents hung.digits hung.level hung.place node hung.are hung.on_path hung.there) ∙ fits.parent)
+    here = codes_are_apart layout hung.place p (stands_in_trie layout s.words hung.place node hung.there) inside
+        (sym (kept.trie.parents hung.digits hung.level hung.place node hung.are hung.on_path hung.there) ∙ fits.parent)
 
     on : IsOnPath hung.digits t.cell hung.level p
     on = subst (λ q. IsOnPath hung.digits t.cell hung.level q) here hung.on_path
@@ -205,7 +177,22 @@ module _ {S A R : Type 0} (m : Meaning S A R) (digest : Key → ℕ) (layout : L
         (cases_eq q node)
 
     leaves : LeavesLives me.0 w
-    leaves = record { seats = refl; turn = refl; pin = refl; loaded = λ _. refl; builds = refl; unstored = refl; kills = refl; gave_up = refl; reclaims = refl; cleared = refl; dated = refl; notes = refl; answered = refl; leaf = refl }
+    leaves = record {
+      seats = refl;
+      turn = refl;
+      pin = refl;
+      loaded = λ _. refl;
+      builds = refl;
+      unstored = refl;
+      kills = refl;
+      gave_up = refl;
+      reclaims = refl;
+      cleared = refl;
+      dated = refl;
+      notes = refl;
+      answered = refl;
+      leaf = refl;
+    }
 
     slots : (slot field : ℕ) → field_at layout Slots slot field ≢ word
     slots slot field = slot_apart layout p slot field inside
@@ -220,7 +207,8 @@ module _ {S A R : Type 0} (m : Meaning S A R) (digest : Key → ℕ) (layout : L
     locks_stay = locks-same lock_side layout s.words words' s.views views' kept.locks (lock_else m digest layout s kept p inside 0) (holders-set lock_side layout s.views id me.0 w at refl)
 
     -- a leaf that a path meets then is one that it met before
-    met_before : (digits : ℕ → ℕ) (level : ℕ) (q : Place) (slot : ℕ) (way : Way) → AreDigits digits → IsOnPath digits t'.cell level q → t'.cell q ≡ Leaf slot way → IsOnPath digits t.cell level q × (t.cell q ≡ Leaf slot way)
+    met_before : (digits : ℕ → ℕ) (level : ℕ) (q : Place) (slot : ℕ) (way : Way) → AreDigits digits → IsOnPath digits t'.cell level q →
+        t'.cell q ≡ Leaf slot way → IsOnPath digits t.cell level q × (t.cell q ≡ Leaf slot way)
     met_before digits level q slot way are on' is = (
       (pruning_told t.cell t'.cell p node off.prunes).places digits level q on',
       sym (off.prunes.others q (λ e. let no : Leaf slot way ≡ Empty = sym is ∙ (ap t'.cell e ∙ off.emptied) in absurd cc)) ∙ is,

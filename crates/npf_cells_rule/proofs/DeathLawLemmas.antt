@@ -1,35 +1,19 @@
 -- While a seat may speak of a connection that was let go, the epoch is at most one more than that of its note; and where a seat owns all reader
 -- places, each Dead connection that isn't its own was let go.
-use Rattle.std.proofs.Common.{◌≡◌, ◌≢◌, ℕ, ◌+◌, ◌-◌, ◌^◌, ◌<◌, ◌≤◌, None, length, refl, sym, ap, ◌∙◌, ⊎_elim, arith}
-use Rattle.std.proofs.lemmas.Bool.{cases_eq}
+use Rattle.std.proofs.{Common.{◌≡◌, ◌≢◌, ℕ, ◌+◌, ◌-◌, ◌^◌, ◌<◌, ◌≤◌, None, length, refl, sym, ap, ◌∙◌, ⊎_elim, arith}, lemmas.Bool.cases_eq}
 use mathlib.Core.Option.{some, some-injective}
 use lib.ListN.{get_elem?}
-use Rattle.atomic_table.specs.Table.{State}
-use Rattle.atomic_table.proofs.Lists.{at_map}
+use Rattle.atomic_table.{specs.Table.State, proofs.Lists.at_map}
 use Rattle.npf_types.specs.declared.key.Key.{Key}
-use Rattle.npf_core.specs.declared.slot.Slot.{Slot}
-use Rattle.npf_core.specs.declared.stage.Stage.TheVariants.{Dead}
-use Rattle.npf_core.specs.History.{state_of}
-use Rattle.npf_core.specs.Machine.{Machine}
-use Rattle.npf_core.specs.Meaning.{Meaning}
-use Rattle.npf_cells_words.specs.declared.layout.Layout.{Layout}
-use Rattle.npf_cells_words.specs.Layout.{epoch_word}
-use Rattle.npf_cells_pins.specs.declared.pin.Pin.{Pin}
-use Rattle.npf_cells_pins.specs.declared.pin.Pin.TheVariants.{Idle, Pinned, Protected}
-use Rattle.npf_cells_pins.specs.Epochs.{PinAllows}
+use Rattle.npf_core.specs.{declared.{slot.Slot.Slot, stage.Stage.TheVariants.Dead}, History.state_of, Machine.Machine, Meaning.Meaning}
+use Rattle.npf_cells_words.specs.{declared.layout.Layout.Layout, Layout.epoch_word}
+use Rattle.npf_cells_pins.specs.{declared.pin.Pin.{Pin, TheVariants.{Idle, Pinned, Protected}}, Epochs.PinAllows}
 use Rattle.npf_connections.specs.Pass.{all_places}
-use Rattle.npf_seats.specs.Sums.{occurs}
-use Rattle.npf_seats.proofs.SeatLemmas.{cases_lt}
-use Rattle.npf_seats.proofs.SumLemmas.{sum_alone}
+use Rattle.npf_seats.{specs.Sums.occurs, proofs.{SeatLemmas.cases_lt, SumLemmas.sum_alone}}
 use Rattle.npf_cells_lives.specs.Deaths.{IsProtectedBy, is_dead, first_note, slots_named, killed_in, reclaimed_in, cleared_in}
-use Rattle.npf_cells_lives.specs.Turns.{Running, stage_phase, has_turn, turn_holders}
-use Rattle.npf_cells_lives.proofs.DeathLemmas.{low_note}
-use Rattle.npf_cells_lives.proofs.FreedLemmas.{freed_none}
-use Rattle.npf_cells_rule.specs.declared.view.CellView.{CellView}
-use Rattle.npf_cells_rule.specs.Cells.{IsCells}
-use Rattle.npf_cells_rule.specs.DeathLaw.{RestsHoldBack, IsLeftThere, HasNoDeadOfItsOwn, SoleFindsLeft}
-use Rattle.npf_cells_rule.specs.Views.{reader_view, turn_side, death_side, nothing_left, protecting_epoch}
-use Rattle.npf_cells_rule.proofs.SoleLemmas.{others_spent}
+use Rattle.npf_cells_lives.{specs.Turns.{Running, stage_phase, has_turn, turn_holders}, proofs.{DeathLemmas.low_note, FreedLemmas.freed_none}}
+use Rattle.npf_cells_rule.specs.{declared.view.CellView.CellView, Cells.IsCells, DeathLaw.{RestsHoldBack, IsLeftThere, HasNoDeadOfItsOwn, SoleFindsLeft}}
+use Rattle.npf_cells_rule.{specs.Views.{reader_view, turn_side, death_side, nothing_left, protecting_epoch}, proofs.SoleLemmas.others_spent}
 
 held_back : (pin : Pin) (now epoch : ℕ) → IsProtectedBy epoch (protecting_epoch pin) → PinAllows pin now → now ≤ epoch + 1
 held_back Idle now epoch h allows = absurd h
@@ -41,7 +25,8 @@ rests_hold_back m layout digest s kept j slot epoch v within at note rests =
     held_back v.epochs.pin (epoch_word s.words) epoch ((kept.deaths.left slot epoch within note).past.rested j v at rests)
     (kept.epochs.each j (reader_view v) (at_map reader_view s.views j v at)).guards
 
-module _ {S A R : Type 0} (m : Meaning S A R) (layout : Layout) (digest : Key → ℕ) (s : State (Running S) (CellView S A R)) (kept : IsCells m digest layout s) (j slot : ℕ) (v : CellView S A R) (within : slot < layout.slots) (at : get_elem? s.views j ≡ some v)
+module _ {S A R : Type 0} (m : Meaning S A R) (layout : Layout) (digest : Key → ℕ) (s : State (Running S) (CellView S A R)) (kept : IsCells m digest layout s)
+    (j slot : ℕ) (v : CellView S A R) (within : slot < layout.slots) (at : get_elem? s.views j ≡ some v)
     (all : length v.seats.readers ≡ all_places) (none : HasNoDeadOfItsOwn v) (dead : ((state_of m kept.log).slot slot).stage ≡ Dead) where
   abbrev k : Machine S
   k = state_of m kept.log
@@ -50,13 +35,16 @@ module _ {S A R : Type 0} (m : Meaning S A R) (layout : Layout) (digest : Key �
   spent f idle i u ne there = ap f (others_spent m digest layout s j v kept at all i u ne there) ∙ idle
 
   none_killed : killed_in death_side s.views slot ≡ 0
-  none_killed = sum_alone (λ (u : CellView S A R). occurs slot (slots_named u.pools.kills)) s.views j v at (spent (λ u. occurs slot (slots_named u.pools.kills)) refl) ∙ ap (λ ids. occurs slot (slots_named ids)) none.kills
+  none_killed = sum_alone (λ (u : CellView S A R). occurs slot (slots_named u.pools.kills)) s.views j v at
+      (spent (λ u. occurs slot (slots_named u.pools.kills)) refl) ∙ ap (λ ids. occurs slot (slots_named ids)) none.kills
 
   none_reclaimed : reclaimed_in death_side s.views slot ≡ 0
-  none_reclaimed = sum_alone (λ (u : CellView S A R). occurs slot (slots_named u.pools.reclaims)) s.views j v at (spent (λ u. occurs slot (slots_named u.pools.reclaims)) refl) ∙ ap (λ ids. occurs slot (slots_named ids)) none.reclaims
+  none_reclaimed = sum_alone (λ (u : CellView S A R). occurs slot (slots_named u.pools.reclaims)) s.views j v at
+      (spent (λ u. occurs slot (slots_named u.pools.reclaims)) refl) ∙ ap (λ ids. occurs slot (slots_named ids)) none.reclaims
 
   none_cleared : cleared_in death_side s.views slot ≡ 0
-  none_cleared = sum_alone (λ (u : CellView S A R). occurs slot (slots_named u.pools.cleared)) s.views j v at (spent (λ u. occurs slot (slots_named u.pools.cleared)) refl) ∙ ap (λ ids. occurs slot (slots_named ids)) none.cleared
+  none_cleared = sum_alone (λ (u : CellView S A R). occurs slot (slots_named u.pools.cleared)) s.views j v at
+      (spent (λ u. occurs slot (slots_named u.pools.cleared)) refl) ∙ ap (λ ids. occurs slot (slots_named ids)) none.cleared
 
   none_has : v.turn ≡ None → turn_holders turn_side s.views slot ≡ 0
   none_has turnless = sum_alone (λ (u : CellView S A R). has_turn slot u.turn) s.views j v at (spent (λ u. has_turn slot u.turn) refl) ∙ ap (has_turn slot) turnless

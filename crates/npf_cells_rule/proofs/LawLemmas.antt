@@ -1,26 +1,13 @@
 -- What the rule says of who owns a node and who builds in a slot.
-use Rattle.atomic_table.proofs.Lists.{at_map}
-use Rattle.std.proofs.Common.{map, ◌≢◌, ℕ, ◌%◌, ◌<◌, ◌≤◌, slice_index, ⊎_elim, arith}
-use Rattle.std.proofs.lemmas.Bool.{cases_eq}
-use Rattle.std.proofs.lemmas.Nat.Bits.{bit_at-lt}
-use Rattle.atomic_table.specs.Table.{State}
+use Rattle.atomic_table.{proofs.Lists.at_map, specs.Table.State}
+use Rattle.std.proofs.{Common.{map, ◌≢◌, ℕ, ◌%◌, ◌<◌, ◌≤◌, slice_index, ⊎_elim, arith}, lemmas.{Bool.cases_eq, Nat.Bits.bit_at-lt}}
 use Rattle.npf_types.specs.declared.key.Key.{Key}
 use Rattle.npf_core.specs.Meaning.{Meaning}
-use Rattle.npf_cells_words.specs.declared.layout.Layout.{Layout}
-use Rattle.npf_cells_words.specs.declared.layout.Pool.TheVariants.{Nodes}
-use Rattle.npf_cells_words.specs.Layout.{place_word, epoch_word, reader_word}
-use Rattle.npf_seats.specs.Sums.{occurs}
-use Rattle.npf_seats.proofs.ListLemmas.{stands_once}
-use Rattle.npf_seats.proofs.SeatLemmas.{cases_lt}
-use Rattle.npf_seats.proofs.SumLemmas.{two_of_sum}
+use Rattle.npf_cells_words.specs.{declared.layout.{Layout.Layout, Pool.TheVariants.Nodes}, Layout.{place_word, epoch_word, reader_word}}
+use Rattle.npf_seats.{specs.Sums.occurs, proofs.{ListLemmas.stands_once, SeatLemmas.cases_lt, SumLemmas.two_of_sum}}
 use Rattle.npf_cells_pins.proofs.EpochLemmas.{holds_epoch_back}
-use Rattle.npf_cells_lives.specs.Pools.{node_owners}
-use Rattle.npf_cells_lives.proofs.ConnLemmas.{builds_apart}
-use Rattle.npf_cells_lives.specs.Turns.{Running}
-use Rattle.npf_cells_rule.specs.declared.view.CellView.{CellView}
-use Rattle.npf_cells_rule.specs.Cells.{IsCells}
-use Rattle.npf_cells_rule.specs.TableLaw.{BuildsAlone, OwnsAlone, HoldsBack}
-use Rattle.npf_cells_rule.specs.Views.{pool_side, reader_view}
+use Rattle.npf_cells_lives.{specs.{Pools.node_owners, Turns.Running}, proofs.ConnLemmas.builds_apart}
+use Rattle.npf_cells_rule.specs.{declared.view.CellView.CellView, Cells.IsCells, TableLaw.{BuildsAlone, OwnsAlone, HoldsBack}, Views.{pool_side, reader_view}}
 
 -- two seats that build in one slot are one
 pub builds_alone : {S A R : Type 0} (m : Meaning S A R) (layout : Layout) → BuildsAlone m layout
@@ -28,7 +15,8 @@ builds_alone m layout digest s i j v w id other kept at there mine theirs same =
     builds_apart pool_side m layout kept.log s.words s.views i j v w id other kept.connections at there mine theirs same
 
 -- the bit of a node counts its owners
-few_owners : {S A R : Type 0} (m : Meaning S A R) (digest : Key → ℕ) (layout : Layout) (s : State (Running S) (CellView S A R)) (node : ℕ) → IsCells m digest layout s → node_owners pool_side s.views node ≤ 1
+few_owners : {S A R : Type 0} (m : Meaning S A R) (digest : Key → ℕ) (layout : Layout) (s : State (Running S) (CellView S A R)) (node : ℕ) →
+    IsCells m digest layout s → node_owners pool_side s.views node ≤ 1
 few_owners m digest layout s node kept = ⊎_elim
     (λ (h : node < layout.nodes).
     let bit = kept.pools.bits Nodes node h in

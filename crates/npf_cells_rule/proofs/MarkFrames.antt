@@ -1,35 +1,21 @@
 -- The part on marks stays through steps that leave its words and what the seat has of marks, and after which the seat is in no further node.
 use Rattle.std.proofs.Common.{◌≡◌, ℕ, ◌<◌, ◌≤◌, Option, Some, None, List, set, slice_index, refl, sym, ap, subst, ⊎_elim, inl, inr, arith}
-use Rattle.std.proofs.lemmas.List.{set-get_or, get_or-set_other}
-use Rattle.std.specs.List.{Contains}
+use Rattle.std.{proofs.lemmas.List.{set-get_or, get_or-set_other}, specs.List.Contains}
 use mathlib.Core.Option.{some}
 use lib.ListN.{get_elem?}
 use Rattle.atomic_table.specs.Table.{State}
 use Rattle.npf_types.specs.declared.key.Key.{Key}
 use Rattle.npf_core.specs.Meaning.{Meaning}
-use Rattle.npf_paths.specs.declared.place.Lock.{Lock}
+use Rattle.npf_paths.specs.declared.place.{Lock.Lock, Place.Place}
 use Rattle.npf_paths.specs.declared.place.Lock.TheVariants as Locking
-use Rattle.npf_paths.specs.declared.place.Place.{Place}
-use Rattle.npf_cells_words.specs.declared.layout.Layout.{Layout}
-use Rattle.npf_cells_words.specs.declared.layout.Pool.TheVariants.{Slots, Nodes}
-use Rattle.npf_cells_words.specs.declared.mark.Emptied.{Emptied}
-use Rattle.npf_cells_words.specs.declared.mark.MetMark.{MetMark}
-use Rattle.npf_cells_words.specs.Layout.{epoch_word, root_at, field_at, state_field, parent_field}
-use Rattle.npf_cells_words.specs.MarkWords.{state_word, parent_word}
+use Rattle.npf_cells_words.specs.declared.{layout.{Layout.Layout, Pool.TheVariants.{Slots, Nodes}}, mark.{Emptied.Emptied, MetMark.MetMark}}
+use Rattle.npf_cells_words.specs.{Layout.{epoch_word, root_at, field_at, state_field, parent_field}, MarkWords.{state_word, parent_word}}
 use Rattle.npf_cells_words.specs.Places.{lock_at, place_at, IsInTrie, IsLockOf}
 use Rattle.npf_cells_words.proofs.WordLemmas.{field_behind, lock_apart, lock_behind, not_place, one_word, parent_apart, parent_unlocked, place_behind, slot_apart, not_slot}
-use Rattle.npf_cells_leaves.specs.declared.trie.PathPlace.{PathPlace}
-use Rattle.npf_cells_leaves.specs.declared.trie.SeenCell.{SeenCell}
-use Rattle.npf_cells_leaves.specs.declared.trie.TrieSide.{TrieSide}
-use Rattle.npf_cells_leaves.specs.Trie.{HasNoWalk}
-use Rattle.npf_cells_leaves.proofs.TrieLemmas.{KnowsNoMore}
+use Rattle.npf_cells_leaves.{specs.{declared.trie.{PathPlace.PathPlace, SeenCell.SeenCell, TrieSide.TrieSide}, Trie.HasNoWalk}, proofs.TrieLemmas.KnowsNoMore}
 use Rattle.npf_cells_lives.specs.Turns.{Running}
-use Rattle.npf_cells_marks.specs.Marks.{IsSomePlaceIn, RestsIn, Marks}
-use Rattle.npf_cells_marks.specs.Steps.{ChangesPlace, ChangesState}
-use Rattle.npf_cells_marks.proofs.StepLemmas.{marks-same}
-use Rattle.npf_cells_rule.specs.declared.view.CellView.{CellView}
-use Rattle.npf_cells_rule.specs.Cells.{IsCells}
-use Rattle.npf_cells_rule.specs.Views.{point_place, seen_place, protecting_epoch, mark_side}
+use Rattle.npf_cells_marks.{specs.{Marks.{IsSomePlaceIn, RestsIn, Marks}, Steps.{ChangesPlace, ChangesState}}, proofs.StepLemmas.marks-same}
+use Rattle.npf_cells_rule.specs.{declared.view.CellView.CellView, Cells.IsCells, Views.{point_place, seen_place, protecting_epoch, mark_side}}
 
 -- what a seat has of marks and of locks stays, it found nothing more, and is in no further node
 pub record MeetsNoMore (side side' : TrieSide) : Type 0 where
@@ -54,7 +40,8 @@ pub record SameMarkWords (layout : Layout) (published words words' : List ℕ) :
   pub parents : (node : ℕ) → node < layout.nodes → Contains published node → parent_word layout words' node ≡ parent_word layout words node
 
 -- which is so where the words behind the pools' stay
-pub words_behind : (layout : Layout) (published words words' : List ℕ) → epoch_word words ≤ epoch_word words' → ((j : ℕ) → root_at layout ≤ j → slice_index words' j ≡ slice_index words j) → SameMarkWords layout published words words'
+pub words_behind : (layout : Layout) (published words words' : List ℕ) → epoch_word words ≤ epoch_word words' →
+    ((j : ℕ) → root_at layout ≤ j → slice_index words' j ≡ slice_index words j) → SameMarkWords layout published words words'
 words_behind layout published words words' goes same = record {
   goes = goes;
   places = λ p inside. same (place_at layout p) (place_behind layout p);
@@ -104,9 +91,11 @@ lock_changed layout words lock n h = record {
 
 -- and by a load
 pub words_loaded : (layout : Layout) (published words : List ℕ) (i : ℕ) → SameMarkWords layout published words (set words i (slice_index words i))
-words_loaded layout published words i = subst (SameMarkWords layout published words) (sym (set-get_or words i 0)) (record { goes = omega arith; places = λ p inside. refl; states = λ node exists. refl; parents = λ node exists listed. refl })
+words_loaded layout published words i = subst (SameMarkWords layout published words) (sym (set-get_or words i 0))
+    (record { goes = omega arith; places = λ p inside. refl; states = λ node exists. refl; parents = λ node exists listed. refl })
 
-place_less : (node : ℕ) (mine theirs : Option PathPlace) → ((point : PathPlace) → theirs ≡ Some point → mine ≡ Some point) → IsSomePlaceIn node (point_place theirs) → IsSomePlaceIn node (point_place mine)
+place_less : (node : ℕ) (mine theirs : Option PathPlace) → ((point : PathPlace) → theirs ≡ Some point → mine ≡ Some point) →
+    IsSomePlaceIn node (point_place theirs) → IsSomePlaceIn node (point_place mine)
 place_less node mine None less within = absurd within
 place_less node mine (Some point) less within = subst (λ o. IsSomePlaceIn node (point_place o)) (sym (less point refl)) within
 
@@ -131,7 +120,8 @@ module _ {S A R : Type 0} where
 
 module _ {S A R : Type 0} (m : Meaning S A R) (digest : Key → ℕ) (layout : Layout) (s : State (Running S) (CellView S A R)) (kept : IsCells m digest layout s) where
   -- the part stays where its words do, and the seat has as much of it and is in no further node
-  pub marks_on : (words' : List ℕ) (id : ℕ) (v w : CellView S A R) → get_elem? s.views id ≡ some v → SameMarkWords layout kept.published s.words words' → MeetsNoMore v.trie w.trie → w.pools.unfreed ≡ v.pools.unfreed → (1 ≤ w.epochs.loaded → w.epochs.loaded ≡ v.epochs.loaded) → w.epochs.pin ≡ v.epochs.pin →
+  pub marks_on : (words' : List ℕ) (id : ℕ) (v w : CellView S A R) → get_elem? s.views id ≡ some v → SameMarkWords layout kept.published s.words words' →
+      MeetsNoMore v.trie w.trie → w.pools.unfreed ≡ v.pools.unfreed → (1 ≤ w.epochs.loaded → w.epochs.loaded ≡ v.epochs.loaded) → w.epochs.pin ≡ v.epochs.pin →
       Marks mark_side layout kept.published words' (set s.views id w)
   marks_on words' id v w at same less unfreed loaded pin = marks-same mark_side layout kept.published kept.published s.words words' s.views id v w kept.marks at (record {
     goes = same.goes;
@@ -149,7 +139,8 @@ module _ {S A R : Type 0} (m : Meaning S A R) (digest : Key → ℕ) (layout : L
   })
 
   -- and where the seat walked nowhere, its pin may change too
-  pub marks_out : (words' : List ℕ) (id : ℕ) (v w : CellView S A R) → get_elem? s.views id ≡ some v → SameMarkWords layout kept.published s.words words' → MeetsNoMore v.trie w.trie → w.pools.unfreed ≡ v.pools.unfreed → (1 ≤ w.epochs.loaded → w.epochs.loaded ≡ v.epochs.loaded) → HasNoWalk w.trie →
+  pub marks_out : (words' : List ℕ) (id : ℕ) (v w : CellView S A R) → get_elem? s.views id ≡ some v → SameMarkWords layout kept.published s.words words' →
+      MeetsNoMore v.trie w.trie → w.pools.unfreed ≡ v.pools.unfreed → (1 ≤ w.epochs.loaded → w.epochs.loaded ≡ v.epochs.loaded) → HasNoWalk w.trie →
       Marks mark_side layout kept.published words' (set s.views id w)
   marks_out words' id v w at same less unfreed loaded none = marks-same mark_side layout kept.published kept.published s.words words' s.views id v w kept.marks at (record {
     goes = same.goes;

@@ -1,42 +1,24 @@
 -- What a pass meets where a mark stands, and where a node does: no key's path that comes to a mark has a holder, and no mark stands of a node to
 -- which a path leads that still hangs.
 use Rattle.std.proofs.Common.{◌≡◌, ◌≢◌, ℕ, ◌+◌, ◌/◌, ◌%◌, ◌<◌, ◌≤◌, Bool, true, false, cond, eqb, Some, None, List, set, slice_index, refl, sym, ap, ◌∙◌, subst, arith}
-use Rattle.std.proofs.lemmas.List.{get_or-set_same}
-use Rattle.std.specs.List.{Contains}
+use Rattle.std.{proofs.lemmas.List.get_or-set_same, specs.List.Contains}
 use mathlib.Core.Option.{some}
 use lib.ListN.{get_elem?}
 use Rattle.atomic_table.specs.Table.{State}
 use Rattle.npf_types.specs.declared.key.Key.{Key}
-use Rattle.npf_core.specs.History.{state_of}
-use Rattle.npf_core.specs.Meaning.{Meaning}
-use Rattle.npf_paths.specs.declared.cell.Cell.{Cell}
-use Rattle.npf_paths.specs.declared.cell.Cell.TheVariants.{Empty, Leaf, Node, Mark}
-use Rattle.npf_paths.specs.declared.place.Place.{Place}
+use Rattle.npf_core.specs.{History.state_of, Meaning.Meaning}
+use Rattle.npf_paths.specs.{declared.{cell.Cell.{Cell, TheVariants.{Empty, Leaf, Node, Mark}}, place.Place.Place}, CellWords.{cell_of, cell_word, way_numbered}}
 use Rattle.npf_paths.specs.declared.place.Place.TheVariants as Places
-use Rattle.npf_paths.specs.CellWords.{cell_of, cell_word, way_numbered}
-use Rattle.npf_paths.specs.Paths.{AreDigits, IsOnPath, IsEnd}
-use Rattle.npf_paths.specs.Paths.IsOnPath.{at_root, further}
-use Rattle.npf_paths.specs.Places.{lock_of}
-use Rattle.npf_cells_words.specs.declared.layout.Layout.{Layout}
-use Rattle.npf_cells_words.specs.declared.mark.Marked.{Marked}
-use Rattle.npf_cells_words.specs.MarkWords.{mark_word, shown_of, IsMarkOf}
-use Rattle.npf_cells_words.specs.Places.{place_at, IsInTrie, IsPlaceIn}
-use Rattle.npf_cells_words.proofs.CodeLemmas.{codes_are_apart}
-use Rattle.npf_cells_words.proofs.MarkLemmas.{marks_lead_on, marks_say_nodes, real_shown, said_shown}
-use Rattle.npf_cells_words.proofs.WordLemmas.{place_lock, place_reach}
-use Rattle.npf_cells_leaves.specs.Trie.{digits_of, holder_at, TrieWords, trie_words}
-use Rattle.npf_cells_leaves.proofs.ParentLemmas.{stands_in_trie}
+use Rattle.npf_paths.specs.{Paths.{AreDigits, IsOnPath, IsEnd, IsOnPath.{at_root, further}}, Places.lock_of}
+use Rattle.npf_cells_words.specs.{declared.{layout.Layout.Layout, mark.Marked.Marked}, MarkWords.{mark_word, shown_of, IsMarkOf}}
+use Rattle.npf_cells_words.{specs.Places.{place_at, IsInTrie, IsPlaceIn}, proofs.CodeLemmas.codes_are_apart}
+use Rattle.npf_cells_words.proofs.{MarkLemmas.{marks_lead_on, marks_say_nodes, real_shown, said_shown}, WordLemmas.{place_lock, place_reach}}
+use Rattle.npf_cells_leaves.{specs.Trie.{digits_of, holder_at, TrieWords, trie_words}, proofs.ParentLemmas.stands_in_trie}
 use Rattle.npf_cells_leaves.proofs.TrieLemmas.{are_digits, cell_there}
-use Rattle.npf_cells_lives.specs.Turns.{Running}
-use Rattle.npf_cells_lives.proofs.LockLemmas.{locks_alone}
-use Rattle.npf_cells_marks.specs.Marks.{HasMark, Marks}
-use Rattle.npf_cells_marks.proofs.ClearingLemmas.{in_node}
-use Rattle.npf_cells_marks.proofs.StoringLemmas.{marks-owned, marks-stored}
-use Rattle.npf_cells_rule.specs.declared.view.CellView.{CellView}
-use Rattle.npf_cells_rule.specs.Cells.{IsCells}
-use Rattle.npf_cells_rule.specs.Views.{lock_side, mark_side, protecting_epoch}
-use Rattle.npf_cells_rule.proofs.MarkFrames.{MeetsNoMore, in_no_more, place_changed}
-use Rattle.npf_cells_rule.proofs.MetLemmas.{unowned}
+use Rattle.npf_cells_lives.{specs.Turns.Running, proofs.LockLemmas.locks_alone}
+use Rattle.npf_cells_marks.{specs.Marks.{HasMark, Marks}, proofs.{ClearingLemmas.in_node, StoringLemmas.{marks-owned, marks-stored}}}
+use Rattle.npf_cells_rule.specs.{declared.view.CellView.CellView, Cells.IsCells, Views.{lock_side, mark_side, protecting_epoch}}
+use Rattle.npf_cells_rule.proofs.{MarkFrames.{MeetsNoMore, in_no_more, place_changed}, MetLemmas.unowned}
 
 -- a word that is read as a mark says its node
 pub mark_there : (word : ℕ) → cell_of word ≡ Mark → word ≡ mark_word (word / 4)
@@ -48,7 +30,8 @@ mark_there word is = by_kind (eqb (word % 4) 1) (eqb (word % 4) 2) (eqb (word % 
     by_kind false false true e same = grind (arith, e)
     by_kind false false false e same = absurd cc
 
-module _ {S A R : Type 0} (m : Meaning S A R) (digest : Key → ℕ) (layout : Layout) (s : State (Running S) (CellView S A R)) (kept : IsCells m digest layout s) (p : Place) (inside : IsInTrie layout p) where
+module _ {S A R : Type 0} (m : Meaning S A R) (digest : Key → ℕ) (layout : Layout) (s : State (Running S) (CellView S A R))
+    (kept : IsCells m digest layout s) (p : Place) (inside : IsInTrie layout p) where
   abbrev t : TrieWords
   t = trie_words layout s.words
 
@@ -76,7 +59,8 @@ module _ {S A R : Type 0} (m : Meaning S A R) (digest : Key → ℕ) (layout : L
   mark_holds_none key level node on is =
       let digits = digits_of digest key in
       let none = empty_below node (digits (level + 1)) is ((are_digits digest key).node (level + 1) (omega arith)) in
-      kept.trie.ends key (level + 1) (Places.Node node (digits (level + 1))) (record { on_path = further level p node on (leads_on node is); is_end = subst IsEnd (sym none) tt }) ∙ ap (λ cell. holder_at t cell key) none
+      kept.trie.ends key (level + 1) (Places.Node node (digits (level + 1))) (record { on_path = further level p node on (leads_on node is); is_end = subst IsEnd (sym none) tt })
+      ∙ ap (λ cell. holder_at t cell key) none
 
   -- where a path may end, no node stands and no mark
   pub end_unmarked : (n : ℕ) → IsEnd (t.cell p) → ¬ (IsMarkOf layout s.words p n)
@@ -109,9 +93,12 @@ module _ {S A R : Type 0} (m : Meaning S A R) (digest : Key → ℕ) (layout : L
       real (ap cell_of (sym here ∙ is) ∙ (marks_say_nodes n n).0)
 
   -- the part stays where what is no mark is stored in a place at which a path may end, under its lock and in no node that the seat marked
-  pub marks_in_place : (id value : ℕ) (v w : CellView S A R) (published' : List ℕ) (digits : ℕ → ℕ) (level : ℕ) → get_elem? s.views id ≡ some v → Contains v.trie.locks (lock_of p) → AreDigits digits → IsOnPath digits t.cell level p → IsEnd (t.cell p) → cell_of value ≢ Mark →
-      ((x : Marked) → Contains v.trie.marks x → ¬ (IsPlaceIn x.node p)) → ((n : ℕ) → Contains kept.published n → Contains published' n) → MeetsNoMore v.trie w.trie → w.trie.emptied ≡ None → w.trie.met_mark ≡ v.trie.met_mark → w.pools.unfreed ≡ v.pools.unfreed →
-      ((x : Marked) → Contains w.trie.marks x → 1 ≤ w.epochs.loaded → w.epochs.loaded ≡ v.epochs.loaded) → w.epochs.pin ≡ v.epochs.pin → Marks mark_side layout published' (set s.words (place_at layout p) value) (set s.views id w)
+  pub marks_in_place : (id value : ℕ) (v w : CellView S A R) (published' : List ℕ) (digits : ℕ → ℕ) (level : ℕ) → get_elem? s.views id ≡ some v →
+      Contains v.trie.locks (lock_of p) → AreDigits digits → IsOnPath digits t.cell level p → IsEnd (t.cell p) → cell_of value ≢ Mark →
+      ((x : Marked) → Contains v.trie.marks x → ¬ (IsPlaceIn x.node p)) → ((n : ℕ) → Contains kept.published n → Contains published' n) →
+      MeetsNoMore v.trie w.trie → w.trie.emptied ≡ None → w.trie.met_mark ≡ v.trie.met_mark → w.pools.unfreed ≡ v.pools.unfreed →
+      ((x : Marked) → Contains w.trie.marks x → 1 ≤ w.epochs.loaded → w.epochs.loaded ≡ v.epochs.loaded) → w.epochs.pin ≡ v.epochs.pin →
+      Marks mark_side layout published' (set s.words (place_at layout p) value) (set s.views id w)
   marks_in_place id value v w published' digits level at locked are on end real unmarked listed less emptied met unfreed loaded pin =
       marks-stored mark_side layout kept.published published' s.words (set s.words (place_at layout p) value) s.views id p v w kept.marks at (record {
         changes = place_changed layout s.words p value inside;
@@ -134,7 +121,8 @@ module _ {S A R : Type 0} (m : Meaning S A R) (digest : Key → ℕ) (layout : L
       })
 
   -- and in a place of a node that the seat owns, in which no published node hangs
-  pub marks_in_own : (id own value : ℕ) (v w : CellView S A R) → get_elem? s.views id ≡ some v → IsPlaceIn own p → Contains v.pools.nodes own → cell_of value ≢ Mark → mark_side w ≡ mark_side v → Marks mark_side layout kept.published (set s.words (place_at layout p) value) (set s.views id w)
+  pub marks_in_own : (id own value : ℕ) (v w : CellView S A R) → get_elem? s.views id ≡ some v → IsPlaceIn own p → Contains v.pools.nodes own →
+      cell_of value ≢ Mark → mark_side w ≡ mark_side v → Marks mark_side layout kept.published (set s.words (place_at layout p) value) (set s.views id w)
   marks_in_own id own value v w at within owns real same =
       marks-owned mark_side layout kept.published s.words (set s.words (place_at layout p) value) s.views id p own v w kept.marks at (record {
         changes = place_changed layout s.words p value inside;

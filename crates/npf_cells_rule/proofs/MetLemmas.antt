@@ -1,25 +1,15 @@
 -- A place that a path meets is of the root, or of a published node, which nobody owns.
-use Rattle.std.proofs.Common.{◌≡◌, ◌⊎◌, ℕ, ◌+◌, ◌%◌, ◌<◌, slice_index, refl, inl, inr, arith}
-use Rattle.std.specs.List.{Contains}
-use Rattle.std.proofs.lemmas.Nat.Bits.{bit_at-lt}
+use Rattle.std.{proofs.{Common.{◌≡◌, ◌⊎◌, ℕ, ◌+◌, ◌%◌, ◌<◌, slice_index, refl, inl, inr, arith}, lemmas.Nat.Bits.bit_at-lt}, specs.List.Contains}
 use mathlib.Core.Option.{some}
 use lib.ListN.{get_elem?}
 use Rattle.atomic_table.specs.Table.{State}
 use Rattle.npf_types.specs.declared.key.Key.{Key}
 use Rattle.npf_core.specs.Meaning.{Meaning}
-use Rattle.npf_paths.specs.declared.place.Place.{Place}
-use Rattle.npf_paths.specs.Paths.{AreDigits, IsOnPath}
-use Rattle.npf_paths.specs.Paths.IsOnPath.{at_root, further}
-use Rattle.npf_cells_words.specs.declared.layout.Layout.{Layout}
-use Rattle.npf_cells_words.specs.declared.layout.Pool.TheVariants.{Nodes}
-use Rattle.npf_cells_words.specs.Layout.{field_at, nodes_at, place_word}
-use Rattle.npf_cells_words.specs.Places.{place_at}
-use Rattle.npf_seats.specs.Sums.{occurs}
-use Rattle.npf_seats.proofs.ListLemmas.{stands_once}
-use Rattle.npf_seats.proofs.SumLemmas.{one_of_sum}
+use Rattle.npf_paths.specs.{declared.place.Place.Place, Paths.{AreDigits, IsOnPath, IsOnPath.{at_root, further}}}
+use Rattle.npf_cells_words.specs.{declared.layout.{Layout.Layout, Pool.TheVariants.Nodes}, Layout.{field_at, nodes_at, place_word}, Places.place_at}
+use Rattle.npf_seats.{specs.Sums.occurs, proofs.{ListLemmas.stands_once, SumLemmas.one_of_sum}}
 use Rattle.npf_cells_leaves.specs.Trie.{TrieWords, trie_words}
-use Rattle.npf_cells_rule.specs.declared.view.CellView.{CellView}
-use Rattle.npf_cells_rule.specs.Cells.{IsCells}
+use Rattle.npf_cells_rule.specs.{declared.view.CellView.CellView, Cells.IsCells}
 use Rattle.npf_cells_lives.specs.Turns.{Running}
 
 module _ {S A R : Type 0} (m : Meaning S A R) (digest : Key → ℕ) (layout : Layout) (s : State (Running S) (CellView S A R)) (kept : IsCells m digest layout s) where

@@ -1,31 +1,15 @@
 -- The notes of a slot whose turn nobody has name the places of its connection's keys.
 use Rattle.std.proofs.Common.{◌≡◌, ℕ, ◌<◌, ◌≤◌, Bool, true, false, cond, Option, Some, None, sym, ap, ◌∙◌, arith}
 use Rattle.atomic_table.specs.Table.{State}
-use Rattle.npf_types.specs.declared.key.Key.{Key}
-use Rattle.npf_types.specs.declared.key.Way.{Way}
-use Rattle.npf_core.specs.declared.conn_id.ConnId.{ConnId}
-use Rattle.npf_core.specs.declared.found.Found.{Found}
-use Rattle.npf_core.specs.History.{state_of}
-use Rattle.npf_core.specs.Machine.{Holds, is_key}
-use Rattle.npf_core.specs.Meaning.{Meaning}
-use Rattle.npf_paths.specs.declared.cell.Cell.{Cell}
-use Rattle.npf_paths.specs.declared.cell.Cell.TheVariants.{Empty, Leaf, Node, Mark}
-use Rattle.npf_cells_words.specs.declared.layout.Layout.{Layout}
-use Rattle.npf_paths.specs.declared.place.Place.{Place}
+use Rattle.npf_types.specs.declared.key.{Key.Key, Way.Way}
+use Rattle.npf_core.specs.{declared.{conn_id.ConnId.ConnId, found.Found.Found}, History.state_of, Machine.{Holds, is_key}, Meaning.Meaning}
+use Rattle.npf_paths.specs.declared.{cell.Cell.{Cell, TheVariants.{Empty, Leaf, Node, Mark}}, place.Place.Place}
+use Rattle.npf_cells_words.specs.{declared.layout.Layout.Layout, Codes.place_code, Layout.note_field}
 use Rattle.npf_paths.specs.declared.place.Place.TheVariants as Places
-use Rattle.npf_cells_words.specs.Codes.{place_code}
-use Rattle.npf_cells_words.specs.Layout.{note_field}
 use Rattle.npf_seats.proofs.SumLemmas.{one_of_sum}
-use Rattle.npf_cells_leaves.specs.Trie.{digits_of, TrieWords, trie_words, holder_at}
-use Rattle.npf_cells_leaves.proofs.StandLemmas.{path_ends}
-use Rattle.npf_cells_leaves.proofs.TrieLemmas.{are_digits}
-use Rattle.npf_cells_lives.specs.Deaths.{last_id}
-use Rattle.npf_cells_lives.specs.Notes.{note_word, NobodyAhead}
-use Rattle.npf_cells_lives.specs.Turns.{Running, has_turn, turn_word}
-use Rattle.npf_cells_lives.proofs.TurnLemmas.{has_once}
-use Rattle.npf_cells_rule.specs.declared.view.CellView.{CellView}
-use Rattle.npf_cells_rule.specs.Cells.{IsCells}
-use Rattle.npf_cells_rule.specs.NoteLaw.{NamesEnd, NotesNameKeys, BareNotesAreZero}
+use Rattle.npf_cells_leaves.{specs.Trie.{digits_of, TrieWords, trie_words, holder_at}, proofs.{StandLemmas.path_ends, TrieLemmas.are_digits}}
+use Rattle.npf_cells_lives.{specs.{Deaths.last_id, Notes.{note_word, NobodyAhead}, Turns.{Running, has_turn, turn_word}}, proofs.TurnLemmas.has_once}
+use Rattle.npf_cells_rule.specs.{declared.view.CellView.CellView, Cells.IsCells, NoteLaw.{NamesEnd, NotesNameKeys, BareNotesAreZero}}
 use Rattle.npf_cells_rule.specs.Views.{turn_side, trie_side}
 
 -- no place has the number 0
@@ -38,7 +22,8 @@ holds_leaf : (t : TrieWords) (c : Cell) (key : Key) (id : ConnId) (way : Way) �
 holds_leaf t Empty key id way e = absurd cc
 holds_leaf t (Leaf slot w) key id way e = by_key (is_key (t.key slot w) key) e
   where
-    by_key : (b : Bool) → cond {A = Option Found} b (Some (record { id = record { slot = slot; inc = t.inc slot }; way = w })) None ≡ Some (record { id = id; way = way }) → Leaf slot w ≡ Leaf id.slot way
+    by_key : (b : Bool) → cond {A = Option Found} b (Some (record { id = record { slot = slot; inc = t.inc slot }; way = w })) None ≡ Some (record { id = id; way = way }) →
+        Leaf slot w ≡ Leaf id.slot way
     by_key true is =
         let mine : Found = record { id = record { slot = slot; inc = t.inc slot }; way = w } in
         let theirs : Found = record { id = id; way = way } in
@@ -57,7 +42,8 @@ module _ {S A R : Type 0} (m : Meaning S A R) (layout : Layout) (digest : Key �
       let once : has_turn slot v.turn ≡ 1 = ap (has_turn slot) is.has ∙ (ap (λ p. has_turn p (Some is.mine)) (sym is.there) ∙ has_once is.mine) in
       absurd (omega (arith, none, mine, once))
 
-  pub names_end : (slot : ℕ) (way : Way) (key : Key) → NobodyAhead turn_side s.views slot (note_field way) → Holds (state_of m kept.log) (last_id (state_of m kept.log) slot) way key → NamesEnd digest layout s.words key (note_word layout s.words slot way)
+  pub names_end : (slot : ℕ) (way : Way) (key : Key) → NobodyAhead turn_side s.views slot (note_field way) →
+      Holds (state_of m kept.log) (last_id (state_of m kept.log) slot) way key → NamesEnd digest layout s.words key (note_word layout s.words slot way)
   names_end slot way key nobody holds =
       let end = path_ends trie_side digest layout kept.published (state_of m kept.log) s.words s.views kept.trie (digits_of digest key) (are_digits digest key) in
       let stands = holds_leaf (trie_words layout s.words) ((trie_words layout s.words).cell end.1) key (last_id (state_of m kept.log) slot) way (sym (kept.trie.ends key end.0 end.1 end.2) ∙ holds) in

@@ -1,63 +1,32 @@
 -- A new table keeps the rule.
 use Rattle.std.specs.List.{Contains}
 use Rattle.std.proofs.Common.{◌≡◌, ℕ, zero, suc, ◌+◌, ◌<◌, ◌≤◌, ◌⊎◌, Bool, true, false, cond, Some, None, List, [], ◌∷◌, map, slice_index, replicate, refl, sym, ap, ◌∙◌, subst, ⊎_elim, arith}
-use Rattle.std.proofs.lemmas.List.{get_or-set_same, length-map, length-replicate}
-use Rattle.std.proofs.lemmas.List.Sums.{sum_by-cons}
+use Rattle.std.proofs.lemmas.List.{get_or-set_same, length-map, length-replicate, Sums.sum_by-cons}
 use mathlib.Core.Option.{some, some-injective, some-ne-none}
 use lib.ListN.{get_elem?}
-use Rattle.atomic_table.specs.Table.{opening as table_opening}
-use Rattle.atomic_table.proofs.Lists.{at_map}
-use Rattle.npf_types.specs.declared.key.Key.{Key}
-use Rattle.npf_types.specs.declared.key.Way.{Way}
-use Rattle.npf_core.specs.declared.conn_id.ConnId.{ConnId}
-use Rattle.npf_core.specs.declared.slot.Slot.{Slot}
-use Rattle.npf_core.specs.Machine.{opening, HoldsNone}
-use Rattle.npf_core.specs.Meaning.{Meaning}
+use Rattle.atomic_table.{specs.Table.opening as table_opening, proofs.Lists.at_map}
+use Rattle.npf_types.specs.declared.key.{Key.Key, Way.Way}
+use Rattle.npf_core.specs.{declared.{conn_id.ConnId.ConnId, slot.Slot.Slot}, Machine.{opening, HoldsNone}, Meaning.Meaning}
 use Rattle.npf_connections.specs.Pass.{all_places}
-use Rattle.npf_paths.specs.declared.cell.Cell.TheVariants.{Empty, Leaf, Node}
-use Rattle.npf_paths.specs.declared.place.Lock.{Lock}
+use Rattle.npf_paths.{specs.declared.{cell.Cell.TheVariants.{Empty, Leaf, Node}, place.{Lock.Lock, Place.Place}}, proofs.LevelLemmas.bare_has_levels}
 use Rattle.npf_paths.specs.declared.place.Lock.TheVariants as Locking
-use Rattle.npf_paths.specs.declared.place.Place.{Place}
-use Rattle.npf_paths.proofs.LevelLemmas.{bare_has_levels}
-use Rattle.npf_cells_words.specs.declared.layout.Layout.{Layout}
-use Rattle.npf_cells_words.specs.declared.layout.Pool.{Pool}
-use Rattle.npf_cells_words.specs.declared.layout.Pool.TheVariants.{Slots, Nodes}
+use Rattle.npf_cells_words.specs.declared.layout.{Layout.Layout, Pool.{Pool, TheVariants.{Slots, Nodes}}}
 use Rattle.npf_cells_words.specs.Layout.{turn_field, inc_field, phase_field, notes_field, note_field, state_field, field_at, word_count, epoch_word, reader_word}
-use Rattle.npf_cells_words.specs.Opening.{opening_words}
-use Rattle.npf_cells_words.specs.declared.mark.Emptied.{Emptied}
-use Rattle.npf_cells_words.specs.declared.mark.Marked.{Marked}
-use Rattle.npf_cells_words.specs.declared.mark.MetMark.{MetMark}
-use Rattle.npf_cells_words.specs.MarkWords.{shown_of, state_word, IsMarkOf}
-use Rattle.npf_cells_words.specs.Places.{lock_at, is_in_trie, place_at}
-use Rattle.npf_cells_words.proofs.WordLemmas.{field_behind, lock_behind, place_behind}
-use Rattle.npf_cells_words.proofs.OpeningLemmas.{start_zero, count, before, behind, clear, past}
-use Rattle.npf_seats.specs.Sums.{occurs}
-use Rattle.npf_seats.proofs.PrefixLemmas.{none_listed}
-use Rattle.npf_seats.proofs.SeatLemmas.{cases_lt, seats-first}
-use Rattle.npf_cells_pins.specs.Epochs.{ReaderView, pin_place, FitsEpochs, all_raises}
-use Rattle.npf_cells_pins.proofs.EpochLemmas.{idle_holds}
-use Rattle.npf_cells_leaves.specs.Trie.{trie_words, holder_at, FitsTrie}
-use Rattle.npf_cells_leaves.proofs.TrieLemmas.{fits_unread}
-use Rattle.npf_cells_lives.specs.declared.pools.Note.{Note}
-use Rattle.npf_cells_lives.specs.declared.turn.Ahead.{Ahead}
-use Rattle.npf_cells_lives.specs.declared.turn.Said.{Said}
-use Rattle.npf_cells_lives.specs.declared.turn.Turn.{Turn}
-use Rattle.npf_cells_lives.specs.Notes.{note_word, IsFirm, FitsAhead, FitsNote, Notes}
+use Rattle.npf_cells_words.specs.{Opening.opening_words, declared.mark.{Emptied.Emptied, Marked.Marked, MetMark.MetMark}}
+use Rattle.npf_cells_words.specs.{MarkWords.{shown_of, state_word, IsMarkOf}, Places.{lock_at, is_in_trie, place_at}}
+use Rattle.npf_cells_words.proofs.{WordLemmas.{field_behind, lock_behind, place_behind}, OpeningLemmas.{start_zero, count, before, behind, clear, past}}
+use Rattle.npf_seats.{specs.Sums.occurs, proofs.{PrefixLemmas.none_listed, SeatLemmas.{cases_lt, seats-first}}}
+use Rattle.npf_cells_pins.{specs.Epochs.{ReaderView, pin_place, FitsEpochs, all_raises}, proofs.EpochLemmas.idle_holds}
+use Rattle.npf_cells_leaves.{specs.Trie.{trie_words, holder_at, FitsTrie}, proofs.TrieLemmas.fits_unread}
+use Rattle.npf_cells_lives.specs.{declared.{pools.Note.Note, turn.{Ahead.Ahead, Said.Said, Turn.Turn}}, Notes.{note_word, IsFirm, FitsAhead, FitsNote, Notes}}
 use Rattle.npf_cells_lives.specs.Conns.{FitsBuilds, inc_word, unstored_by, entry_seat}
-use Rattle.npf_cells_lives.specs.Deaths.{first_note, has_epoch, slots_named, unreclaimed, FitsKill, FitsReclaim, Deaths}
-use Rattle.npf_cells_lives.specs.Known.{Known}
-use Rattle.npf_cells_lives.proofs.FreedLemmas.{gone_in, freed_none}
-use Rattle.npf_cells_lives.specs.Locks.{has_lock, lock_holders, held_in}
-use Rattle.npf_cells_lives.specs.Pools.{taken}
-use Rattle.npf_cells_lives.specs.Stored.{FitsStored}
-use Rattle.npf_cells_lives.proofs.ConnLemmas.{fits_nothing}
-use Rattle.npf_cells_lives.proofs.StoredLemmas.{fits_unstored}
+use Rattle.npf_cells_lives.specs.{Deaths.{first_note, has_epoch, slots_named, unreclaimed, FitsKill, FitsReclaim, Deaths}, Known.Known}
+use Rattle.npf_cells_lives.{proofs.FreedLemmas.{gone_in, freed_none}, specs.{Locks.{has_lock, lock_holders, held_in}, Pools.taken, Stored.FitsStored}}
+use Rattle.npf_cells_lives.proofs.{ConnLemmas.fits_nothing, StoredLemmas.fits_unstored}
 use Rattle.npf_cells_marks.specs.Marks.{FitsEmptied, FitsMarked, FitsMet, Marks}
-use Rattle.npf_cells_rule.specs.declared.view.CellView.{CellView}
-use Rattle.npf_cells_rule.specs.Cells.{FitsAlone, IsCells, first_cell_view}
-use Rattle.npf_cells_rule.specs.Views.{reader_view, lock_side, pool_side, turn_side, death_side, seen_side, mark_side}
+use Rattle.npf_cells_rule.specs.{declared.view.CellView.CellView, Cells.{FitsAlone, IsCells, first_cell_view}}
+use Rattle.npf_cells_rule.specs.{Views.{reader_view, lock_side, pool_side, turn_side, death_side, seen_side, mark_side}, Readers.readers_in_turn}
 use Rattle.npf_cells_lives.specs.Turns.{Running, running, stage_phase, has_turn, turn_holders, FitsTurn, Turns}
-use Rattle.npf_cells_rule.specs.Readers.{readers_in_turn}
 use Rattle.npf_cells_rule.proofs.ReaderLemmas.{in_turn_once, in_turn_never, length-in_turn}
 
 -- no cell is said by 0
@@ -86,7 +55,8 @@ module _ {S A R : Type 0} (layout : Layout) where
       omega (arith, a, b, c, d)
 
   -- the rule of a new table
-  pub opens : (m : Meaning S A R) (digest : Key → ℕ) (words : List ℕ) (homes : List (Running S)) → words ≡ opening_words layout → homes ≡ replicate layout.slots None → IsCells m digest layout (table_opening words homes (first_cell_view {S = S} {A = A} {R = R} layout))
+  pub opens : (m : Meaning S A R) (digest : Key → ℕ) (words : List ℕ) (homes : List (Running S)) → words ≡ opening_words layout →
+      homes ≡ replicate layout.slots None → IsCells m digest layout (table_opening words homes (first_cell_view {S = S} {A = A} {R = R} layout))
   opens m digest words homes is vacant = rw (is, vacant) (record {
     log = [];
     published = [];
@@ -139,7 +109,8 @@ module _ {S A R : Type 0} (layout : Layout) where
         greatest = omega arith;
         known = omega arith;
         guards = tt;
-        kept = λ place owns. before layout (1 + place) (let low = within place owns in omega (arith, low)) ∙ (start_zero layout (1 + place) (omega arith) ∙ sym (idle_holds (reader_view view) refl place));
+        kept = λ place owns. before layout (1 + place) (let low = within place owns in omega (arith, low))
+            ∙ (start_zero layout (1 + place) (omega arith) ∙ sym (idle_holds (reader_view view) refl place));
         pinned = λ _. refl;
       }
         where
@@ -197,7 +168,8 @@ module _ {S A R : Type 0} (layout : Layout) where
         each = turnless;
       }
         where
-          turnless : (j : ℕ) (v : CellView S A R) (turn : Turn S) → get_elem? (view ∷ []) j ≡ some v → v.turn ≡ Some turn → FitsTurn {S = S} layout (unreclaimed death_side (view ∷ []) opening) (opening_words layout) turn
+          turnless : (j : ℕ) (v : CellView S A R) (turn : Turn S) → get_elem? (view ∷ []) j ≡ some v → v.turn ≡ Some turn →
+              FitsTurn {S = S} layout (unreclaimed death_side (view ∷ []) opening) (opening_words layout) turn
           turnless zero v turn e has = absurd (let no : None ≡ Some turn = ap (λ (u : CellView S A R). u.turn) (some-injective _ _ e) ∙ has in cc)
           turnless (suc j) v turn e has = absurd (some-ne-none v (sym e))
 
@@ -223,11 +195,13 @@ module _ {S A R : Type 0} (layout : Layout) where
           undated zero v e = (let none : v.pools.dated ≡ 0 = ap (λ (u : CellView S A R). u.pools.dated) (sym (some-injective _ _ e)) in omega (arith, none))
           undated (suc j) v e = absurd (some-ne-none v (sym e))
 
-          no_kills : (j : ℕ) (v : CellView S A R) (id : ConnId) → get_elem? (view ∷ []) j ≡ some v → Contains v.pools.kills id → FitsKill {S = S} death_side opening (epoch_word (opening_words layout)) (view ∷ []) v.epochs.loaded id
+          no_kills : (j : ℕ) (v : CellView S A R) (id : ConnId) → get_elem? (view ∷ []) j ≡ some v → Contains v.pools.kills id →
+              FitsKill {S = S} death_side opening (epoch_word (opening_words layout)) (view ∷ []) v.epochs.loaded id
           no_kills zero v id e c = absurd (none_listed id (subst (λ (u : CellView S A R). Contains u.pools.kills id) (sym (some-injective _ _ e)) c))
           no_kills (suc j) v id e c = absurd (some-ne-none v (sym e))
 
-          no_reclaims : (j : ℕ) (v : CellView S A R) (id : ConnId) → get_elem? (view ∷ []) j ≡ some v → Contains v.pools.reclaims id ⊎ Contains v.pools.cleared id → FitsReclaim {S = S} death_side opening (view ∷ []) id
+          no_reclaims : (j : ℕ) (v : CellView S A R) (id : ConnId) → get_elem? (view ∷ []) j ≡ some v →
+              Contains v.pools.reclaims id ⊎ Contains v.pools.cleared id → FitsReclaim {S = S} death_side opening (view ∷ []) id
           no_reclaims zero v id e c = absurd (⊎_elim
               (λ (a : Contains v.pools.reclaims id). none_listed id (subst (λ (u : CellView S A R). Contains u.pools.reclaims id) (sym (some-injective _ _ e)) a))
               (λ (b : Contains v.pools.cleared id). none_listed id (subst (λ (u : CellView S A R). Contains u.pools.cleared id) (sym (some-injective _ _ e)) b))
@@ -248,19 +222,23 @@ module _ {S A R : Type 0} (layout : Layout) where
         each = noteless;
       }
         where
-          killless : (j : ℕ) (v : CellView S A R) (id : ConnId) (way : Way) → get_elem? (view ∷ []) j ≡ some v → Contains v.pools.kills id → ¬ Contains v.pools.gave_up (record { id = id; way = way }) → HoldsNone {S = S} opening id way → note_word layout (opening_words layout) id.slot way ≡ 0
+          killless : (j : ℕ) (v : CellView S A R) (id : ConnId) (way : Way) → get_elem? (view ∷ []) j ≡ some v → Contains v.pools.kills id →
+              ¬ Contains v.pools.gave_up (record { id = id; way = way }) → HoldsNone {S = S} opening id way → note_word layout (opening_words layout) id.slot way ≡ 0
           killless zero v id way e c not none = absurd (none_listed id (subst (λ (u : CellView S A R). Contains u.pools.kills id) (sym (some-injective _ _ e)) c))
           killless (suc j) v id way e c not none = absurd (some-ne-none v (sym e))
 
-          untold : (j : ℕ) (v : CellView S A R) (turn : Turn S) (said : Said) (way : Way) → get_elem? (view ∷ []) j ≡ some v → v.turn ≡ Some turn → turn.said ≡ Some said → IsFirm v.pools.kills turn said → said.field ≡ note_field way → note_word layout (opening_words layout) turn.slot way ≡ said.value
+          untold : (j : ℕ) (v : CellView S A R) (turn : Turn S) (said : Said) (way : Way) → get_elem? (view ∷ []) j ≡ some v → v.turn ≡ Some turn →
+              turn.said ≡ Some said → IsFirm v.pools.kills turn said → said.field ≡ note_field way → note_word layout (opening_words layout) turn.slot way ≡ said.value
           untold zero v turn said way e has is firm field = absurd (let no : None ≡ Some turn = ap (λ (u : CellView S A R). u.turn) (some-injective _ _ e) ∙ has in cc)
           untold (suc j) v turn said way e has is firm field = absurd (some-ne-none v (sym e))
 
-          aheadless : (j : ℕ) (v : CellView S A R) (turn : Turn S) (note : Ahead) → get_elem? (view ∷ []) j ≡ some v → v.turn ≡ Some turn → turn.ahead ≡ Some note → FitsAhead {S = S} layout opening (opening_words layout) turn.slot note
+          aheadless : (j : ℕ) (v : CellView S A R) (turn : Turn S) (note : Ahead) → get_elem? (view ∷ []) j ≡ some v → v.turn ≡ Some turn →
+              turn.ahead ≡ Some note → FitsAhead {S = S} layout opening (opening_words layout) turn.slot note
           aheadless zero v turn note e has is = absurd (let no : None ≡ Some turn = ap (λ (u : CellView S A R). u.turn) (some-injective _ _ e) ∙ has in cc)
           aheadless (suc j) v turn note e has is = absurd (some-ne-none v (sym e))
 
-          noteless : (j : ℕ) (v : CellView S A R) (note : Note) → get_elem? (view ∷ []) j ≡ some v → Contains v.pools.notes note → FitsNote {S = S} layout opening (opening_words layout) v.pools.builds note
+          noteless : (j : ℕ) (v : CellView S A R) (note : Note) → get_elem? (view ∷ []) j ≡ some v →
+              Contains v.pools.notes note → FitsNote {S = S} layout opening (opening_words layout) v.pools.builds note
           noteless zero v note e c = absurd (none_listed note (subst (λ (u : CellView S A R). Contains u.pools.notes note) (sym (some-injective _ _ e)) c))
           noteless (suc j) v note e c = absurd (some-ne-none v (sym e))
 
@@ -281,7 +259,8 @@ module _ {S A R : Type 0} (layout : Layout) where
           no_epoch : (node : ℕ) → has_epoch (state_word layout (opening_words layout) node) ≡ 0
           no_epoch node = ap has_epoch (behind layout (field_at layout Nodes node state_field) (field_behind layout Nodes node state_field))
 
-          markless : (j : ℕ) (v : CellView S A R) (x : Marked) → get_elem? (view ∷ []) j ≡ some v → Contains v.trie.marks x → FitsMarked mark_side layout [] (opening_words layout) (view ∷ []) (mark_side v) x
+          markless : (j : ℕ) (v : CellView S A R) (x : Marked) → get_elem? (view ∷ []) j ≡ some v → Contains v.trie.marks x →
+              FitsMarked mark_side layout [] (opening_words layout) (view ∷ []) (mark_side v) x
           markless zero v x e c = absurd (none_listed x (subst (λ (u : CellView S A R). Contains u.trie.marks x) (sym (some-injective _ _ e)) c))
           markless (suc j) v x e c = absurd (some-ne-none v (sym e))
 
@@ -293,13 +272,17 @@ module _ {S A R : Type 0} (layout : Layout) where
           nothing_met zero v x e has = absurd (let no : None ≡ Some x = ap (λ (u : CellView S A R). u.trie.met_mark) (some-injective _ _ e) ∙ has in cc)
           nothing_met (suc j) v x e has = absurd (some-ne-none v (sym e))
 
-          all_freed : (j : ℕ) (v : CellView S A R) (node : ℕ) → get_elem? (view ∷ []) j ≡ some v → Contains v.pools.unfreed node → (node < layout.nodes) × (has_epoch (state_word layout (opening_words layout) node) ≡ 1)
+          all_freed : (j : ℕ) (v : CellView S A R) (node : ℕ) → get_elem? (view ∷ []) j ≡ some v → Contains v.pools.unfreed node →
+              (node < layout.nodes) × (has_epoch (state_word layout (opening_words layout) node) ≡ 1)
           all_freed zero v node e c = absurd (none_listed node (subst (λ (u : CellView S A R). Contains u.pools.unfreed node) (sym (some-injective _ _ e)) c))
           all_freed (suc j) v node e c = absurd (some-ne-none v (sym e))
 
       alone : (j : ℕ) (v : CellView S A R) → get_elem? (view ∷ []) j ≡ some v → FitsAlone v
       alone zero v e = subst (λ (u : CellView S A R). FitsAlone u) (some-injective _ _ e)
-          (record { out = λ _. record { stands = refl; leaf = refl; seen = refl; meets = refl; answered = refl; locks = refl }; spent = λ none. absurd (let long = length-in_turn in omega (arith, none, long)) })
+          (record {
+            out = λ _. record { stands = refl; leaf = refl; seen = refl; meets = refl; answered = refl; locks = refl };
+            spent = λ none. absurd (let long = length-in_turn in omega (arith, none, long));
+          })
       alone (suc j) v e = absurd (some-ne-none v (sym e))
 
       builds_none : (j : ℕ) (v : CellView S A R) → get_elem? (view ∷ []) j ≡ some v → FitsBuilds {S = S} opening j v.pools.builds v.pools.unstored

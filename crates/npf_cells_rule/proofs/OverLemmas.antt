@@ -1,17 +1,11 @@
 -- A connection that is over is given no key any more, and what a pass knows of one that it killed stays so as it sees more.
 use Rattle.std.proofs.Common.{◌≡◌, ℕ, Option, Some, List, [], ◌∷◌, refl, sym, ap, ◌∙◌, subst}
-use Rattle.npf_types.specs.declared.key.Key.{Key}
-use Rattle.npf_types.specs.declared.key.Way.{Way}
-use Rattle.npf_core.specs.declared.conn_id.ConnId.{ConnId}
-use Rattle.npf_core.specs.declared.entry.Entry.{Entry}
-use Rattle.npf_core.specs.declared.found.Found.{Found}
-use Rattle.npf_core.specs.declared.stage.Stage.TheVariants.{Building, Dead}
-use Rattle.npf_core.specs.History.{LegalFrom, Legal, IsPrefix, MayFollow, after, state_from, state_of}
-use Rattle.npf_core.specs.Machine.{Machine, Holds, stage_of}
-use Rattle.npf_core.specs.Meaning.{Meaning}
-use Rattle.npf_core.proofs.HistoryLemmas.{state_from-append, LegalFrom-rest, Legal-prefix}
-use Rattle.npf_core.proofs.HolderLemmas.{Passes, rests, gives, loses, passes, may_hold}
-use Rattle.npf_core.proofs.LifeLemmas.{Life, to_come, built, lives, killed, gone, stage_in, stage_of-is, life_of, Moves, keeps, claims, starts, steps, abandons, expires, frees as is_freed, entry_moves}
+use Rattle.npf_types.specs.declared.key.{Key.Key, Way.Way}
+use Rattle.npf_core.specs.declared.{conn_id.ConnId.ConnId, entry.Entry.Entry, found.Found.Found, stage.Stage.TheVariants.{Building, Dead}}
+use Rattle.npf_core.specs.{History.{LegalFrom, Legal, IsPrefix, MayFollow, after, state_from, state_of}, Machine.{Machine, Holds, stage_of}, Meaning.Meaning}
+use Rattle.npf_core.proofs.{HistoryLemmas.{state_from-append, LegalFrom-rest, Legal-prefix}, HolderLemmas.{Passes, rests, gives, loses, passes, may_hold}}
+use Rattle.npf_core.proofs.LifeLemmas.{Life, to_come, built, lives, killed, gone, stage_in, stage_of-is, life_of, Moves, keeps, claims}
+use Rattle.npf_core.proofs.LifeLemmas.{starts, steps, abandons, expires, frees as is_freed, entry_moves}
 use Rattle.npf_cells_lives.specs.Known.{FitsKnown}
 
 -- killed, or freed
@@ -79,7 +73,8 @@ module _ {S A R : Type 0} (m : Meaning S A R) (slots : ℕ) (id : ConnId) where
   gone_moves entry _ _ (is_freed act answer) is = tt
 
   -- a key that it holds after an entry it held before
-  pub held_by : (k : Machine S) (entry : Entry S A R) → MayFollow m slots k entry → IsOver (life_of k id) → (way : Way) (key : Key) (x y : Option Found) → Passes entry.act key x y → k.holder key ≡ x → y ≡ Some (record { id = id; way = way }) → Holds k id way key
+  pub held_by : (k : Machine S) (entry : Entry S A R) → MayFollow m slots k entry → IsOver (life_of k id) → (way : Way) (key : Key) (x y : Option Found) →
+      Passes entry.act key x y → k.holder key ≡ x → y ≡ Some (record { id = id; way = way }) → Holds k id way key
   held_by k entry follows over way key _ _ rests was now = was ∙ now
   held_by k entry follows over way key _ _ (gives given act) was now =
       let same : given.id ≡ id = cc in
@@ -89,7 +84,8 @@ module _ {S A R : Type 0} (m : Meaning S A R) (slots : ℕ) (id : ConnId) where
   held_by k entry follows over way key _ _ (loses lost act) was now = absurd cc
 
   -- and so through entries
-  pub held_before : (k : Machine S) (entries : List (Entry S A R)) → LegalFrom m slots k entries → IsOver (life_of k id) → (way : Way) (key : Key) → Holds (state_from m k entries) id way key → Holds k id way key
+  pub held_before : (k : Machine S) (entries : List (Entry S A R)) → LegalFrom m slots k entries → IsOver (life_of k id) →
+      (way : Way) (key : Key) → Holds (state_from m k entries) id way key → Holds k id way key
   held_before k [] legal over way key held = held
   held_before k (entry ∷ entries) legal over way key held =
       held_by k entry legal.0 over way key (k.holder key) ((after m k entry).holder key) (passes entry.act key (k.holder key)) refl
@@ -97,7 +93,8 @@ module _ {S A R : Type 0} (m : Meaning S A R) (slots : ℕ) (id : ConnId) where
 
   over_later : (k : Machine S) (entries : List (Entry S A R)) → LegalFrom m slots k entries → IsOver (life_of k id) → IsOver (life_of (state_from m k entries) id)
   over_later k [] legal over = over
-  over_later k (entry ∷ entries) legal over = over_later (after m k entry) entries legal.1 (over_moves entry (life_of k id) (life_of (after m k entry) id) (entry_moves m slots k entry id legal.0) over)
+  over_later k (entry ∷ entries) legal over =
+      over_later (after m k entry) entries legal.1 (over_moves entry (life_of k id) (life_of (after m k entry) id) (entry_moves m slots k entry id legal.0) over)
 
   gone_later : (k : Machine S) (entries : List (Entry S A R)) → LegalFrom m slots k entries → IsGone (life_of k id) → IsGone (life_of (state_from m k entries) id)
   gone_later k [] legal is = is
@@ -124,7 +121,8 @@ module _ {S A R : Type 0} (m : Meaning S A R) (slots : ℕ) (id : ConnId) where
     gone_then is = subst (λ (k : Machine S). IsGone (life_of k id)) (sym whole) (gone_later (state_of m earlier) goes.rest from is)
 
   -- what is known of a connection that was seen Dead is known by who has seen more
-  pub known_more : (history longer log : List (Entry S A R)) → Legal m slots log → IsPrefix history longer → IsPrefix longer log → stage_of (state_of m log) id ≡ Dead → FitsKnown (state_of m history) (state_of m log) id → FitsKnown (state_of m longer) (state_of m log) id
+  pub known_more : (history longer log : List (Entry S A R)) → Legal m slots log → IsPrefix history longer → IsPrefix longer log → stage_of (state_of m log) id ≡ Dead →
+      FitsKnown (state_of m history) (state_of m log) id → FitsKnown (state_of m longer) (state_of m log) id
   known_more history longer log legal first second dead fits = record {
     dead = between;
     held = λ way key held. fits.held way key (held_so_far history longer (Legal-prefix m slots longer log second legal) first fits.dead way key held);

@@ -1,20 +1,16 @@
 -- A pass of the table stays one.
 use Rattle.std.proofs.Common.{◌≡◌, ℕ, Option, None, List, [], ◌∙◌, true, refl}
-use Rattle.atomic_table.specs.Seated.{TableId}
-use Rattle.atomic_table.specs.Table.{Me}
+use Rattle.atomic_table.specs.{Seated.TableId, Table.Me}
 use Rattle.npf_core.specs.declared.entry.Entry.{Entry}
 use Rattle.npf_cells_words.specs.declared.layout.Layout.{Layout}
-use Rattle.npf_cells_pins.specs.declared.pin.Pin.{Pin}
-use Rattle.npf_cells_pins.specs.declared.pin.Pin.TheVariants.{Idle, Pinned, Protected}
-use Rattle.npf_cells_lives.specs.declared.pools.PoolSide.{PoolSide}
-use Rattle.npf_cells_lives.specs.declared.turn.Turn.{Turn}
-use Rattle.npf_cells_rule.specs.declared.view.CellView.{CellView}
-use Rattle.npf_cells_rule.specs.Passes.{CarriesByTurn, IsPassOf, is_pinned, IsProtected}
-use Rattle.npf_cells_rule.specs.Views.{with_pools}
+use Rattle.npf_cells_pins.specs.declared.pin.Pin.{Pin, TheVariants.{Idle, Pinned, Protected}}
+use Rattle.npf_cells_lives.specs.declared.{pools.PoolSide.PoolSide, turn.Turn.Turn}
+use Rattle.npf_cells_rule.specs.{declared.view.CellView.CellView, Passes.{CarriesByTurn, IsPassOf, is_pinned, IsProtected}, Views.with_pools}
 
 -- a pass of the table stays one through a step that changes what it has seen of the history, what it knows and has of the pools, its turn and what
 -- it carries, and nothing else
-pub passes_on : {S A R F : Type 0} (layout : Layout) (table seat seat' : TableId) (readers : List ℕ) (me : Me F (CellView S A R)) (history : List (Entry S A R)) (pools : PoolSide) (turn : Option (Turn S)) (carried : List (ℕ × F)) →
+pub passes_on : {S A R F : Type 0} (layout : Layout) (table seat seat' : TableId) (readers : List ℕ) (me : Me F (CellView S A R))
+    (history : List (Entry S A R)) (pools : PoolSide) (turn : Option (Turn S)) (carried : List (ℕ × F)) →
     IsPassOf layout table seat readers me → seat' ≡ seat → CarriesByTurn turn carried →
     IsPassOf layout table seat' readers (record me.0 { seats = record me.0.seats { history = history }; pools = pools; turn = turn }, carried)
 passes_on layout table seat seat' readers me history pools turn carried own same carries = record {

@@ -1,8 +1,6 @@
 -- Each reader place stands once in the first pass's order, and those that are given one after the other stand apart.
 use Rattle.std.proofs.Common.{◌≡◌, ℕ, zero, suc, ◌+◌, ◌<◌, ◌≤◌, Bool, true, cond, ◌||◌, eqb, ne_eqb, map, length, refl, ap, ◌∙◌, ⊎_elim, inl, inr, arith, [], ◌∷◌}
-use Rattle.std.proofs.lemmas.Bool.{agree_below_at, eqb-true, ltb-true, leb-true, or_cases}
-use Rattle.std.proofs.lemmas.List.{map-append}
-use Rattle.std.proofs.lemmas.List.Sums.{sum_by_push}
+use Rattle.std.proofs.lemmas.{Bool.{agree_below_at, eqb-true, ltb-true, leb-true, or_cases}, List.{map-append, Sums.sum_by_push}}
 use lib.Dec.{ltb, leb}
 use Rattle.npf_connections.specs.Pass.{all_places}
 use Rattle.npf_seats.specs.Sums.{occurs, numbers_below}

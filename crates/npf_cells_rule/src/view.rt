@@ -1,3 +1,4 @@
+// All that a pass knows.
 use npf_cells_leaves::TrieSide;
 use npf_cells_lives::{PoolSide, Turn};
 use npf_cells_pins::EpochSide;

@@ -6,33 +6,21 @@ use mathlib.Core.Option.{some}
 use lib.ListN.{get_elem?}
 use Rattle.atomic_table.specs.Table.{State, Me, Step, Allows, stepped, keeps}
 use Rattle.npf_types.specs.declared.key.Key.{Key}
-use Rattle.npf_core.specs.declared.conn_id.ConnId.{ConnId}
-use Rattle.npf_core.specs.declared.stage.Stage.TheVariants.{Dead}
-use Rattle.npf_core.specs.History.{state_of}
-use Rattle.npf_core.specs.Machine.{Machine}
-use Rattle.npf_core.specs.Meaning.{Meaning}
-use Rattle.npf_cells_words.specs.declared.layout.Layout.{Layout}
-use Rattle.npf_cells_words.specs.declared.layout.Pool.TheVariants.{Slots}
-use Rattle.npf_cells_words.specs.Layout.{notes_field, field_at, epoch_word}
-use Rattle.npf_seats.specs.Sums.{occurs}
-use Rattle.npf_seats.proofs.ListLemmas.{one_where, occurs-cons}
-use Rattle.npf_seats.proofs.PrefixLemmas.{cons_cases}
-use Rattle.npf_seats.proofs.SumLemmas.{sum-set, one_of_sum}
-use Rattle.npf_cells_lives.specs.declared.turn.Said.{Said}
-use Rattle.npf_cells_lives.specs.declared.turn.Turn.{Turn}
+use Rattle.npf_core.specs.{declared.{conn_id.ConnId.ConnId, stage.Stage.TheVariants.Dead}, History.state_of, Machine.Machine, Meaning.Meaning}
+use Rattle.npf_cells_words.specs.{declared.layout.{Layout.Layout, Pool.TheVariants.Slots}, Layout.{notes_field, field_at, epoch_word}}
+use Rattle.npf_seats.{specs.Sums.occurs, proofs.{ListLemmas.{one_where, occurs-cons}, PrefixLemmas.cons_cases, SumLemmas.{sum-set, one_of_sum}}}
+use Rattle.npf_cells_lives.specs.declared.turn.{Said.Said, Turn.Turn}
 use Rattle.npf_cells_lives.specs.Deaths.{is_dead, has_epoch, first_note, slots_named, killed_in, reclaimed_in, cleared_in, FitsReclaim, Deaths}
 use Rattle.npf_cells_lives.specs.Turns.{stage_phase, Running}
-use Rattle.npf_cells_lives.proofs.DeathLemmas.{spares_all, RestsNoMore, same_dates, kill_kept, reclaim_kept, deaths-changed}
+use Rattle.npf_cells_lives.proofs.DeathLemmas.{spares_all, RestsNoMore, same_dates, kill_kept, reclaim_kept, deaths-changed, slot_named}
 use Rattle.npf_cells_lives.proofs.FreedLemmas.{gone_in, still_there}
-use Rattle.npf_cells_rule.specs.declared.view.CellView.{CellView}
-use Rattle.npf_cells_rule.specs.Cells.{IsCells}
-use Rattle.npf_cells_rule.specs.Views.{death_side}
+use Rattle.npf_cells_rule.specs.{declared.view.CellView.CellView, Cells.IsCells, Views.death_side}
 use Rattle.npf_cells_takes.specs.PrivateKinds.{MayClear, clearing, ClearsNote}
-use Rattle.npf_cells_takes.proofs.DeadNoteLemmas.{ws, dead_one, same_epoch, note_else, note_here, dead_noted}
-use Rattle.npf_cells_takes.proofs.HandLemmas.{none_here, as_many, was_elsewhere, slot_listed}
+use Rattle.npf_cells_takes.proofs.{DeadNoteLemmas.{ws, dead_one, same_epoch, note_else, note_here, dead_noted}, HandLemmas.{none_here, as_many, was_elsewhere}}
 
 module _ {S A R : Type 0} (m : Meaning S A R) (digest : Key → ℕ) (layout : Layout) where
-  module _ (s : State (Running S) (CellView S A R)) (id : ℕ) (me : Me (Running S) (CellView S A R)) (kept : IsCells m digest layout s) (at : get_elem? s.views id ≡ some me.0) (conn : ConnId) (within : conn.slot < layout.slots) (may : MayClear me.0 conn) where
+  module _ (s : State (Running S) (CellView S A R)) (id : ℕ) (me : Me (Running S) (CellView S A R)) (kept : IsCells m digest layout s)
+      (at : get_elem? s.views id ≡ some me.0) (conn : ConnId) (within : conn.slot < layout.slots) (may : MayClear me.0 conn) where
     abbrev k : Machine S
     k = state_of m kept.log
 
@@ -59,7 +47,7 @@ module _ {S A R : Type 0} (m : Meaning S A R) (digest : Key → ℕ) (layout : L
 
     -- the pass alone has it, and the note has its epoch
     listed : (p : ℕ) → p ≡ conn.slot → 1 ≤ occurs p (slots_named me.0.pools.reclaims)
-    listed p e = subst (λ q. 1 ≤ occurs q (slots_named me.0.pools.reclaims)) (sym e) (slot_listed conn me.0.pools.reclaims may)
+    listed p e = subst (λ q. 1 ≤ occurs q (slots_named me.0.pools.reclaims)) (sym e) (slot_named conn me.0.pools.reclaims may)
 
     reclaims_after : (p : ℕ) → reclaimed_in death_side (set s.views id w) p + occurs p (slots_named me.0.pools.reclaims) ≡ reclaimed_in death_side s.views p + occurs p (slots_named w.pools.reclaims)
     reclaims_after p = sum-set (λ (u : CellView S A R). occurs p (slots_named u.pools.reclaims)) s.views id me.0 w at
@@ -174,7 +162,8 @@ module _ {S A R : Type 0} (m : Meaning S A R) (digest : Key → ℕ) (layout : L
     nobodys = killed_after conn.slot ∙ (counts conn.slot within refl).unkilled
 
     -- who has the slot's turn got it when nobody had reclaimed anything there, or after that
-    untold : (j : ℕ) (u : CellView S A R) (turn : Turn S) (said : Said) → get_elem? s.views j ≡ some u → u.turn ≡ Some turn → turn.slot ≡ conn.slot → turn.was.stage ≡ Dead → turn.said ≡ Some said → has_epoch said.value ≡ 1 → said.field ≡ notes_field → ⊥
+    untold : (j : ℕ) (u : CellView S A R) (turn : Turn S) (said : Said) → get_elem? s.views j ≡ some u → u.turn ≡ Some turn → turn.slot ≡ conn.slot →
+        turn.was.stage ≡ Dead → turn.said ≡ Some said → has_epoch said.value ≡ 1 → said.field ≡ notes_field → ⊥
     untold j u turn said e has there dead is epoch field =
         let fits = kept.turns.each j u turn e has in
         let none = (still_there death_side s.views k turn.slot turn.was fits.stays (λ idle. absurd (let no : 2 ≡ 0 = sym (ap stage_phase dead) ∙ idle in cc))).1 in
@@ -182,7 +171,8 @@ module _ {S A R : Type 0} (m : Meaning S A R) (digest : Key → ℕ) (layout : L
         omega (arith, none, was)
 
     pub clears : 1 ≤ length me.0.seats.readers → IsCells m digest layout (stepped s (field_at layout Slots conn.slot notes_field) 0 id me.1 w keeps)
-    clears seated = dead_noted m digest layout s id me kept at conn.slot 0 within conn refl gone.dead gone.keyless w.pools refl refl refl refl refl refl (λ i c. c) (λ g c ne. c) gone_same nobodys untold seated deaths_after
+    clears seated = dead_noted m digest layout s id me kept at conn.slot 0 within conn refl gone.dead gone.keyless w.pools refl refl refl refl refl refl
+        (λ i c. c) (λ g c ne. c) gone_same nobodys untold seated deaths_after
 
   pub may_clear : (st : Step (Running S)) (id n : ℕ) (conn : ConnId) (me : Me (Running S) (CellView S A R)) → 1 ≤ length me.0.seats.readers → conn.slot < layout.slots → MayClear me.0 conn →
       Allows (IsCells m digest layout) n id me (field_at layout Slots conn.slot notes_field) (λ _. 0) (λ _. ClearsNote conn st me 0)

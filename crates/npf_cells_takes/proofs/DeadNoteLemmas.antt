@@ -4,53 +4,29 @@ use Rattle.std.proofs.Common.{◌≡◌, ◌≢◌, ℕ, ◌+◌, ◌<◌, ◌�
 use Rattle.std.proofs.lemmas.List.{get_or-set_same, get_or-set_other}
 use mathlib.Core.Option.{some}
 use lib.ListN.{get_elem?}
-use Rattle.atomic_table.specs.Table.{State, Me, stepped, keeps}
-use Rattle.atomic_table.proofs.Lists.{at_set}
-use Rattle.npf_types.specs.declared.key.Key.{Key}
-use Rattle.npf_types.specs.declared.key.Way.{Way}
-use Rattle.npf_types.specs.declared.key.Way.TheVariants.{Forward}
-use Rattle.npf_core.specs.declared.conn_id.ConnId.{ConnId}
-use Rattle.npf_core.specs.declared.found.Found.{Found}
-use Rattle.npf_core.specs.declared.stage.Stage.TheVariants.{Building, Dead}
-use Rattle.npf_core.specs.History.{state_of}
-use Rattle.npf_core.specs.Machine.{Machine, HoldsSome, stage_of}
-use Rattle.npf_core.specs.Meaning.{Meaning}
-use Rattle.npf_core.proofs.EqualityLemmas.{same_conn_id}
+use Rattle.atomic_table.{specs.Table.{State, Me, stepped, keeps}, proofs.Lists.at_set}
+use Rattle.npf_types.specs.declared.key.{Key.Key, Way.{Way, TheVariants.Forward}}
+use Rattle.npf_core.specs.{declared.{conn_id.ConnId.ConnId, found.Found.Found, stage.Stage.TheVariants.{Building, Dead}}, History.state_of}
+use Rattle.npf_core.{specs.{Machine.{Machine, HoldsSome, stage_of}, Meaning.Meaning}, proofs.EqualityLemmas.same_conn_id}
 use Rattle.npf_paths.specs.declared.cell.Cell.TheVariants.{Leaf}
-use Rattle.npf_cells_words.specs.declared.layout.Layout.{Layout}
-use Rattle.npf_cells_words.specs.declared.layout.Pool.{Pool}
-use Rattle.npf_cells_words.specs.declared.layout.Pool.TheVariants.{Slots, Nodes}
+use Rattle.npf_cells_words.specs.declared.layout.{Layout.Layout, Pool.{Pool, TheVariants.{Slots, Nodes}}}
 use Rattle.npf_cells_words.specs.Layout.{turn_field, phase_field, inc_field, parent_field, notes_field, note_field, key_field, field_at, epoch_word}
-use Rattle.npf_cells_words.specs.Places.{lock_at, place_at}
-use Rattle.npf_cells_words.proofs.WordLemmas.{field_behind, field_reach, key_short, not_slot, slot_apart}
-use Rattle.npf_seats.specs.Sums.{occurs}
-use Rattle.npf_seats.proofs.SumLemmas.{one_of_sum}
-use Rattle.npf_cells_leaves.specs.Trie.{key_word, trie_words}
-use Rattle.npf_cells_leaves.proofs.TrieLemmas.{KeepsTrie, cell_kept, knows_same, trie_same}
-use Rattle.npf_cells_lives.specs.declared.pools.PoolSide.{PoolSide}
-use Rattle.npf_cells_lives.specs.declared.turn.Said.{Said}
-use Rattle.npf_cells_lives.specs.declared.turn.Turn.{Turn}
-use Rattle.npf_cells_lives.specs.Conns.{Conns, IsBuiltIn}
+use Rattle.npf_cells_words.{specs.Places.{lock_at, place_at}, proofs.WordLemmas.{field_behind, field_reach, key_short, not_slot, slot_apart}}
+use Rattle.npf_seats.{specs.Sums.occurs, proofs.SumLemmas.one_of_sum}
+use Rattle.npf_cells_leaves.{specs.Trie.{key_word, trie_words}, proofs.TrieLemmas.{KeepsTrie, cell_kept, knows_same, trie_same}}
+use Rattle.npf_cells_lives.specs.{declared.{pools.PoolSide.PoolSide, turn.{Said.Said, Turn.Turn}}, Conns.{Conns, IsBuiltIn}}
 use Rattle.npf_cells_lives.specs.Deaths.{IsKeyless, is_dead, has_epoch, first_note, slots_named, killed_in, last_id, unreclaimed, Deaths}
-use Rattle.npf_cells_lives.specs.Notes.{note_word, IsFirm, FitsNote, Notes}
-use Rattle.npf_cells_lives.specs.Stored.{IsOwnField, StoredWords}
-use Rattle.npf_cells_lives.specs.Turns.{stage_phase, Running, Turns}
-use Rattle.npf_cells_lives.proofs.ConnLemmas.{building_at, builds-kept, unstored-set, conns-same}
-use Rattle.npf_cells_lives.proofs.DeathLemmas.{RestsNoMore, dead_at}
-use Rattle.npf_cells_lives.proofs.FreedLemmas.{gone_in, freed_stays}
-use Rattle.npf_cells_lives.proofs.LockLemmas.{locks-same, holders-set}
-use Rattle.npf_cells_lives.proofs.NoteLemmas.{ahead_fits, note_stays, nobody_before, firm_on}
-use Rattle.npf_cells_lives.proofs.StoredLemmas.{own_same, stored_kept, stored-set}
+use Rattle.npf_cells_lives.specs.{Notes.{note_word, IsFirm, FitsNote, Notes}, Stored.{IsOwnField, StoredWords}, Turns.{stage_phase, Running, Turns}}
+use Rattle.npf_cells_lives.proofs.{ConnLemmas.{building_at, builds-kept, unstored-set, conns-same}, DeathLemmas.{RestsNoMore, dead_at, slot_named}}
+use Rattle.npf_cells_lives.proofs.{FreedLemmas.{gone_in, freed_stays}, LockLemmas.{locks-same, holders-set}}
+use Rattle.npf_cells_lives.proofs.{NoteLemmas.{ahead_fits, note_stays, nobody_before, firm_on}, StoredLemmas.{own_same, stored_kept, stored-set}}
 use Rattle.npf_cells_lives.proofs.TurnLemmas.{turns-kept}
-use Rattle.npf_cells_rule.specs.declared.view.CellView.{CellView}
-use Rattle.npf_cells_rule.specs.Cells.{IsCells}
-use Rattle.npf_cells_rule.specs.Views.{lock_side, pool_side, trie_side, turn_side, death_side}
-use Rattle.npf_cells_rule.proofs.Frames.{alone_still, private_step}
-use Rattle.npf_cells_rule.proofs.MarkFrames.{marks_on, meets_same, words_slot}
-use Rattle.npf_cells_takes.proofs.HandLemmas.{slot_listed}
+use Rattle.npf_cells_rule.specs.{declared.view.CellView.CellView, Cells.IsCells, Views.{lock_side, pool_side, trie_side, turn_side, death_side}}
+use Rattle.npf_cells_rule.proofs.{Frames.{alone_still, private_step}, MarkFrames.{marks_on, meets_same, words_slot}}
 use Rattle.npf_cells_takes.proofs.NoteKeepLemmas.{other_note, note_cases, holds_last, leaf_held, was_on}
 
-module _ {S A R : Type 0} (m : Meaning S A R) (digest : Key → ℕ) (layout : Layout) (s : State (Running S) (CellView S A R)) (id : ℕ) (me : Me (Running S) (CellView S A R)) (kept : IsCells m digest layout s) (at : get_elem? s.views id ≡ some me.0) where
+module _ {S A R : Type 0} (m : Meaning S A R) (digest : Key → ℕ) (layout : Layout) (s : State (Running S) (CellView S A R)) (id : ℕ)
+    (me : Me (Running S) (CellView S A R)) (kept : IsCells m digest layout s) (at : get_elem? s.views id ≡ some me.0) where
   abbrev k : Machine S
   k = state_of m kept.log
 
@@ -89,8 +65,12 @@ module _ {S A R : Type 0} (m : Meaning S A R) (digest : Key → ℕ) (layout : L
       claimed = λ i c. c;
       dead = λ i e. e;
       cells = λ digits are level p on. cell_kept layout s.words ws p (λ inside. else' (place_at layout p) (λ e. slot_apart layout p slot notes_field inside (sym e)));
-      parents = λ digits level p node are on is. else' (field_at layout Nodes node parent_field) (λ e. absurd (let in' = (kept.trie.nodes digits level p node are on is).exists in omega (arith, in', e)));
-      keys = λ p way right. λ i. record { 0 = key_same p way 0 (omega arith) i ∷ key_same p way 1 (omega arith) i ∷ key_same p way 2 (omega arith) i ∷ key_same p way 3 (omega arith) i ∷ key_same p way 4 (omega arith) i ∷ [] };
+      parents = λ digits level p node are on is. else' (field_at layout Nodes node parent_field)
+          (λ e. absurd (let in' = (kept.trie.nodes digits level p node are on is).exists in omega (arith, in', e)));
+      keys = λ p way right. λ i. record {
+        0 = key_same p way 0 (omega arith) i ∷ key_same p way 1 (omega arith) i ∷
+            key_same p way 2 (omega arith) i ∷ key_same p way 3 (omega arith) i ∷ key_same p way 4 (omega arith) i ∷ [];
+      };
       incs = λ p way right. else' (field_at layout Slots p inc_field) (λ e. absurd (omega (arith, e)));
     }
       where
@@ -101,7 +81,8 @@ module _ {S A R : Type 0} (m : Meaning S A R) (digest : Key → ℕ) (layout : L
     note_else p ne = else' (field_at layout Slots p notes_field) (λ e. ne (omega (arith, e)))
 
     pub note_here : (p : ℕ) → p ≡ slot → first_note layout ws p ≡ value
-    note_here p e = ap (first_note layout ws) e ∙ get_or-set_same s.words note value 0 (let reach = field_reach layout Slots slot notes_field within (omega arith) in let long = kept.connections.reach in omega (arith, reach, long))
+    note_here p e = ap (first_note layout ws) e ∙ get_or-set_same s.words note value 0 (let reach = field_reach layout Slots slot notes_field within (omega arith) in
+        let long = kept.connections.reach in omega (arith, reach, long))
 
     -- the connection is the slot's last, so no leaf of the slot is of a path, and nobody builds there
     pub conn_last : conn ≡ last_id k slot
@@ -117,7 +98,8 @@ module _ {S A R : Type 0} (m : Meaning S A R) (digest : Key → ℕ) (layout : L
         cc
 
     -- the pass has other dead connections
-    module _ (pools : PoolSide) (nodes : pools.nodes ≡ me.0.pools.nodes) (back : pools.unfreed ≡ me.0.pools.unfreed) (builds : pools.builds ≡ me.0.pools.builds) (unstored : pools.unstored ≡ me.0.pools.unstored) (stored : pools.stored ≡ me.0.pools.stored) (notes : pools.notes ≡ me.0.pools.notes) where
+    module _ (pools : PoolSide) (nodes : pools.nodes ≡ me.0.pools.nodes) (back : pools.unfreed ≡ me.0.pools.unfreed) (builds : pools.builds ≡ me.0.pools.builds)
+        (unstored : pools.unstored ≡ me.0.pools.unstored) (stored : pools.stored ≡ me.0.pools.stored) (notes : pools.notes ≡ me.0.pools.notes) where
       abbrev w : CellView S A R
       w = record me.0 { pools = pools }
 
@@ -126,18 +108,22 @@ module _ {S A R : Type 0} (m : Meaning S A R) (digest : Key → ℕ) (layout : L
 
       conns_stay : Conns pool_side m layout kept.log ws (set s.views id w)
       conns_stay = conns-same pool_side m layout kept.log s.words ws s.views (set s.views id w) kept.connections (length-set s.words note value)
-          (λ p h. else' (field_at layout Slots p inc_field) (λ e. absurd (omega (arith, e)))) (builds-kept pool_side k s.views id me.0 w at builds unstored kept.connections.each) (unstored-set pool_side s.views id me.0 w at unstored)
+          (λ p h. else' (field_at layout Slots p inc_field) (λ e. absurd (omega (arith, e))))
+          (builds-kept pool_side k s.views id me.0 w at builds unstored kept.connections.each) (unstored-set pool_side s.views id me.0 w at unstored)
 
       stored_stay : StoredWords pool_side layout ws (set s.views id w)
       stored_stay = stored-set pool_side layout ws s.views id w
-          (stored_kept layout s.words ws me.0.pools w.pools (kept.stored id me.0 at) stored (own_same layout me.0.pools w.pools nodes builds) (λ pool place field own. else' (field_at layout pool place field) (nobody id me.0 at pool place field own)))
-          (λ j u ne e. stored_kept layout s.words ws u.pools u.pools (kept.stored j u e) refl (λ pool place field own. own) (λ pool place field own. else' (field_at layout pool place field) (nobody j u e pool place field own)))
+          (stored_kept layout s.words ws me.0.pools w.pools (kept.stored id me.0 at) stored (own_same layout me.0.pools w.pools nodes builds)
+          (λ pool place field own. else' (field_at layout pool place field) (nobody id me.0 at pool place field own)))
+          (λ j u ne e. stored_kept layout s.words ws u.pools u.pools (kept.stored j u e) refl (λ pool place field own. own)
+          (λ pool place field own. else' (field_at layout pool place field) (nobody j u e pool place field own)))
 
       -- it killed nothing more and may have forgotten what it gave up of the slot's keys; as many have reclaimed each slot; nobody has killed the slot's
       -- connection, and what anybody was told of the note is not about an epoch
       module _ (kills : (i : ConnId) → Contains pools.kills i → Contains me.0.pools.kills i) (gave : (g : Found) → Contains me.0.pools.gave_up g → g.id.slot ≢ slot → Contains pools.gave_up g)
           (gone : (p : ℕ) → gone_in death_side (set s.views id w) p ≡ gone_in death_side s.views p) (nobodys : killed_in death_side (set s.views id w) slot ≡ 0)
-          (untold : (j : ℕ) (u : CellView S A R) (turn : Turn S) (said : Said) → get_elem? s.views j ≡ some u → u.turn ≡ Some turn → turn.slot ≡ slot → turn.was.stage ≡ Dead → turn.said ≡ Some said → has_epoch said.value ≡ 1 → said.field ≡ notes_field → ⊥)
+          (untold : (j : ℕ) (u : CellView S A R) (turn : Turn S) (said : Said) → get_elem? s.views j ≡ some u → u.turn ≡ Some turn →
+          turn.slot ≡ slot → turn.was.stage ≡ Dead → turn.said ≡ Some said → has_epoch said.value ≡ 1 → said.field ≡ notes_field → ⊥)
           (seated : 1 ≤ length me.0.seats.readers) where
         turns_stay : Turns turn_side layout (unreclaimed death_side (set s.views id w) k) ws s.homes (set s.views id w)
         turns_stay = turns-kept turn_side layout (unreclaimed death_side s.views k) (unreclaimed death_side (set s.views id w) k) s.words ws s.homes s.views id me.0 w kept.turns at refl (record {
@@ -151,7 +137,8 @@ module _ {S A R : Type 0} (m : Meaning S A R) (digest : Key → ℕ) (layout : L
 
         -- what each pass had
         before : (j : ℕ) (u : CellView S A R) → get_elem? (set s.views id w) j ≡ some u →
-            (y : CellView S A R) × (get_elem? s.views j ≡ some y) × (y.turn ≡ u.turn) × (y.pools.notes ≡ u.pools.notes) × (y.pools.builds ≡ u.pools.builds) × ((i : ConnId) → Contains u.pools.kills i → Contains y.pools.kills i)
+            (y : CellView S A R) × (get_elem? s.views j ≡ some y) × (y.turn ≡ u.turn) × (y.pools.notes ≡ u.pools.notes) ×
+            (y.pools.builds ≡ u.pools.builds) × ((i : ConnId) → Contains u.pools.kills i → Contains y.pools.kills i)
             × ((g : Found) → Contains y.pools.gave_up g → g.id.slot ≢ slot → Contains u.pools.gave_up g)
         before j u e = ⊎_elim
             (λ (x : (j ≡ id) × (w ≡ u)). (
@@ -169,11 +156,12 @@ module _ {S A R : Type 0} (m : Meaning S A R) (digest : Key → ℕ) (layout : L
         unkilled : (j : ℕ) (u : CellView S A R) → get_elem? (set s.views id w) j ≡ some u → (i : ConnId) → Contains u.pools.kills i → i.slot ≢ slot
         unkilled j u e i c here =
             let one = one_of_sum (λ (y : CellView S A R). occurs slot (slots_named y.pools.kills)) (set s.views id w) j u e in
-            let listed = subst (λ q. 1 ≤ occurs q (slots_named u.pools.kills)) here (slot_listed i u.pools.kills c) in
+            let listed = subst (λ q. 1 ≤ occurs q (slots_named u.pools.kills)) here (slot_named i u.pools.kills c) in
             let none = nobodys in
             omega (arith, one, listed, none)
 
-        told_so : (j : ℕ) (u : CellView S A R) (turn : Turn S) (said : Said) (way : Way) → get_elem? (set s.views id w) j ≡ some u → u.turn ≡ Some turn → turn.said ≡ Some said → IsFirm u.pools.kills turn said → said.field ≡ note_field way →
+        told_so : (j : ℕ) (u : CellView S A R) (turn : Turn S) (said : Said) (way : Way) → get_elem? (set s.views id w) j ≡ some u →
+            u.turn ≡ Some turn → turn.said ≡ Some said → IsFirm u.pools.kills turn said → said.field ≡ note_field way →
             note_word layout ws turn.slot way ≡ said.value
         told_so j u turn said way e has is firm field =
             let was = before j u e in
@@ -191,7 +179,8 @@ module _ {S A R : Type 0} (m : Meaning S A R) (digest : Key → ℕ) (layout : L
               let on' = was_on m digest layout s kept id me.0 at slot Forward value within seated digits level p are on in
               let is' = sym (keeps_trie.cells digits are level p on') ∙ is in
               ⊎_elim
-              (λ (e : (p' ≡ slot) × (way ≡ Forward)). absurd (none_holds Forward (leaf_held m digest layout s kept id me.0 at slot Forward value within seated digits level p are on' (is' ∙ (λ i. Leaf (e.0 i) (e.1 i))))))
+              (λ (e : (p' ≡ slot) × (way ≡ Forward)).
+              absurd (none_holds Forward (leaf_held m digest layout s kept id me.0 at slot Forward value within seated digits level p are on' (is' ∙ (λ i. Leaf (e.0 i) (e.1 i))))))
               (λ apart. else_note p' way apart ∙ kept.notes.named digits level p p' way are on' is' (nobody_before turn_side s.views id me.0 w p' (note_field way) at (λ a. a) none))
               (note_cases m digest layout s kept id me.0 at slot Forward value within seated p' way);
           bare = λ p way h live none. ⊎_elim
@@ -207,20 +196,24 @@ module _ {S A R : Type 0} (m : Meaning S A R) (digest : Key → ℕ) (layout : L
               let was = before j u e in
               let fits = kept.notes.ahead j was.0 turn ahead was.1 (was.2 ∙ has) is in
               ahead_fits layout k k s.words ws turn.slot ahead fits
-              (else_note turn.slot fits.way (λ a b. none_holds fits.way (holds_last m digest layout s kept id me.0 at slot Forward value within seated fits.id fits.way (fits.id_there ∙ a) fits.held))) (λ key found x. x);
+              (else_note turn.slot fits.way (λ a b. none_holds fits.way (holds_last m digest layout s kept id me.0 at slot Forward value within seated fits.id fits.way (fits.id_there ∙ a) fits.held)))
+              (λ key found x. x);
           each = λ j u note e c.
               let was = before j u e in
               let fits = kept.notes.each j was.0 note was.1 (subst (λ ns. Contains ns note) (sym was.3) c) in
               subst (λ ids. FitsNote layout k ws ids note) was.4
-              (note_stays layout k k s.words ws was.0.pools.builds was.0.pools.builds note (λ way is. else_note note.slot way (λ a b. unbuilt j was.0 fits.id was.1 fits.built (fits.there ∙ a))) (λ key i way a b d holds. holds) (λ i e' c'. c') fits);
+              (note_stays layout k k s.words ws was.0.pools.builds was.0.pools.builds note
+              (λ way is. else_note note.slot way (λ a b. unbuilt j was.0 fits.id was.1 fits.built (fits.there ∙ a))) (λ key i way a b d holds. holds) (λ i e' c'. c') fits);
         }
 
         pub dead_noted : Deaths death_side layout k ws (set s.views id w) → IsCells m digest layout (stepped s note value id me.1 w keeps)
-        dead_noted deaths = private_step m digest layout s note value id me.1 me.0 w kept at (field_behind layout Slots slot notes_field) refl refl nodes back builds kills (alone_still me.0 w (kept.alone id me.0 at) seated refl (λ none. none))
+        dead_noted deaths = private_step m digest layout s note value id me.1 me.0 w kept at (field_behind layout Slots slot notes_field) refl refl nodes back builds kills
+            (alone_still me.0 w (kept.alone id me.0 at) seated refl (λ none. none))
             (trie_same trie_side digest layout kept.published k k s.words ws s.views id me.0 w kept.trie at (knows_same me.0.trie) keeps_trie)
             conns_stay
             stored_stay
-            (locks-same lock_side layout s.words ws s.views (set s.views id w) kept.locks (λ lock h. else' (lock_at layout lock) (λ e. not_slot layout slot notes_field lock h (sym e))) (holders-set lock_side layout s.views id me.0 w at refl))
+            (locks-same lock_side layout s.words ws s.views (set s.views id w) kept.locks
+            (λ lock h. else' (lock_at layout lock) (λ e. not_slot layout slot notes_field lock h (sym e))) (holders-set lock_side layout s.views id me.0 w at refl))
             turns_stay
             deaths
             notes_after

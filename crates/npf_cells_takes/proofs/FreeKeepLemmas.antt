@@ -1,59 +1,31 @@
 -- A slot that is given back keeps the rule, and makes the Free of its connection.
-use Rattle.std.specs.Int.{bit_at, bit_not, w64}
-use Rattle.std.specs.List.{Contains}
-use Rattle.std.proofs.Common.{◌≡◌, ◌≢◌, ◌+◌, ℕ, true, ◌*◌, ◌%◌, ◌^◌, ◌<◌, ◌≤◌, Some, [], ◌∷◌, ◌++◌, List, map, set, length, slice_index, refl, sym, ap, ◌∙◌, subst, ⊎_elim, inl, inr, arith, bit_and, length-set}
-use Rattle.std.proofs.lemmas.Bool.{cases_eq}
-use Rattle.std.proofs.lemmas.List.{map-set}
+use Rattle.std.specs.{Int.{bit_at, bit_not, w64}, List.Contains}
+use Rattle.std.proofs.Common.{◌≡◌, ◌≢◌, ◌+◌, ℕ, true, ◌*◌, ◌%◌, ◌^◌, ◌<◌, ◌≤◌, Some, [], ◌∷◌, ◌++◌, List, map, set, length, slice_index}
+use Rattle.std.proofs.{Common.{refl, sym, ap, ◌∙◌, subst, ⊎_elim, inl, inr, arith, bit_and, length-set}, lemmas.{Bool.cases_eq, List.map-set}}
 use Rattle.std.proofs.lemmas.Nat.Bits.{bit_at_clear_same, bit_at_clear_other}
 use mathlib.Core.Option.{some}
 use lib.ListN.{get_elem?}
-use Rattle.atomic_table.specs.Table.{State, Me, Step, Allows, stepped, keeps}
-use Rattle.atomic_table.proofs.Lists.{at_map, at_set}
+use Rattle.atomic_table.{specs.Table.{State, Me, Step, Allows, stepped, keeps}, proofs.Lists.{at_map, at_set}}
 use Rattle.npf_types.specs.declared.key.Key.{Key}
-use Rattle.npf_core.specs.declared.act.Act.TheVariants.{Free}
-use Rattle.npf_core.specs.declared.conn_id.ConnId.{ConnId}
-use Rattle.npf_core.specs.declared.entry.Entry.{Entry}
-use Rattle.npf_core.specs.declared.reply.Reply.TheVariants.{Nothing}
-use Rattle.npf_core.specs.declared.slot.Slot.{Slot}
-use Rattle.npf_core.specs.declared.stage.Stage.TheVariants.{Building}
-use Rattle.npf_core.specs.History.{MayFollow, Legal, state_of}
-use Rattle.npf_core.specs.Machine.{Machine, stage_of, IsClaimed}
-use Rattle.npf_core.specs.Meaning.{Meaning}
-use Rattle.npf_core.proofs.HistoryLemmas.{state_of-append, Legal-append}
-use Rattle.npf_connections.specs.Adding.{AddsOwn}
-use Rattle.npf_connections.specs.Pass.{all_places}
-use Rattle.npf_cells_words.specs.declared.layout.Layout.{Layout}
-use Rattle.npf_cells_words.specs.declared.layout.Pool.{Pool}
-use Rattle.npf_cells_words.specs.declared.layout.Pool.TheVariants.{Slots, Nodes}
-use Rattle.npf_cells_words.specs.Layout.{turn_field, phase_field, inc_field, notes_field, note_field, field_at, place_word}
-use Rattle.npf_cells_words.specs.Places.{place_at}
+use Rattle.npf_core.specs.declared.{act.Act.TheVariants.Free, conn_id.ConnId.ConnId, entry.Entry.Entry, reply.Reply.TheVariants.Nothing, slot.Slot.Slot}
+use Rattle.npf_core.specs.{declared.stage.Stage.TheVariants.Building, History.{MayFollow, Legal, state_of}, Machine.{Machine, stage_of, IsClaimed}}
+use Rattle.npf_core.{specs.Meaning.Meaning, proofs.HistoryLemmas.{state_of-append, Legal-append}}
+use Rattle.npf_connections.specs.{Adding.AddsOwn, Pass.all_places}
+use Rattle.npf_cells_words.specs.declared.layout.{Layout.Layout, Pool.{Pool, TheVariants.{Slots, Nodes}}}
+use Rattle.npf_cells_words.specs.{Layout.{turn_field, phase_field, inc_field, notes_field, note_field, field_at, place_word}, Places.place_at}
 use Rattle.npf_cells_words.proofs.WordLemmas.{field_behind, place_behind}
-use Rattle.npf_seats.specs.Seats.{FitsSeats, Seats}
-use Rattle.npf_seats.proofs.SeatLemmas.{seats-adds}
-use Rattle.npf_seats.proofs.SumLemmas.{set_there}
-use Rattle.npf_cells_leaves.specs.Trie.{FitsTrie, Trie, trie_words}
-use Rattle.npf_cells_leaves.proofs.TrieLemmas.{knows_same, trie_same, cell_same, keeps_words}
-use Rattle.npf_cells_lives.specs.Conns.{Conns, inc_word, unstored_by, entry_seat}
-use Rattle.npf_cells_lives.specs.Deaths.{Rests, FitsReclaim, unreclaimed, Deaths}
-use Rattle.npf_cells_lives.specs.Known.{FitsKnown, Known}
-use Rattle.npf_cells_lives.specs.Notes.{Notes}
-use Rattle.npf_cells_lives.specs.Pools.{claim_bit, taken, Pools}
-use Rattle.npf_cells_lives.specs.Turns.{Running, StaysAt, stage_phase, Turns}
-use Rattle.npf_cells_lives.proofs.ConnLemmas.{BuildsIn, unstored-set}
-use Rattle.npf_cells_lives.proofs.FreedLemmas.{gone_in, by_none, by_some, freed_stays}
-use Rattle.npf_cells_lives.proofs.KnownLemmas.{known_now, known-set}
-use Rattle.npf_cells_lives.proofs.NoteLemmas.{same_ahead, notes-acted}
-use Rattle.npf_cells_lives.proofs.PoolLemmas.{pools-set, taken-set}
-use Rattle.npf_cells_lives.proofs.StoredLemmas.{own_same, stored_kept}
-use Rattle.npf_cells_lives.proofs.TurnLemmas.{turns-kept}
-use Rattle.npf_cells_rule.specs.declared.view.CellView.{CellView}
-use Rattle.npf_cells_rule.specs.Cells.{IsCells}
-use Rattle.npf_cells_rule.specs.Passes.{cell_pass}
+use Rattle.npf_seats.{specs.Seats.{FitsSeats, Seats}, proofs.{SeatLemmas.seats-adds, SumLemmas.set_there}}
+use Rattle.npf_cells_leaves.{specs.Trie.{FitsTrie, Trie, trie_words}, proofs.TrieLemmas.{knows_same, trie_same, cell_same, keeps_words}}
+use Rattle.npf_cells_lives.specs.{Conns.{Conns, inc_word, unstored_by, entry_seat}, Deaths.{Rests, FitsReclaim, unreclaimed, Deaths}, Known.{FitsKnown, Known}}
+use Rattle.npf_cells_lives.specs.{Notes.Notes, Pools.{claim_bit, taken, Pools}, Turns.{Running, StaysAt, stage_phase, Turns}}
+use Rattle.npf_cells_lives.proofs.{ConnLemmas.{BuildsIn, unstored-set}, FreedLemmas.{gone_in, by_none, by_some, freed_stays}}
+use Rattle.npf_cells_lives.proofs.{KnownLemmas.{known_now, known-set}, NoteLemmas.{same_ahead, notes-acted}, PoolLemmas.{pools-set, taken-set}}
+use Rattle.npf_cells_lives.proofs.{StoredLemmas.{own_same, stored_kept}, TurnLemmas.turns-kept}
+use Rattle.npf_cells_rule.specs.{declared.view.CellView.CellView, Cells.IsCells, Passes.cell_pass}
 use Rattle.npf_cells_rule.specs.Views.{seat_side, pool_side, trie_side, turn_side, leaf_id, death_side, seen_side}
 use Rattle.npf_cells_rule.proofs.EntryLemmas.{adds_entry, sole_entries}
 use Rattle.npf_cells_rule.proofs.Frames.{alone-set, alone_still, IsPoolStep, framed, stored_apart, locks_apart, epochs_apart}
-use Rattle.npf_cells_rule.proofs.MarkFrames.{marks_on, meets_same, words_behind}
-use Rattle.npf_cells_rule.proofs.StoodLemmas.{stood_so}
+use Rattle.npf_cells_rule.proofs.{MarkFrames.{marks_on, meets_same, words_behind}, StoodLemmas.stood_so}
 use Rattle.npf_cells_takes.specs.SlotKinds.{MayGiveBack, freeing, HasFreed, FreesSlot}
 use Rattle.npf_cells_takes.proofs.FreeLemmas.{freed, freed_here, freed_else, same_inc, still_claimed, still_dead, builds_freed, gone_here, gone_else, deaths_freed}
 use Rattle.npf_cells_takes.proofs.PoolKeepLemmas.{pool_step}
@@ -122,7 +94,8 @@ module _ {S A R : Type 0} (m : Meaning S A R) (digest : Key → ℕ) (layout : L
 
       -- the words of the trie and the holders are the same, and nobody speaks of the connection
       as_before : Trie trie_side digest layout kept.published k ws views'
-      as_before = trie_same trie_side digest layout kept.published k k s.words ws s.views id me.0 w kept.trie at (knows_same me.0.trie) (keeps_words layout k k s.words ws (λ key. refl) (λ i c. c) (λ i e. e) step.behind)
+      as_before = trie_same trie_side digest layout kept.published k k s.words ws s.views id me.0 w kept.trie at
+          (knows_same me.0.trie) (keeps_words layout k k s.words ws (λ key. refl) (λ i c. c) (λ i e. e) step.behind)
 
       fits_trie : (j : ℕ) (u : CellView S A R) → get_elem? views' j ≡ some u → FitsTrie digest layout.slots k' (trie_words layout ws) u.trie
       fits_trie j u e =
@@ -160,22 +133,26 @@ module _ {S A R : Type 0} (m : Meaning S A R) (digest : Key → ℕ) (layout : L
         legal = Legal-append m layout.slots kept.log entry kept.connections.legal follows;
         each = subst (λ x. BuildsIn pool_side x views') (sym state) builds;
         incs = λ p h. ap (λ x. x + unstored_by pool_side views' p) (step.behind (field_at layout Slots p inc_field) (field_behind layout Slots p inc_field))
-            ∙ (ap (λ x. inc_word layout s.words p + x) (unstored-set pool_side s.views id me.0 w at refl p) ∙ (kept.connections.incs p h ∙ (sym (same_inc m k id conn p) ∙ ap (λ (x : Machine S). (x.slot p).inc) (sym state))));
+            ∙ (ap (λ x. inc_word layout s.words p + x) (unstored-set pool_side s.views id me.0 w at refl p)
+            ∙ (kept.connections.incs p h ∙ (sym (same_inc m k id conn p) ∙ ap (λ (x : Machine S). (x.slot p).inc) (sym state))));
       }
 
       deaths : Deaths death_side layout k' ws views'
-      deaths = deaths_freed death_side layout m k id conn s.words ws s.views id me.0 w kept.deaths at within may.cleared refl (step.before 0 (omega arith)) (λ p h. step.behind (field_at layout Slots p notes_field) (field_behind layout Slots p notes_field))
+      deaths = deaths_freed death_side layout m k id conn s.words ws s.views id me.0 w kept.deaths at within may.cleared refl (step.before 0 (omega arith))
+          (λ p h. step.behind (field_at layout Slots p notes_field) (field_behind layout Slots p notes_field))
 
       -- for turns the slot was free before
       stays_at : (p : ℕ) → StaysAt ((unreclaimed death_side s.views k).slot p) ((unreclaimed death_side views' k').slot p)
       stays_at p = ⊎_elim
           (λ (e : p ≡ conn.slot).
-          let counts = gone_here death_side layout m k id conn s.words ws s.views id me.0 w kept.deaths at within may.cleared refl (step.before 0 (omega arith)) (λ q h. step.behind (field_at layout Slots q notes_field) (field_behind layout Slots q notes_field)) p e in
+          let counts = gone_here death_side layout m k id conn s.words ws s.views id me.0 w kept.deaths at within may.cleared refl (step.before 0 (omega arith))
+          (λ q h. step.behind (field_at layout Slots q notes_field) (field_behind layout Slots q notes_field)) p e in
           let some' : gone_in death_side s.views p ≢ 0 = (λ none. let one = counts.0 in omega (arith, one, none)) in
           inl (by_none (gone_in death_side views' p) (k'.slot p) counts.1 ∙ (freed_here m k id conn p e ∙ sym (by_some (gone_in death_side s.views p) (k.slot p) some'))))
           (λ (ne : p ≢ conn.slot).
           freed_stays death_side s.views views' k k' p
-          (gone_else death_side layout m k id conn s.words ws s.views id me.0 w kept.deaths at within may.cleared refl (step.before 0 (omega arith)) (λ q h. step.behind (field_at layout Slots q notes_field) (field_behind layout Slots q notes_field)) p ne)
+          (gone_else death_side layout m k id conn s.words ws s.views id me.0 w kept.deaths at within may.cleared refl (step.before 0 (omega arith))
+          (λ q h. step.behind (field_at layout Slots q notes_field) (field_behind layout Slots q notes_field)) p ne)
           (inl (freed_else m k id conn p ne)))
           (cases_eq p conn.slot)
 
@@ -191,8 +168,10 @@ module _ {S A R : Type 0} (m : Meaning S A R) (digest : Key → ℕ) (layout : L
           (λ i c. subst (λ x. FitsKnown x k' i) (sym state) (known_now k' i (deaths.kills id w i (set_there s.views id me.0 w at) c).dead))
 
       notes : Notes turn_side pool_side layout (trie_words layout ws).cell k' ws views'
-      notes = notes-acted turn_side pool_side layout k k' (trie_words layout s.words).cell (trie_words layout ws).cell s.words ws s.views id me.0 w conn.slot kept.notes at (same_ahead me.0.turn w.turn refl)
-          (λ i way c not none. kept.notes.given id me.0 i way at c not none) (λ turn said way has is firm field. kept.notes.said id me.0 turn said way at has is firm field) (λ note c. kept.notes.each id me.0 note at c)
+      notes = notes-acted turn_side pool_side layout k k' (trie_words layout s.words).cell
+          (trie_words layout ws).cell s.words ws s.views id me.0 w conn.slot kept.notes at (same_ahead me.0.turn w.turn refl)
+          (λ i way c not none. kept.notes.given id me.0 i way at c not none) (λ turn said way has is firm field.
+          kept.notes.said id me.0 turn said way at has is firm field) (λ note c. kept.notes.each id me.0 note at c)
           (λ digits are level p on. cell_same layout s.words ws p (step.behind (place_at layout p) (place_behind layout p)))
           (λ p way. step.behind (field_at layout Slots p (note_field way)) (field_behind layout Slots p (note_field way)))
           (λ key. refl) (λ p ne. freed_else m k id conn p ne)
@@ -206,19 +185,22 @@ module _ {S A R : Type 0} (m : Meaning S A R) (digest : Key → ℕ) (layout : L
           (subst (λ x. Pools layout (taken pool_side kept.published x views') ws) (sym state) pools)
           (subst (λ x. Trie trie_side digest layout kept.published x ws views') (sym state) trie)
           connections
-          (stored_apart m digest layout s word n id w kept (stored_kept layout s.words s.words me.0.pools w.pools (kept.stored id me.0 at) refl (own_same layout me.0.pools w.pools refl refl) (λ pool p field own. refl)) step.behind)
+          (stored_apart m digest layout s word n id w kept (stored_kept layout s.words s.words me.0.pools w.pools
+          (kept.stored id me.0 at) refl (own_same layout me.0.pools w.pools refl refl) (λ pool p field own. refl)) step.behind)
           (locks_apart m digest layout s word n id me.0 w kept at refl step.behind)
           (subst (λ x. Turns turn_side layout (unreclaimed death_side views' x) ws s.homes views') (sym state) turns)
           (subst (λ x. Deaths death_side layout x ws views') (sym state) deaths)
           (subst (λ x. Known (seen_side m) pool_side x views') (sym state) known)
           (subst (λ x. Notes turn_side pool_side layout (trie_words layout ws).cell x ws views') (sym state) notes)
-          (marks_on m digest layout s kept ws id me.0 w at (words_behind layout kept.published s.words ws (let same = step.before 0 (omega arith) in omega (arith, same)) step.behind) (meets_same me.0.trie) refl (λ _. refl) refl)
+          (marks_on m digest layout s kept ws id me.0 w at (words_behind layout kept.published s.words ws (let same = step.before 0 (omega arith) in
+          omega (arith, same)) step.behind) (meets_same me.0.trie) refl (λ _. refl) refl)
           (alone-set s.views id w (alone_still me.0 w (kept.alone id me.0 at) place refl (λ none. none)) kept.alone)
 
       -- the Free ends what the pass has then seen
       pub has_freed : me.0.seats.theirs ≡ [] → HasFreed m conn found me (w, me.1)
       has_freed settled = record {
-        adds = subst (AddsOwn (cell_pass me.0) log') (ap (λ x. record entry { seat = x } ∷ []) (sym number)) (adds_entry layout.slots kept.log (map seat_side s.views) id me.0 kept.seats there lives place entry refl);
+        adds = subst (AddsOwn (cell_pass me.0) log') (ap (λ x. record entry { seat = x } ∷ []) (sym number))
+            (adds_entry layout.slots kept.log (map seat_side s.views) id me.0 kept.seats there lives place entry refl);
         legal = λ pass. record {
           legal = subst (λ slots. Legal m slots log') (sym (fits.sized place)) connections.legal;
           stays = λ i c. subst (λ (x : Machine S). IsClaimed (stage_of x i)) (sym state) ((fits_trie id w (set_there s.views id me.0 w at)).claimed i c);
@@ -240,14 +222,18 @@ module _ {S A R : Type 0} (m : Meaning S A R) (digest : Key → ℕ) (layout : L
           number : me.0.seats.number ≡ id
           number = (fits.lives lives).number
 
-  pub may_free_slot : (st : Step (Running S)) (id n mask : ℕ) (conn : ConnId) (me : Me (Running S) (CellView S A R)) → me.0.seats.lives ≡ true → me.0.seats.theirs ≡ [] → 1 ≤ length me.0.seats.readers → conn.slot < layout.slots → MayGiveBack me.0 conn → mask ≡ bit_not w64 (1 * 2 ^ (conn.slot % 64) % 2 ^ 64) →
+  pub may_free_slot : (st : Step (Running S)) (id n mask : ℕ) (conn : ConnId) (me : Me (Running S) (CellView S A R)) → me.0.seats.lives ≡ true →
+      me.0.seats.theirs ≡ [] → 1 ≤ length me.0.seats.readers → conn.slot < layout.slots → MayGiveBack me.0 conn → mask ≡ bit_not w64 (1 * 2 ^ (conn.slot % 64) % 2 ^ 64) →
       Allows (IsCells m digest layout) n id me (place_word layout Slots conn.slot) (λ k. bit_and k mask) (FreesSlot m digest layout conn st me)
   may_free_slot st id n mask conn me lives settled place within may is s kept homes at bound = rw is (
     w s id me kept at lives place conn within may,
     keeps,
     tt,
     frees s id me kept at lives place conn within may after' here else',
-    record { freed = has_freed s id me kept at lives place conn within may after' here else' settled; stood = stood_so m digest layout s id me.0 (place_word layout Slots conn.slot) (place_word layout Slots conn.slot) kept at lives refl },
+    record {
+      freed = has_freed s id me kept at lives place conn within may after' here else' settled;
+      stood = stood_so m digest layout s id me.0 (place_word layout Slots conn.slot) (place_word layout Slots conn.slot) kept at lives refl;
+    },
   )
     where
       number : ℕ

@@ -5,25 +5,17 @@ use Rattle.std.proofs.lemmas.Bool.{cases_eq}
 use mathlib.Core.Option.{some}
 use lib.ListN.{get_elem?}
 use Rattle.atomic_table.proofs.Lists.{at_set}
-use Rattle.npf_core.specs.declared.act.Act.TheVariants.{Free}
-use Rattle.npf_core.specs.declared.conn_id.ConnId.{ConnId}
-use Rattle.npf_core.specs.declared.slot.Slot.{Slot}
-use Rattle.npf_core.specs.declared.stage.Stage.TheVariants.{Building, Dead}
-use Rattle.npf_core.specs.Machine.{Machine, IsClaimed, stage_at, stage_of}
-use Rattle.npf_core.specs.Meaning.{Meaning}
-use Rattle.npf_core.specs.NextState.{after_act}
-use Rattle.npf_core.proofs.EqualityLemmas.{same_conn_id}
+use Rattle.npf_core.specs.declared.{act.Act.TheVariants.Free, conn_id.ConnId.ConnId, slot.Slot.Slot, stage.Stage.TheVariants.{Building, Dead}}
+use Rattle.npf_core.{specs.{Machine.{Machine, IsClaimed, stage_at, stage_of}, Meaning.Meaning, NextState.after_act}, proofs.EqualityLemmas.same_conn_id}
 use Rattle.npf_core.proofs.LifeLemmas.{IsClaimed-last}
-use Rattle.npf_cells_words.specs.declared.layout.Layout.{Layout}
-use Rattle.npf_cells_words.specs.Layout.{epoch_word}
-use Rattle.npf_seats.specs.Sums.{occurs}
-use Rattle.npf_seats.proofs.SumLemmas.{sum-set, one_of_sum, two_of_sum}
+use Rattle.npf_cells_words.specs.{declared.layout.Layout.Layout, Layout.epoch_word}
+use Rattle.npf_seats.{specs.Sums.occurs, proofs.SumLemmas.{sum-set, one_of_sum, two_of_sum}}
 use Rattle.npf_cells_lives.specs.declared.pools.PoolSide.{PoolSide}
-use Rattle.npf_cells_lives.specs.Deaths.{DeathSide, Rests, IsProtectedBy, IsKeyless, is_dead, has_epoch, first_note, slots_named, killed_in, reclaimed_in, cleared_in, ids_elsewhere, freed_slot, last_id, IsPast, FitsKill, IsLeft, FitsReclaim, Deaths}
-use Rattle.npf_cells_lives.proofs.ConnLemmas.{BuildsIn, building_at, builds-kept}
-use Rattle.npf_cells_lives.proofs.DeathLemmas.{KeepsDates, same_dates, dead_at}
+use Rattle.npf_cells_lives.specs.Deaths.{DeathSide, Rests, IsProtectedBy, IsKeyless, is_dead, has_epoch, first_note, slots_named, killed_in, reclaimed_in, cleared_in}
+use Rattle.npf_cells_lives.specs.Deaths.{ids_elsewhere, freed_slot, last_id, IsPast, FitsKill, IsLeft, FitsReclaim, Deaths}
+use Rattle.npf_cells_lives.proofs.{ConnLemmas.{BuildsIn, building_at, builds-kept}, DeathLemmas.{KeepsDates, same_dates, dead_at, slot_named}}
 use Rattle.npf_cells_lives.proofs.FreedLemmas.{gone_in}
-use Rattle.npf_cells_takes.proofs.HandLemmas.{none_here, as_many, was_elsewhere, slot_listed}
+use Rattle.npf_cells_takes.proofs.HandLemmas.{none_here, as_many, was_elsewhere}
 
 module _ {S A R : Type 0} (m : Meaning S A R) (k : Machine S) (seat : ℕ) (id : ConnId) where
   abbrev pub freed : Machine S
@@ -79,8 +71,10 @@ module _ {S A R : Type 0} (m : Meaning S A R) (k : Machine S) (seat : ℕ) (id :
       })
 
 -- the part on deaths, where a pass frees what it cleared
-module _ {S A R V : Type 0} (side_of : V → DeathSide) (layout : Layout) (m : Meaning S A R) (k : Machine S) (seat : ℕ) (id : ConnId) (words words' : List ℕ) (views : List V) (j : ℕ) (v w : V) (kept : Deaths side_of layout k words views) (at : get_elem? views j ≡ some v)
-    (within : id.slot < layout.slots) (mine : Contains (side_of v).cleared id) (same : side_of w ≡ record (side_of v) { cleared = ids_elsewhere id.slot (side_of v).cleared }) (epoch : epoch_word words' ≡ epoch_word words)
+module _ {S A R V : Type 0} (side_of : V → DeathSide) (layout : Layout) (m : Meaning S A R) (k : Machine S) (seat : ℕ) (id : ConnId) (words words' : List ℕ)
+    (views : List V) (j : ℕ) (v w : V) (kept : Deaths side_of layout k words views) (at : get_elem? views j ≡ some v)
+    (within : id.slot < layout.slots) (mine : Contains (side_of v).cleared id)
+    (same : side_of w ≡ record (side_of v) { cleared = ids_elsewhere id.slot (side_of v).cleared }) (epoch : epoch_word words' ≡ epoch_word words)
     (notes : (p : ℕ) → p < layout.slots → first_note layout words' p ≡ first_note layout words p) where
   abbrev pub k' : Machine S
   k' = freed m k seat id
@@ -103,7 +97,7 @@ module _ {S A R V : Type 0} (side_of : V → DeathSide) (layout : Layout) (m : M
   fewer p = sum-set (λ (u : V). occurs p (slots_named (side_of u).cleared)) views j v w at ∙ ap (λ (d : DeathSide). cleared_in side_of views p + occurs p (slots_named d.cleared)) same
 
   listed : (p : ℕ) → p ≡ id.slot → 1 ≤ occurs p (slots_named (side_of v).cleared)
-  listed p e = subst (λ q. 1 ≤ occurs q (slots_named (side_of v).cleared)) (sym e) (slot_listed id (side_of v).cleared mine)
+  listed p e = subst (λ q. 1 ≤ occurs q (slots_named (side_of v).cleared)) (sym e) (slot_named id (side_of v).cleared mine)
 
   counts : (p : ℕ) → p ≡ id.slot → Counts p
   counts p e =
@@ -166,14 +160,14 @@ module _ {S A R V : Type 0} (side_of : V → DeathSide) (layout : Layout) (m : M
   not_reclaimed : (n : ℕ) (u : V) → get_elem? views n ≡ some u → (i : ConnId) → Contains (side_of u).reclaims i → i.slot ≢ id.slot
   not_reclaimed n u e i c here =
       let one = one_of_sum (λ (x : V). occurs i.slot (slots_named (side_of x).reclaims)) views n u e in
-      let has = slot_listed i (side_of u).reclaims c in
+      let has = slot_named i (side_of u).reclaims c in
       let none = (counts i.slot here).reclaimed in
       omega (arith, one, has, none)
 
   not_cleared : (n : ℕ) (u : V) → n ≢ j → get_elem? views n ≡ some u → (i : ConnId) → Contains (side_of u).cleared i → i.slot ≢ id.slot
   not_cleared n u ne e i c here =
       let two = two_of_sum (λ (x : V). occurs i.slot (slots_named (side_of x).cleared)) views n j u v e at ne in
-      let has = slot_listed i (side_of u).cleared c in
+      let has = slot_named i (side_of u).cleared c in
       let mine' = listed i.slot here in
       let one = (counts i.slot here).cleared in
       omega (arith, two, has, mine', one)
@@ -181,7 +175,7 @@ module _ {S A R V : Type 0} (side_of : V → DeathSide) (layout : Layout) (m : M
   not_killed : (n : ℕ) (u : V) → get_elem? views n ≡ some u → (i : ConnId) → Contains (side_of u).kills i → i.slot ≢ id.slot
   not_killed n u e i c here =
       let one = one_of_sum (λ (x : V). occurs i.slot (slots_named (side_of x).kills)) views n u e in
-      let has = slot_listed i (side_of u).kills c in
+      let has = slot_named i (side_of u).kills c in
       let none = (counts i.slot here).killed in
       omega (arith, one, has, none)
 
@@ -225,7 +219,8 @@ module _ {S A R V : Type 0} (side_of : V → DeathSide) (layout : Layout) (m : M
       let fits = kept.kills n was.old i was.there had in
       record {
         dead = same_stage m k seat id i (not_killed n was.old was.there i had) ∙ fits.dead;
-        past = λ some' bare. subst (λ since. IsPast side_of (epoch_word words') views' i since) (sym was.loaded) (past_on i (side_of was.old).loaded (fits.past (subst (λ since. 1 ≤ since) was.loaded some') bare));
+        past = λ some' bare. subst (λ since. IsPast side_of (epoch_word words') views' i since) (sym was.loaded)
+            (past_on i (side_of was.old).loaded (fits.past (subst (λ since. 1 ≤ since) was.loaded some') bare));
       }
 
   reclaims_on : (n : ℕ) (u : V) (i : ConnId) → get_elem? views' n ≡ some u → Contains (side_of u).reclaims i ⊎ Contains (side_of u).cleared i → FitsReclaim side_of k' views' i

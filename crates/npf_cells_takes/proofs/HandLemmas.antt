@@ -1,13 +1,9 @@
 -- Connections that a pass has, without those of a slot.
-use Rattle.std.specs.List.{Contains, filter}
-use Rattle.std.proofs.Common.{◌≡◌, ◌≢◌, ℕ, ◌≤◌, Bool, true, false, cond, eqb, eq-eqb, ne_eqb, List, [], ◌∷◌, refl, sym, ap, ◌∙◌, ⊎_elim, arith}
-use Rattle.npf_core.specs.declared.conn_id.ConnId.{ConnId}
-use Rattle.npf_core.specs.declared.found.Found.{Found}
-use Rattle.npf_seats.specs.Sums.{occurs, others_than}
-use Rattle.npf_seats.proofs.ListLemmas.{one_where, occurs-cons, left_same, left_others}
-use Rattle.npf_seats.proofs.PrefixLemmas.{none_listed, cons_cases}
+use Rattle.std.{specs.List.{Contains, filter}, proofs.Common.{◌≡◌, ◌≢◌, ℕ, Bool, true, false, cond, eqb, eq-eqb, ne_eqb, List, [], ◌∷◌, refl, sym, ap, ◌∙◌}}
+use Rattle.npf_shelf.proofs.ListLemmas.{Contains-filter_parts, Contains-filter_from}
+use Rattle.npf_core.specs.declared.{conn_id.ConnId.ConnId, found.Found.Found}
+use Rattle.npf_seats.{specs.Sums.{occurs, others_than}, proofs.ListLemmas.{left_same, left_others}}
 use Rattle.npf_cells_lives.specs.Deaths.{slots_named, ids_elsewhere}
-use Rattle.npf_cells_lives.proofs.StoredLemmas.{filter_has, has_filtered}
 
 -- their slots
 slots_elsewhere : (slot : ℕ) (ids : List ConnId) → slots_named (ids_elsewhere slot ids) ≡ others_than slot (slots_named ids)
@@ -15,7 +11,8 @@ slots_elsewhere slot [] = refl
 slots_elsewhere slot (id ∷ ids) = by_test (slots_elsewhere slot ids) (eqb id.slot slot)
   where
     by_test : slots_named (ids_elsewhere slot ids) ≡ others_than slot (slots_named ids) → (b : Bool) →
-        slots_named (cond (cond b false true) (id ∷ ids_elsewhere slot ids) (ids_elsewhere slot ids)) ≡ cond (cond b false true) (id.slot ∷ others_than slot (slots_named ids)) (others_than slot (slots_named ids))
+        slots_named (cond (cond b false true) (id ∷ ids_elsewhere slot ids) (ids_elsewhere slot ids)) ≡ cond
+        (cond b false true) (id.slot ∷ others_than slot (slots_named ids)) (others_than slot (slots_named ids))
     by_test same true = same
     by_test same false = ap (λ xs. id.slot ∷ xs) same
 
@@ -29,19 +26,9 @@ as_many slot p ids ne = ap (occurs p) (slots_elsewhere slot ids) ∙ left_others
 -- whoever is among them was before, and is of another slot
 pub was_elsewhere : (slot : ℕ) (ids : List ConnId) (id : ConnId) → Contains (ids_elsewhere slot ids) id → Contains ids id × (id.slot ≢ slot)
 was_elsewhere slot ids id c =
-    let left = filter_has (λ (x : ConnId). cond (eqb x.slot slot) false true) ids id c in
+    let left = Contains-filter_parts (λ (x : ConnId). cond (eqb x.slot slot) false true) ids id c in
     (left.0, λ e. absurd (let no : false ≡ true = sym (ap (λ b. cond b false true) (eq-eqb id.slot slot e)) ∙ left.1 in cc))
 
 -- keys of connections of other slots stay
 pub given_elsewhere : (slot : ℕ) (given : List Found) (g : Found) → Contains given g → g.id.slot ≢ slot → Contains (filter (λ (x : Found). cond (eqb x.id.slot slot) false true) given) g
-given_elsewhere slot given g c ne = has_filtered (λ (x : Found). cond (eqb x.id.slot slot) false true) given g c (ap (λ b. cond b false true) (ne_eqb g.id.slot slot ne))
-
--- the slot of a connection is counted
-pub slot_listed : (id : ConnId) (ids : List ConnId) → Contains ids id → 1 ≤ occurs id.slot (slots_named ids)
-slot_listed id [] c = absurd (none_listed id c)
-slot_listed id (x ∷ xs) c =
-    let more = occurs-cons id.slot x.slot (slots_named xs) in
-    ⊎_elim
-    (λ (e : x ≡ id). let one : one_where (eqb x.slot id.slot) ≡ 1 = ap one_where (eq-eqb x.slot id.slot (ap (λ (i : ConnId). i.slot) e)) in omega (arith, more, one))
-    (λ d. let rest = slot_listed id xs d in omega (arith, more, rest))
-    (cons_cases x id xs c)
+given_elsewhere slot given g c ne = Contains-filter_from (λ (x : Found). cond (eqb x.id.slot slot) false true) given g c (ap (λ b. cond b false true) (ne_eqb g.id.slot slot ne))

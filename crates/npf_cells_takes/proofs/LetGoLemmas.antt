@@ -3,35 +3,23 @@ use Rattle.std.proofs.Common.{◌≡◌, ◌≢◌, ℕ, ◌+◌, ◌-◌, ◌^�
 use Rattle.std.proofs.lemmas.Bool.{cases_eq}
 use mathlib.Core.Option.{some}
 use lib.ListN.{get_elem?}
-use Rattle.atomic_table.specs.Table.{State, Me, stepped, keeps}
-use Rattle.atomic_table.proofs.Lists.{at_map}
-use Rattle.npf_types.specs.declared.key.Key.{Key}
-use Rattle.npf_types.specs.declared.key.Way.TheVariants.{Forward}
-use Rattle.npf_core.specs.declared.conn_id.ConnId.{ConnId}
-use Rattle.npf_core.specs.declared.stage.Stage.TheVariants.{Dead}
-use Rattle.npf_core.specs.History.{state_of}
-use Rattle.npf_core.specs.Machine.{Machine}
-use Rattle.npf_core.specs.Meaning.{Meaning}
-use Rattle.npf_cells_words.specs.declared.layout.Layout.{Layout}
-use Rattle.npf_cells_words.specs.declared.layout.Pool.TheVariants.{Slots}
-use Rattle.npf_cells_words.specs.Layout.{notes_field, field_at, epoch_word}
-use Rattle.npf_seats.specs.Sums.{occurs}
-use Rattle.npf_seats.proofs.SumLemmas.{sum-set, set_there, one_of_sum}
-use Rattle.npf_cells_lives.specs.declared.turn.Said.{Said}
-use Rattle.npf_cells_lives.specs.declared.turn.Turn.{Turn}
+use Rattle.atomic_table.{specs.Table.{State, Me, stepped, keeps}, proofs.Lists.at_map}
+use Rattle.npf_types.specs.declared.key.{Key.Key, Way.TheVariants.Forward}
+use Rattle.npf_core.specs.{declared.{conn_id.ConnId.ConnId, stage.Stage.TheVariants.Dead}, History.state_of, Machine.Machine, Meaning.Meaning}
+use Rattle.npf_cells_words.specs.{declared.layout.{Layout.Layout, Pool.TheVariants.Slots}, Layout.{notes_field, field_at, epoch_word}}
+use Rattle.npf_seats.{specs.Sums.occurs, proofs.SumLemmas.{sum-set, set_there, one_of_sum}}
+use Rattle.npf_cells_lives.specs.declared.turn.{Said.Said, Turn.Turn}
 use Rattle.npf_cells_lives.specs.Deaths.{IsKeyless, is_dead, has_epoch, first_note, slots_named, killed_in, reclaimed_in, cleared_in, last_id, IsPast, FitsKill, Deaths}
 use Rattle.npf_cells_lives.specs.Turns.{Running}
-use Rattle.npf_cells_lives.proofs.DeathLemmas.{spares_all, RestsNoMore, KeepsDates, later_dates, epoch_note, past_kept, kill_kept, reclaim_kept, deaths-changed}
+use Rattle.npf_cells_lives.proofs.DeathLemmas.{spares_all, RestsNoMore, KeepsDates, later_dates, epoch_note, past_kept, kill_kept, reclaim_kept, deaths-changed, slot_named}
 use Rattle.npf_cells_lives.proofs.FreedLemmas.{gone_in}
-use Rattle.npf_cells_rule.specs.declared.view.CellView.{CellView}
-use Rattle.npf_cells_rule.specs.Cells.{IsCells}
-use Rattle.npf_cells_rule.specs.Views.{seat_side, death_side}
-use Rattle.npf_cells_takes.specs.PrivateKinds.{MayLetGo, letting_go}
-use Rattle.npf_cells_takes.proofs.BareLemmas.{still_bare}
+use Rattle.npf_cells_rule.specs.{declared.view.CellView.CellView, Cells.IsCells, Views.{seat_side, death_side}}
+use Rattle.npf_cells_takes.{specs.PrivateKinds.{MayLetGo, letting_go}, proofs.BareLemmas.still_bare}
 use Rattle.npf_cells_takes.proofs.DeadNoteLemmas.{ws, dead_one, same_epoch, note_else, note_here, conn_last, dead_noted}
-use Rattle.npf_cells_takes.proofs.HandLemmas.{none_here, as_many, was_elsewhere, given_elsewhere, slot_listed}
+use Rattle.npf_cells_takes.proofs.HandLemmas.{none_here, as_many, was_elsewhere, given_elsewhere}
 
-module _ {S A R : Type 0} (m : Meaning S A R) (digest : Key → ℕ) (layout : Layout) (s : State (Running S) (CellView S A R)) (id : ℕ) (me : Me (Running S) (CellView S A R)) (kept : IsCells m digest layout s) (at : get_elem? s.views id ≡ some me.0)
+module _ {S A R : Type 0} (m : Meaning S A R) (digest : Key → ℕ) (layout : Layout) (s : State (Running S) (CellView S A R)) (id : ℕ)
+    (me : Me (Running S) (CellView S A R)) (kept : IsCells m digest layout s) (at : get_elem? s.views id ≡ some me.0)
     (slot value : ℕ) (within : slot < layout.slots) (may : MayLetGo m me.0 slot notes_field value) where
   abbrev k : Machine S
   k = state_of m kept.log
@@ -65,7 +53,7 @@ module _ {S A R : Type 0} (m : Meaning S A R) (digest : Key → ℕ) (layout : L
 
   -- the note had no epoch, since the pass had the connection
   listed : 1 ≤ occurs slot (slots_named me.0.pools.kills)
-  listed = subst (λ q. 1 ≤ occurs q (slots_named me.0.pools.kills)) may.there (slot_listed conn me.0.pools.kills may.killed)
+  listed = subst (λ q. 1 ≤ occurs q (slots_named me.0.pools.kills)) may.there (slot_named conn me.0.pools.kills may.killed)
 
   unmarked : has_epoch (first_note layout s.words slot) ≡ 0
   unmarked =
@@ -123,7 +111,8 @@ module _ {S A R : Type 0} (m : Meaning S A R) (digest : Key → ℕ) (layout : L
   deaths_after = deaths-changed death_side layout k k s.words words' s.views id me.0 w kept.deaths at (spares_all k) goes less
       (λ p h. (let same = cleared_after p in let all = counted p h in omega (arith, same, all)))
       (λ p h. (let same = reclaimed_after p in let all = reclaimed p h in omega (arith, same, all)))
-      (λ i c. kill_kept death_side layout k k s.words words' s.views id me.0 w kept.deaths at (spares_all k) goes less me.0.epochs.loaded i (kept.deaths.kills id me.0 i at (was_elsewhere slot me.0.pools.kills i c).0))
+      (λ i c. kill_kept death_side layout k k s.words words' s.views id me.0 w kept.deaths at (spares_all k) goes less me.0.epochs.loaded i
+      (kept.deaths.kills id me.0 i at (was_elsewhere slot me.0.pools.kills i c).0))
       (λ i c. reclaim_kept death_side layout k k s.words words' s.views id me.0 w kept.deaths at (spares_all k) goes less i (kept.deaths.reclaims id me.0 i at c))
       (λ p epoch h is. ⊎_elim
       (λ (e : p ≡ slot).
@@ -149,7 +138,8 @@ module _ {S A R : Type 0} (m : Meaning S A R) (digest : Key → ℕ) (layout : L
       let epoch : has_epoch (first_note layout words' slot) ≡ 1 = ap has_epoch (here slot refl) ∙ epoch_note me.0.epochs.loaded in
       omega (arith, now, once, epoch)
 
-  untold : (j : ℕ) (u : CellView S A R) (turn : Turn S) (said : Said) → get_elem? s.views j ≡ some u → u.turn ≡ Some turn → turn.slot ≡ slot → turn.was.stage ≡ Dead → turn.said ≡ Some said → has_epoch said.value ≡ 1 → said.field ≡ notes_field → ⊥
+  untold : (j : ℕ) (u : CellView S A R) (turn : Turn S) (said : Said) → get_elem? s.views j ≡ some u → u.turn ≡ Some turn → turn.slot ≡ slot →
+      turn.was.stage ≡ Dead → turn.said ≡ Some said → has_epoch said.value ≡ 1 → said.field ≡ notes_field → ⊥
   untold j u turn said e has there dead is epoch field =
       let stands = kept.notes.said j u turn said Forward e has is (inr (dead, epoch)) field in
       let one : has_epoch (first_note layout s.words slot) ≡ 1 = ap (λ p. has_epoch (first_note layout s.words p)) (sym there) ∙ (ap has_epoch stands ∙ epoch) in

@@ -5,29 +5,19 @@ use mathlib.Core.Option.{some}
 use lib.ListN.{get_elem?}
 use Rattle.atomic_table.specs.Table.{State}
 use Rattle.npf_types.specs.declared.key.Key.{Key}
-use Rattle.npf_core.specs.History.{state_of}
-use Rattle.npf_core.specs.Machine.{Machine}
-use Rattle.npf_core.specs.Meaning.{Meaning}
-use Rattle.npf_cells_words.specs.declared.layout.Layout.{Layout}
-use Rattle.npf_cells_words.specs.declared.layout.Pool.TheVariants.{Slots}
-use Rattle.npf_cells_words.specs.Layout.{turn_field, phase_field, field_at}
+use Rattle.npf_core.specs.{History.state_of, Machine.Machine, Meaning.Meaning}
+use Rattle.npf_cells_words.specs.{declared.layout.{Layout.Layout, Pool.TheVariants.Slots}, Layout.{turn_field, phase_field, field_at}}
 use Rattle.npf_cells_words.proofs.WordLemmas.{field_reach}
 use Rattle.npf_seats.proofs.SumLemmas.{sum-set}
-use Rattle.npf_cells_lives.specs.declared.turn.Turn.{Turn}
-use Rattle.npf_cells_lives.specs.Deaths.{slot_by, unreclaimed}
-use Rattle.npf_cells_lives.specs.Turns.{Running, has_turn, turn_holders, StaysAt, FitsTurn, Turns}
-use Rattle.npf_cells_lives.proofs.NoteLemmas.{SameAhead, same_ahead}
-use Rattle.npf_cells_lives.proofs.TurnLemmas.{turn_held, turns_alone, turns-changed}
-use Rattle.npf_cells_rule.specs.declared.view.CellView.{CellView}
-use Rattle.npf_cells_rule.specs.Cells.{IsCells}
-use Rattle.npf_cells_rule.specs.Views.{turn_side, death_side}
-use Rattle.npf_cells_rule.proofs.DeathFrames.{gone_same}
-use Rattle.npf_cells_rule.proofs.Frames.{alone_still}
-use Rattle.npf_cells_rule.proofs.TurnFrames.{other_word, turn_step}
+use Rattle.npf_cells_lives.specs.{declared.turn.Turn.Turn, Deaths.{slot_by, unreclaimed}, Turns.{Running, has_turn, turn_holders, StaysAt, FitsTurn, Turns}}
+use Rattle.npf_cells_lives.proofs.{NoteLemmas.{SameAhead, same_ahead}, TurnLemmas.{turn_held, turns_alone, turns-changed}}
+use Rattle.npf_cells_rule.{specs.{declared.view.CellView.CellView, Cells.IsCells, Views.{turn_side, death_side}}, proofs.DeathFrames.gone_same}
+use Rattle.npf_cells_rule.proofs.{Frames.alone_still, TurnFrames.{other_word, turn_step}}
 use Rattle.npf_cells_takes.specs.PrivateKinds.{with_phase}
 
 module _ {S A R : Type 0} (m : Meaning S A R) (digest : Key → ℕ) (layout : Layout) where
-  module _ (s : State (Running S) (CellView S A R)) (kept : IsCells m digest layout s) (id : ℕ) (v : CellView S A R) (turn : Turn S) (value : ℕ) (at : get_elem? s.views id ≡ some v) (has : v.turn ≡ Some turn) where
+  module _ (s : State (Running S) (CellView S A R)) (kept : IsCells m digest layout s) (id : ℕ) (v : CellView S A R)
+      (turn : Turn S) (value : ℕ) (at : get_elem? s.views id ≡ some v) (has : v.turn ≡ Some turn) where
     abbrev k : Machine S
     k = state_of m kept.log
 
@@ -64,7 +54,8 @@ module _ {S A R : Type 0} (m : Meaning S A R) (digest : Key → ℕ) (layout : L
       home = λ p ne. refl;
       slots = λ p ne. inl (same_slot p);
       has = λ p ne. has_same p;
-      others = λ j u theirs ne e theirs_is same. ne (sym (turns_alone turn_side layout (unreclaimed death_side s.views k) s.words s.homes s.views id j v u turn theirs kept.turns at e has theirs_is (sym same)));
+      others = λ j u theirs ne e theirs_is same.
+          ne (sym (turns_alone turn_side layout (unreclaimed death_side s.views k) s.words s.homes s.views id j v u turn theirs kept.turns at e has theirs_is (sym same)));
       says = other (field_at layout Slots turn.slot turn_field) (λ e. absurd (omega (arith, e))) ∙ (kept.turns.says turn.slot fits.exists ∙ sym (holders_same turn.slot));
       alone = (let one = held in omega (arith, one));
       at_home = λ none. absurd (let one = held in omega (arith, one, none));
@@ -85,7 +76,14 @@ module _ {S A R : Type 0} (m : Meaning S A R) (digest : Key → ℕ) (layout : L
     phase_ahead (Some t) = record {
       on = λ slot field is.
           let same : t ≡ is.mine = (let e = is.has in cc) in
-          record { mine = record t { phase = value }; has = refl; there = ap (λ (y : Turn S). y.slot) same ∙ is.there; note = is.note; ahead = ap (λ (y : Turn S). y.ahead) same ∙ is.ahead; field_is = is.field_is };
+          record {
+            mine = record t { phase = value };
+            has = refl;
+            there = ap (λ (y : Turn S). y.slot) same ∙ is.there;
+            note = is.note;
+            ahead = ap (λ (y : Turn S). y.ahead) same ∙ is.ahead;
+            field_is = is.field_is;
+          };
       was = λ turn' note has' ahead.
           let same : record t { phase = value } ≡ turn' = cc in
           (t, refl, ap (λ (y : Turn S). y.slot) same, ap (λ (y : Turn S). y.ahead) same ∙ ahead);
@@ -95,4 +93,5 @@ module _ {S A R : Type 0} (m : Meaning S A R) (digest : Key → ℕ) (layout : L
     }
 
     pub phase_stored : 1 ≤ length v.seats.readers → IsCells m digest layout (record { words = ws; homes = s.homes; views = set s.views id w })
-    phase_stored seated = turn_step m digest layout s kept turn.slot phase_field value fits.exists (inr refl) id v w s.homes at refl refl refl refl (phase_ahead v.turn) (alone_still v w (kept.alone id v at) seated refl (λ none. none)) turns
+    phase_stored seated = turn_step m digest layout s kept turn.slot phase_field value fits.exists (inr refl) id v w s.homes at refl refl refl refl
+        (phase_ahead v.turn) (alone_still v w (kept.alone id v at) seated refl (λ none. none)) turns

@@ -1,59 +1,34 @@
 -- Kind 10, and the load of an incarnation, keep the rule.
 use Rattle.std.specs.List.{Contains}
-use Rattle.std.proofs.Common.{◌≤◌, ◌≡◌, ◌≢◌, ℕ, ◌+◌, ◌-◌, ◌^◌, ◌<◌, Bool, ◌&&◌, true, false, cond, eqb, eq-eqb, ne_eqb, Some, List, ◌∷◌, set, length, slice_index, refl, sym, ap, ◌∙◌, subst, ⊎_elim, inl, arith, length-set, nat_lt}
-use Rattle.std.proofs.lemmas.Bool.Decides.{Decides-eqb, not_from_Decides, Decides-ltb}
-use Rattle.std.proofs.lemmas.List.{get_or-set_same, get_or-set_other, set-get_or}
+use Rattle.std.proofs.Common.{◌≤◌, ◌≡◌, ◌≢◌, ℕ, ◌+◌, ◌-◌, ◌^◌, ◌<◌, Bool, ◌&&◌, true, false, cond, eqb, eq-eqb, ne_eqb, Some, List, ◌∷◌, set, length}
+use Rattle.std.proofs.Common.{slice_index, refl, sym, ap, ◌∙◌, subst, ⊎_elim, inl, arith, length-set, nat_lt}
+use Rattle.std.proofs.lemmas.{Bool.Decides.{Decides-eqb, not_from_Decides, Decides-ltb}, List.{get_or-set_same, get_or-set_other, set-get_or}}
 use mathlib.Core.Option.{some}
 use lib.ListN.{get_elem?}
 use Rattle.atomic_table.specs.Table.{State, Me, Step, Act, Allows, Valid, carried_after, stepped, keeps}
-use Rattle.npf_types.specs.declared.key.Key.{Key}
-use Rattle.npf_types.specs.declared.key.Way.{Way}
-use Rattle.npf_core.specs.declared.conn_id.ConnId.{ConnId}
-use Rattle.npf_core.specs.declared.slot.Slot.{Slot}
-use Rattle.npf_core.specs.History.{state_of}
-use Rattle.npf_core.specs.Meaning.{Meaning}
-use Rattle.npf_core.proofs.IdentityLemmas.{counts_incarnations}
+use Rattle.npf_types.specs.declared.key.{Key.Key, Way.Way}
+use Rattle.npf_core.{specs.{declared.{conn_id.ConnId.ConnId, slot.Slot.Slot}, History.state_of, Meaning.Meaning}, proofs.IdentityLemmas.counts_incarnations}
 use Rattle.npf_paths.specs.declared.place.Place.TheVariants as Places
-use Rattle.npf_cells_words.specs.declared.layout.Layout.{Layout}
-use Rattle.npf_cells_words.specs.declared.layout.Pool.{Pool}
-use Rattle.npf_cells_words.specs.declared.layout.Pool.TheVariants.{Slots, Nodes}
+use Rattle.npf_cells_words.specs.declared.layout.{Layout.Layout, Pool.{Pool, TheVariants.{Slots, Nodes}}}
 use Rattle.npf_cells_words.specs.Layout.{inc_field, parent_field, phase_field, state_field, notes_field, field_at, field_count, pool_places, note_field}
-use Rattle.npf_cells_words.specs.Places.{lock_at, place_at}
-use Rattle.npf_cells_words.proofs.WordLemmas.{inc_apart, field_behind, field_reach, node_apart, note_late, parent_apart}
-use Rattle.npf_seats.specs.Sums.{others_than, occurs}
-use Rattle.npf_seats.proofs.ListLemmas.{occurs_or, stands_once}
-use Rattle.npf_seats.proofs.PrefixLemmas.{cons_cases}
-use Rattle.npf_seats.proofs.SumLemmas.{sum_alone}
-use Rattle.npf_cells_leaves.specs.Trie.{trie_words}
-use Rattle.npf_cells_leaves.proofs.TrieLemmas.{KeepsTrie, knows_same, trie_same}
-use Rattle.npf_cells_lives.specs.declared.pools.StoredWord.{StoredWord}
-use Rattle.npf_cells_lives.specs.Conns.{inc_word, unstored_by, Conns}
-use Rattle.npf_cells_lives.specs.Deaths.{has_epoch, unreclaimed, Deaths}
-use Rattle.npf_cells_lives.specs.Locks.{Locks}
-use Rattle.npf_cells_lives.specs.Stored.{stored_value, IsOwnField, FitsStored, StoredWords}
-use Rattle.npf_cells_lives.proofs.ConnLemmas.{building_at, builds-kept, unstored-set, conns-same, inc_shown, conns-stored}
-use Rattle.npf_cells_lives.proofs.DeathLemmas.{epoch_note, low_note}
-use Rattle.npf_cells_lives.proofs.FreedLemmas.{still_there}
-use Rattle.npf_cells_lives.proofs.LockLemmas.{locks-same, holders-set}
-use Rattle.npf_cells_lives.proofs.NoteLemmas.{same_ahead}
-use Rattle.npf_cells_lives.proofs.StoredLemmas.{own_same, stored_kept, stored-set, no_lock, no_note, no_turn}
+use Rattle.npf_cells_words.{specs.Places.{lock_at, place_at}, proofs.WordLemmas.{inc_apart, field_behind, field_reach, node_apart, note_late, parent_apart}}
+use Rattle.npf_seats.{specs.Sums.{others_than, occurs}, proofs.{ListLemmas.{occurs_or, stands_once}, PrefixLemmas.cons_cases, SumLemmas.sum_alone}}
+use Rattle.npf_cells_leaves.{specs.Trie.trie_words, proofs.TrieLemmas.{KeepsTrie, knows_same, trie_same}}
+use Rattle.npf_cells_lives.specs.{declared.pools.StoredWord.StoredWord, Conns.{inc_word, unstored_by, Conns}, Deaths.{has_epoch, unreclaimed, Deaths}}
+use Rattle.npf_cells_lives.specs.{Locks.Locks, Stored.{stored_value, IsOwnField, FitsStored, StoredWords}}
+use Rattle.npf_cells_lives.proofs.{ConnLemmas.{building_at, builds-kept, unstored-set, conns-same, inc_shown, conns-stored}, DeathLemmas.{epoch_note, low_note}}
+use Rattle.npf_cells_lives.proofs.{FreedLemmas.still_there, LockLemmas.{locks-same, holders-set}, NoteLemmas.same_ahead}
+use Rattle.npf_cells_lives.{proofs.StoredLemmas.{own_same, stored_kept, stored-set, no_lock, no_note, no_turn}, specs.Turns.{Running, stage_phase, Turns}}
 use Rattle.npf_cells_marks.specs.Marks.{Marks}
-use Rattle.npf_cells_rule.specs.declared.view.CellView.{CellView}
-use Rattle.npf_cells_rule.specs.Cells.{IsCells}
-use Rattle.npf_cells_rule.specs.Views.{lock_side, mark_side, pool_side, trie_side, turn_side, death_side, with_pools}
-use Rattle.npf_cells_rule.proofs.DeathFrames.{deaths_load}
+use Rattle.npf_cells_rule.specs.{declared.view.CellView.CellView, Cells.IsCells}
+use Rattle.npf_cells_rule.{specs.Views.{lock_side, mark_side, pool_side, trie_side, turn_side, death_side, with_pools}, proofs.DeathFrames.deaths_load}
 use Rattle.npf_cells_rule.proofs.Frames.{alone_still, private_step, trie_apart, stored_apart, locks_apart, turns_apart, turns_behind, notes_apart, notes_still}
-use Rattle.npf_cells_rule.proofs.LawLemmas.{builds_alone, owns_alone}
-use Rattle.npf_cells_rule.proofs.MarkFrames.{marks_on, meets_same, words_loaded, words_slot}
-use Rattle.npf_cells_rule.proofs.MarkMetLemmas.{mark_there, marks_in_own}
-use Rattle.npf_cells_rule.proofs.MetLemmas.{unowned}
-use Rattle.npf_cells_takes.specs.PrivateKinds.{ShowsInc, ShowsTurnInc, MayStore, MayStoreInNode, MayStoreInSlot, MayStorePhase, MayLetGo, storing, with_phase, letting_go, is_epoch_note, stored_in, LoadsInc, StoresPrivate, MayStoreNote, MayStoreAhead, StoresAhead, noted_in}
-use Rattle.npf_cells_takes.proofs.LetGoLemmas.{lets_go}
-use Rattle.npf_cells_takes.proofs.DeathKeepLemmas.{deaths_elsewhere, deaths_in_node}
-use Rattle.npf_cells_takes.proofs.NoteKeepLemmas.{noted, led}
-use Rattle.npf_cells_takes.proofs.PhaseKeepLemmas.{phase_stored}
-use Rattle.npf_cells_takes.proofs.PrivateTrieLemmas.{node_keeps, slot_keeps}
-use Rattle.npf_cells_lives.specs.Turns.{Running, stage_phase, Turns}
+use Rattle.npf_cells_rule.proofs.{LawLemmas.{builds_alone, owns_alone}, MarkFrames.{marks_on, meets_same, words_loaded, words_slot}}
+use Rattle.npf_cells_rule.proofs.{MarkMetLemmas.{mark_there, marks_in_own}, MetLemmas.unowned}
+use Rattle.npf_cells_takes.specs.PrivateKinds.{ShowsInc, ShowsTurnInc, MayStore, MayStoreInNode, MayStoreInSlot, MayStorePhase, MayLetGo, storing, with_phase, letting_go}
+use Rattle.npf_cells_takes.specs.PrivateKinds.{is_epoch_note, stored_in, LoadsInc, StoresPrivate, MayStoreNote, MayStoreAhead, StoresAhead, noted_in}
+use Rattle.npf_cells_takes.proofs.{LetGoLemmas.lets_go, DeathKeepLemmas.{deaths_elsewhere, deaths_in_node}, NoteKeepLemmas.{noted, led}}
+use Rattle.npf_cells_takes.proofs.{PhaseKeepLemmas.phase_stored, PrivateTrieLemmas.{node_keeps, slot_keeps}}
 use Rattle.npf_cells_lives.specs.Notes.{notes_but, with_ahead, Notes}
 
 -- a number isn't below one that it isn't below
@@ -82,7 +57,8 @@ an_epoch field value epoch is so = λ i. eq-eqb field notes_field is i && eqb ((
 
 module _ {S A R : Type 0} (m : Meaning S A R) (digest : Key → ℕ) (layout : Layout) where
   -- who owns one word is one seat
-  own_alone : (s : State (Running S) (CellView S A R)) (kept : IsCells m digest layout s) (i j : ℕ) (v w : CellView S A R) → get_elem? s.views i ≡ some v → get_elem? s.views j ≡ some w → (pool : Pool) (place field : ℕ) (other : Pool) (place' field' : ℕ) →
+  own_alone : (s : State (Running S) (CellView S A R)) (kept : IsCells m digest layout s) (i j : ℕ) (v w : CellView S A R) → get_elem? s.views i ≡ some v →
+      get_elem? s.views j ≡ some w → (pool : Pool) (place field : ℕ) (other : Pool) (place' field' : ℕ) →
       IsOwnField layout v.pools pool place field → IsOwnField layout w.pools other place' field' → field_at layout pool place field ≡ field_at layout other place' field' → i ≡ j
   own_alone s kept i j v w at there Slots place field Slots place' field' own own' e =
       let same : place ≡ place' = (let a = own.3 in let b = own'.3 in omega (arith, a, b, e)) in
@@ -123,7 +99,8 @@ module _ {S A R : Type 0} (m : Meaning S A R) (digest : Key → ℕ) (layout : L
           (inc_shown pool_side m layout kept.log s.words s.views id v kept.connections at i c (subst (λ p. p < layout.slots) (sym e) within))
 
   -- nobody still has to store the incarnation of a connection that is Live or Dead
-  none_owes : (s : State (Running S) (CellView S A R)) (kept : IsCells m digest layout s) (id : ℕ) (v : CellView S A R) → get_elem? s.views id ≡ some v → (slot : ℕ) → stage_phase ((state_of m kept.log).slot slot).stage ≢ 0 → unstored_by pool_side s.views slot ≡ 0
+  none_owes : (s : State (Running S) (CellView S A R)) (kept : IsCells m digest layout s) (id : ℕ) (v : CellView S A R) → get_elem? s.views id ≡ some v →
+      (slot : ℕ) → stage_phase ((state_of m kept.log).slot slot).stage ≢ 0 → unstored_by pool_side s.views slot ≡ 0
   none_owes s kept id v at slot settled = sum_alone (λ (u : CellView S A R). occurs slot u.pools.unstored) s.views id v at (λ i u ne e. owes i u e) ∙ owes id v at
     where
       owes : (j : ℕ) (u : CellView S A R) → get_elem? s.views j ≡ some u → occurs slot u.pools.unstored ≡ 0
@@ -136,7 +113,8 @@ module _ {S A R : Type 0} (m : Meaning S A R) (digest : Key → ℕ) (layout : L
           absurd (settled (subst (λ p. stage_phase ((state_of m kept.log).slot p).stage ≡ 0) owed.there (ap stage_phase stage.1))))
           (occurs_or slot u.pools.unstored)
 
-  shows_turn_inc : (s : State (Running S) (CellView S A R)) (kept : IsCells m digest layout s) (id : ℕ) (v : CellView S A R) → get_elem? s.views id ≡ some v → (slot : ℕ) → ShowsTurnInc v.turn slot (inc_word layout s.words slot)
+  shows_turn_inc : (s : State (Running S) (CellView S A R)) (kept : IsCells m digest layout s) (id : ℕ) (v : CellView S A R) →
+      get_elem? s.views id ≡ some v → (slot : ℕ) → ShowsTurnInc v.turn slot (inc_word layout s.words slot)
   shows_turn_inc s kept id v at slot turn has there settled =
       let fits = kept.turns.each id v turn at has in
       let same = (still_there death_side s.views (state_of m kept.log) turn.slot turn.was fits.stays settled).0 in
@@ -162,10 +140,16 @@ module _ {S A R : Type 0} (m : Meaning S A R) (digest : Key → ℕ) (layout : L
             (deaths_load m digest layout s i id me.0 me.0 kept at refl refl (record { rests = λ j dead bare rests. (rests, refl) }))
             (notes_still m digest layout s i (slice_index s.words i) id me.0 me.0 kept at refl refl refl refl (λ j h. ap (λ ws. slice_index ws j) (set-get_or s.words i 0)))
             (marks_on m digest layout s kept (set s.words i (slice_index s.words i)) id me.0 me.0 at (words_loaded layout kept.published s.words i) (meets_same me.0.trie) refl (λ _. refl) refl),
-        record { is = refl; shows = shows_inc s id slot me.0 kept at within; leaf = λ leaf e there. ap (λ p. inc_word layout s.words p) (sym there) ∙ ((kept.trie.each id me.0 at).leaf leaf e).inc; turn = shows_turn_inc s kept id me.0 at slot },
+        record {
+          is = refl;
+          shows = shows_inc s id slot me.0 kept at within;
+          leaf = λ leaf e there. ap (λ p. inc_word layout s.words p) (sym there) ∙ ((kept.trie.each id me.0 at).leaf leaf e).inc;
+          turn = shows_turn_inc s kept id me.0 at slot;
+        },
       )
 
-  module _ (s : State (Running S) (CellView S A R)) (id : ℕ) (me : Me (Running S) (CellView S A R)) (kept : IsCells m digest layout s) (at : get_elem? s.views id ≡ some me.0) (place field value : ℕ) where
+  module _ (s : State (Running S) (CellView S A R)) (id : ℕ) (me : Me (Running S) (CellView S A R))
+      (kept : IsCells m digest layout s) (at : get_elem? s.views id ≡ some me.0) (place field value : ℕ) where
     abbrev storer : Pool → CellView S A R
     storer pool = record me.0 { pools = storing pool place field value me.0.pools }
 
@@ -191,10 +175,12 @@ module _ {S A R : Type 0} (m : Meaning S A R) (digest : Key → ℕ) (layout : L
     trie_stays lives Slots within exists may = slot_keeps m digest layout s kept id me.0 place field value at lives within exists (reaches Slots within exists) may
     trie_stays lives Nodes within exists may = node_keeps m digest layout s kept id me.0 place field value at within exists may.owned
 
-    newly : (pool : Pool) (unstored : List ℕ) → IsOwnField layout me.0.pools pool place field → field_at layout pool place field < length s.words → FitsStored layout (words' pool) (with_stored pool unstored).pools
+    newly : (pool : Pool) (unstored : List ℕ) → IsOwnField layout me.0.pools pool place field →
+        field_at layout pool place field < length s.words → FitsStored layout (words' pool) (with_stored pool unstored).pools
     newly pool unstored own there = record {
       own = λ x c. ⊎_elim
-          (λ (e : new ≡ x). subst (λ (y : StoredWord). IsOwnField layout (with_stored pool unstored).pools y.pool y.place y.field) e (own_same layout me.0.pools (with_stored pool unstored).pools refl refl pool place field own))
+          (λ (e : new ≡ x). subst (λ (y : StoredWord). IsOwnField layout (with_stored pool unstored).pools y.pool y.place y.field) e
+          (own_same layout me.0.pools (with_stored pool unstored).pools refl refl pool place field own))
           (λ c'. own_same layout me.0.pools (with_stored pool unstored).pools refl refl x.pool x.place x.field (fits.own x c'))
           (cons_cases new x me.0.pools.stored c);
       stands = λ word n e. by_word word n (eqb (field_at layout pool place field) word) refl e;
@@ -206,7 +192,8 @@ module _ {S A R : Type 0} (m : Meaning S A R) (digest : Key → ℕ) (layout : L
         fits : FitsStored layout s.words me.0.pools
         fits = kept.stored id me.0 at
 
-        by_word : (word n : ℕ) (b : Bool) → eqb (field_at layout pool place field) word ≡ b → cond b (Some value) (stored_value layout me.0.pools.stored word) ≡ Some n → slice_index (words' pool) word ≡ n
+        by_word : (word n : ℕ) (b : Bool) → eqb (field_at layout pool place field) word ≡ b →
+            cond b (Some value) (stored_value layout me.0.pools.stored word) ≡ Some n → slice_index (words' pool) word ≡ n
         by_word word n true here e =
             let is : field_at layout pool place field ≡ word = (Decides-eqb _ word).0 here in
             let same : value ≡ n = cc in
@@ -215,21 +202,28 @@ module _ {S A R : Type 0} (m : Meaning S A R) (digest : Key → ℕ) (layout : L
             let other : field_at layout pool place field ≢ word = not_from_Decides _ (Decides-eqb _ word) here in
             get_or-set_other s.words (field_at layout pool place field) word value 0 (λ is. other (sym is)) ∙ fits.stands word n e
 
-    stored_stay : (pool : Pool) (unstored : List ℕ) → IsOwnField layout me.0.pools pool place field → field_at layout pool place field < length s.words → StoredWords pool_side layout (words' pool) (set s.views id (with_stored pool unstored))
+    stored_stay : (pool : Pool) (unstored : List ℕ) → IsOwnField layout me.0.pools pool place field → field_at layout pool place field < length s.words →
+        StoredWords pool_side layout (words' pool) (set s.views id (with_stored pool unstored))
     stored_stay pool unstored own there = stored-set pool_side layout (words' pool) s.views id (with_stored pool unstored) (newly pool unstored own there)
         (λ j u ne e. stored_kept layout s.words (words' pool) u.pools u.pools (kept.stored j u e) refl (λ other p f h. h)
-        (λ other p f h. get_or-set_other s.words (field_at layout pool place field) (field_at layout other p f) value 0 (λ is. ne (own_alone s kept j id u me.0 e at other p f pool place field h own is))))
+        (λ other p f h. get_or-set_other s.words (field_at layout pool place field) (field_at layout other p f) value 0
+        (λ is. ne (own_alone s kept j id u me.0 e at other p f pool place field h own is))))
 
     locks_stay : (pool : Pool) (unstored : List ℕ) → IsOwnField layout me.0.pools pool place field → Locks lock_side layout (words' pool) (set s.views id (with_stored pool unstored))
     locks_stay pool unstored own = locks-same lock_side layout s.words (words' pool) s.views (set s.views id (with_stored pool unstored)) kept.locks
-        (λ lock h. get_or-set_other s.words (field_at layout pool place field) (lock_at layout lock) value 0 (no_lock layout me.0.pools pool place field lock own h)) (holders-set lock_side layout s.views id me.0 (with_stored pool unstored) at refl)
+        (λ lock h. get_or-set_other s.words (field_at layout pool place field) (lock_at layout lock) value 0 (no_lock layout me.0.pools pool place field lock own h))
+        (holders-set lock_side layout s.views id me.0 (with_stored pool unstored) at refl)
 
-    turns_stay : (pool : Pool) (unstored : List ℕ) → IsOwnField layout me.0.pools pool place field → Turns turn_side layout (unreclaimed death_side (set s.views id (with_stored pool unstored)) (state_of m kept.log)) (words' pool) s.homes (set s.views id (with_stored pool unstored))
+    turns_stay : (pool : Pool) (unstored : List ℕ) → IsOwnField layout me.0.pools pool place field →
+        Turns turn_side layout (unreclaimed death_side (set s.views id (with_stored pool unstored)) (state_of m kept.log)) (words' pool) s.homes (set s.views id (with_stored pool unstored))
     turns_stay pool unstored own = turns_apart m digest layout s (field_at layout pool place field) value id me.0 (with_stored pool unstored) (state_of m kept.log) kept at refl refl
-        (λ slot f h is. get_or-set_other s.words (field_at layout pool place field) (field_at layout Slots slot f) value 0 (no_turn layout me.0.pools pool place field slot f own h is)) (λ slot. inl refl)
+        (λ slot f h is. get_or-set_other s.words (field_at layout pool place field) (field_at layout Slots slot f) value 0
+        (no_turn layout me.0.pools pool place field slot f own h is)) (λ slot. inl refl)
 
-    deaths_stay : (pool : Pool) (unstored : List ℕ) → place < pool_places layout pool → field < field_count pool → MayStoreOwn m me.0 pool place field value → Deaths death_side layout (state_of m kept.log) (words' pool) (set s.views id (with_stored pool unstored))
-    deaths_stay Slots unstored within exists may = deaths_elsewhere m digest layout s id me kept at place field value within exists (with_stored Slots unstored) refl refl refl (λ e. omega (arith, e, may.noteless))
+    deaths_stay : (pool : Pool) (unstored : List ℕ) → place < pool_places layout pool → field < field_count pool → MayStoreOwn m me.0 pool place field value →
+        Deaths death_side layout (state_of m kept.log) (words' pool) (set s.views id (with_stored pool unstored))
+    deaths_stay Slots unstored within exists may =
+        deaths_elsewhere m digest layout s id me kept at place field value within exists (with_stored Slots unstored) refl refl refl (λ e. omega (arith, e, may.noteless))
     deaths_stay Nodes unstored within exists may = deaths_in_node m digest layout s id me kept at place field value (with_stored Nodes unstored) within exists refl refl refl
 
     -- no note is stored
@@ -238,14 +232,16 @@ module _ {S A R : Type 0} (m : Meaning S A R) (digest : Key → ℕ) (layout : L
     notes_stay lives pool unstored within exists may =
         notes_apart m digest layout s (words' pool) id me.0 (with_stored pool unstored) (state_of m kept.log) kept at (same_ahead me.0.turn me.0.turn refl) refl refl (λ conn c. c) (record {
           cells = (trie_stays lives pool within exists may).cells;
-          notes = λ slot way. get_or-set_other s.words (field_at layout pool place field) (field_at layout Slots slot (note_field way)) value 0 (no_note layout me.0.pools pool place field slot way (owns pool within exists may));
+          notes = λ slot way. get_or-set_other s.words (field_at layout pool place field) (field_at layout Slots slot (note_field way)) value 0
+              (no_note layout me.0.pools pool place field slot way (owns pool within exists may));
           held = λ key found is. is;
           back = λ key found is. is;
           slots = λ slot. inl refl;
         })
 
     -- in a place of a node that the pass owns no mark is stored, and a parent that changes is that of no published node
-    marks_stay : (pool : Pool) (unstored : List ℕ) → place < pool_places layout pool → field < field_count pool → MayStoreOwn m me.0 pool place field value → Marks mark_side layout kept.published (words' pool) (set s.views id (with_stored pool unstored))
+    marks_stay : (pool : Pool) (unstored : List ℕ) → place < pool_places layout pool → field < field_count pool → MayStoreOwn m me.0 pool place field value →
+        Marks mark_side layout kept.published (words' pool) (set s.views id (with_stored pool unstored))
     marks_stay Slots unstored within exists may =
         marks_on m digest layout s kept (words' Slots) id me.0 (with_stored Slots unstored) at (words_slot layout kept.published s.words place field value) (meets_same me.0.trie) refl (λ _. refl) refl
     marks_stay Nodes unstored within exists may = by_field (nat_lt field 16) refl
@@ -268,26 +264,35 @@ module _ {S A R : Type 0} (m : Meaning S A R) (digest : Key → ℕ) (layout : L
         by_field : (b : Bool) → nat_lt field 16 ≡ b → Marks mark_side layout kept.published (words' Nodes) (set s.views id (with_stored Nodes unstored))
         by_field true e =
             let low : field < 16 = (Decides-ltb field 16).0 e in
-            marks_in_own m digest layout s kept (Places.Node place field) (within, low) id place value me.0 (with_stored Nodes unstored) at refl may.owned (λ mark. may.markless low (let is = mark_there value mark in omega (arith, is))) refl
-        by_field false e = in_parent (let high : ¬ (field < 16) = (λ low. absurd (let no : true ≡ false = sym ((Decides-ltb field 16).1 low) ∙ e in cc)) in let ne = may.stateless in omega (arith, exists, ne, high))
+            marks_in_own m digest layout s kept (Places.Node place field) (within, low) id place value me.0 (with_stored Nodes unstored) at refl may.owned
+            (λ mark. may.markless low (let is = mark_there value mark in omega (arith, is))) refl
+        by_field false e = in_parent (let high : ¬ (field < 16) = (λ low. absurd (let no : true ≡ false = sym ((Decides-ltb field 16).1 low) ∙ e in cc)) in
+            let ne = may.stateless in omega (arith, exists, ne, high))
 
     -- as long as the part on connections holds
-    stored_step : me.0.seats.lives ≡ true → 1 ≤ length me.0.seats.readers → (pool : Pool) (unstored : List ℕ) → place < pool_places layout pool → field < field_count pool → MayStoreOwn m me.0 pool place field value →
+    stored_step : me.0.seats.lives ≡ true → 1 ≤ length me.0.seats.readers → (pool : Pool) (unstored : List ℕ) →
+        place < pool_places layout pool → field < field_count pool → MayStoreOwn m me.0 pool place field value →
         Conns pool_side m layout kept.log (words' pool) (set s.views id (with_stored pool unstored)) → Stored pool (with_stored pool unstored)
     stored_step lives seated pool unstored within exists may connections =
         let own = owns pool within exists may in
-        private_step m digest layout s (field_at layout pool place field) value id me.1 me.0 (with_stored pool unstored) kept at (field_behind layout pool place field) refl refl refl refl refl (λ i c. c) (alone_still me.0 (with_stored pool unstored) (kept.alone id me.0 at) seated refl (λ none. none))
-        (trie_same trie_side digest layout kept.published (state_of m kept.log) (state_of m kept.log) s.words (words' pool) s.views id me.0 (with_stored pool unstored) kept.trie at (knows_same me.0.trie) (trie_stays lives pool within exists may))
+        private_step m digest layout s (field_at layout pool place field) value id me.1 me.0 (with_stored pool unstored) kept at
+        (field_behind layout pool place field) refl refl refl refl refl (λ i c. c) (alone_still me.0 (with_stored pool unstored) (kept.alone id me.0 at) seated refl (λ none. none))
+        (trie_same trie_side digest layout kept.published (state_of m kept.log) (state_of m kept.log) s.words (words' pool) s.views id me.0
+        (with_stored pool unstored) kept.trie at (knows_same me.0.trie) (trie_stays lives pool within exists may))
         connections (stored_stay pool unstored own (reaches pool within exists)) (locks_stay pool unstored own) (turns_stay pool unstored own)
         (deaths_stay pool unstored within exists may) (notes_stay lives pool unstored within exists may) (marks_stay pool unstored within exists may)
 
-    conns_stay : (pool : Pool) → ((slot : ℕ) → slot < layout.slots → field_at layout Slots slot inc_field ≢ field_at layout pool place field) → Conns pool_side m layout kept.log (words' pool) (set s.views id (with_stored pool me.0.pools.unstored))
-    conns_stay pool apart = conns-same pool_side m layout kept.log s.words (words' pool) s.views (set s.views id (with_stored pool me.0.pools.unstored)) kept.connections (length-set s.words (field_at layout pool place field) value)
+    conns_stay : (pool : Pool) → ((slot : ℕ) → slot < layout.slots → field_at layout Slots slot inc_field ≢ field_at layout pool place field) →
+        Conns pool_side m layout kept.log (words' pool) (set s.views id (with_stored pool me.0.pools.unstored))
+    conns_stay pool apart = conns-same pool_side m layout kept.log s.words (words' pool) s.views
+        (set s.views id (with_stored pool me.0.pools.unstored)) kept.connections (length-set s.words (field_at layout pool place field) value)
         (λ slot h. get_or-set_other s.words (field_at layout pool place field) (field_at layout Slots slot inc_field) value 0 (apart slot h))
-        (builds-kept pool_side (state_of m kept.log) s.views id me.0 (with_stored pool me.0.pools.unstored) at refl refl kept.connections.each) (unstored-set pool_side s.views id me.0 (with_stored pool me.0.pools.unstored) at refl)
+        (builds-kept pool_side (state_of m kept.log) s.views id me.0 (with_stored pool me.0.pools.unstored) at refl refl kept.connections.each)
+        (unstored-set pool_side s.views id me.0 (with_stored pool me.0.pools.unstored) at refl)
 
     -- the incarnation is stored
-    incs_stay : (may : MayStoreInSlot m me.0 place field value) → place < layout.slots → field ≡ inc_field → Conns pool_side m layout kept.log (words' Slots) (set s.views id (with_stored Slots (others_than place me.0.pools.unstored)))
+    incs_stay : (may : MayStoreInSlot m me.0 place field value) → place < layout.slots → field ≡ inc_field →
+        Conns pool_side m layout kept.log (words' Slots) (set s.views id (with_stored Slots (others_than place me.0.pools.unstored)))
     incs_stay may within e =
         let w = with_stored Slots (others_than place me.0.pools.unstored) in
         let below : may.id.slot < layout.slots = subst (λ p. p < layout.slots) (sym may.there) within in
@@ -296,16 +301,20 @@ module _ {S A R : Type 0} (m : Meaning S A R) (digest : Key → ℕ) (layout : L
         (conns-stored pool_side m layout kept.log s.words s.views id me.0 kept.connections at may.id may.built below w refl (ap (λ p. others_than p me.0.pools.unstored) (sym may.there))
         (let reach = field_reach layout Slots may.id.slot inc_field below (omega arith) in omega (arith, reach, long)))
 
-    pub stores : me.0.seats.lives ≡ true → 1 ≤ length me.0.seats.readers → (pool : Pool) → place < pool_places layout pool → field < field_count pool → MayStoreOwn m me.0 pool place field value → Stored pool (storer pool)
+    pub stores : me.0.seats.lives ≡ true → 1 ≤ length me.0.seats.readers → (pool : Pool) → place < pool_places layout pool →
+        field < field_count pool → MayStoreOwn m me.0 pool place field value → Stored pool (storer pool)
     stores lives seated Nodes within exists may = stored_step lives seated Nodes me.0.pools.unstored within exists may (conns_stay Nodes (λ slot h. node_apart layout place field slot within exists))
     stores lives seated Slots within exists may = by_field (eqb field inc_field) refl
       where
         by_field : (b : Bool) → eqb field inc_field ≡ b → Stored Slots (with_stored Slots (cond b (others_than place me.0.pools.unstored) me.0.pools.unstored))
         by_field true e = stored_step lives seated Slots (others_than place me.0.pools.unstored) within exists may (incs_stay may within ((Decides-eqb field inc_field).0 e))
-        by_field false e = stored_step lives seated Slots me.0.pools.unstored within exists may (conns_stay Slots (λ slot h same. inc_apart layout place field slot exists (λ _. not_from_Decides _ (Decides-eqb field inc_field) e) (sym same)))
+        by_field false e = stored_step lives seated Slots me.0.pools.unstored within exists may
+            (conns_stay Slots (λ slot h same. inc_apart layout place field slot exists (λ _. not_from_Decides _ (Decides-eqb field inc_field) e) (sym same)))
 
-  pub may_store : (st : Step (Running S)) (id n : ℕ) (pool : Pool) (place field value : ℕ) (me : Me (Running S) (CellView S A R)) → me.0.seats.lives ≡ true → 1 ≤ length me.0.seats.readers → place < pool_places layout pool → field < field_count pool →
-      MayStore m me.0 pool place field value → Allows (IsCells m digest layout) n id me (field_at layout pool place field) (λ _. value) (λ _. StoresPrivate m digest layout pool place field st me value)
+  pub may_store : (st : Step (Running S)) (id n : ℕ) (pool : Pool) (place field value : ℕ) (me : Me (Running S) (CellView S A R)) →
+      me.0.seats.lives ≡ true → 1 ≤ length me.0.seats.readers → place < pool_places layout pool → field < field_count pool →
+      MayStore m me.0 pool place field value →
+      Allows (IsCells m digest layout) n id me (field_at layout pool place field) (λ _. value) (λ _. StoresPrivate m digest layout pool place field st me value)
   may_store st id n Nodes place field value me lives seated within exists may s kept homes at bound = (
     storer s id me kept at place field value Nodes,
     keeps,
@@ -321,7 +330,10 @@ module _ {S A R : Type 0} (m : Meaning S A R) (digest : Key → ℕ) (layout : L
 
       -- the pass after it, by whether it is a phase, whether it is a word before the notes, and whether it is an epoch in a note
       after' : Bool → Bool → Bool → Me (Running S) (CellView S A R)
-      after' b c d = cond b (record me.0 { turn = with_phase value me.0.turn }, me.1) (cond c (with_pools me (storing Slots place field value me.0.pools)) (cond d (with_pools me (letting_go place (value - 2 ^ 63) me.0.pools)) (noted_in place field value me)))
+      after' b c d = cond b (
+        record me.0 { turn = with_phase value me.0.turn },
+        me.1,
+      ) (cond c (with_pools me (storing Slots place field value me.0.pools)) (cond d (with_pools me (letting_go place (value - 2 ^ 63) me.0.pools)) (noted_in place field value me)))
 
       is_after : {b c d : Bool} → eqb field phase_field ≡ b → nat_lt field notes_field ≡ c → is_epoch_note field value ≡ d → after' b c d ≡ stored_in Slots place field value me
       is_after e f g = sym (λ i. after' (e i) (f i) (g i))
@@ -349,7 +361,8 @@ module _ {S A R : Type 0} (m : Meaning S A R) (digest : Key → ℕ) (layout : L
         record me.0 { turn = with_phase value me.0.turn },
         keeps,
         tt,
-        subst (λ (y : ℕ × ℕ). IsCells m digest layout (stepped s (field_at layout Slots y.0 y.1) value id me.1 (record me.0 { turn = with_phase value me.0.turn }) keeps)) (λ i. (under.there i, sym under.phase i))
+        subst (λ (y : ℕ × ℕ). IsCells m digest layout (stepped s (field_at layout Slots y.0 y.1) value id me.1 (record me.0 { turn = with_phase value me.0.turn }) keeps))
+            (λ i. (under.there i, sym under.phase i))
             (phase_stored m digest layout s kept id me.0 under.turn value at under.has seated),
         record { is = is_after {c = nat_lt field notes_field} {d = is_epoch_note field value} (eq-eqb field phase_field under.phase) refl refl },
       )
@@ -360,8 +373,19 @@ module _ {S A R : Type 0} (m : Meaning S A R) (digest : Key → ℕ) (layout : L
         keeps,
         tt,
         subst (λ f. IsCells m digest layout (stepped s (field_at layout Slots place f) value id me.1 (record me.0 { pools = letting_go place (value - 2 ^ 63) me.0.pools }) keeps)) (sym go.note)
-            (lets_go m digest layout s id me kept at place value within (record { id = go.id; killed = go.killed; there = go.there; note = refl; bare = go.bare; loaded = go.loaded; epoch = go.epoch }) seated),
-        record { is = is_after (ne_eqb field phase_field (λ e. absurd (let note = go.note in omega (arith, e, note)))) (not_below field notes_field (λ low. omega (arith, low, go.note))) (an_epoch field value me.0.epochs.loaded go.note go.epoch) },
+            (lets_go m digest layout s id me kept at place value within (record {
+              id = go.id;
+              killed = go.killed;
+              there = go.there;
+              note = refl;
+              bare = go.bare;
+              loaded = go.loaded;
+              epoch = go.epoch;
+            }) seated),
+        record {
+          is = is_after (ne_eqb field phase_field (λ e. absurd (let note = go.note in omega (arith, e, note))))
+              (not_below field notes_field (λ low. omega (arith, low, go.note))) (an_epoch field value me.0.epochs.loaded go.note go.epoch);
+        },
       )
 
       in_note : MayStoreNote m me.0 place field value → Stores
@@ -369,12 +393,14 @@ module _ {S A R : Type 0} (m : Meaning S A R) (digest : Key → ℕ) (layout : L
         noter' field,
         keeps,
         tt,
-        subst (λ f. IsCells m digest layout (stepped s (field_at layout Slots place f) value id me.1 (noter' f) keeps)) (sym note.note) (noted m digest layout s kept id me.0 at place note.way value within seated lives
+        subst (λ f. IsCells m digest layout (stepped s (field_at layout Slots place f) value id me.1 (noter' f) keeps))
+            (sym note.note) (noted m digest layout s kept id me.0 at place note.way value within seated lives
             (record { id = note.id; built = note.built; there = note.there; way = note.way; note = refl; bare = note.bare; low = note.low }) refl),
         record { is = sym (is_noted note.way note.note note.low) },
       )
 
-  pub may_store_ahead : (st : Step (Running S)) (id n slot : ℕ) (way : Way) (value : ℕ) (me : Me (Running S) (CellView S A R)) → 1 ≤ length me.0.seats.readers → slot < layout.slots → MayStoreAhead me.0 slot way value →
+  pub may_store_ahead : (st : Step (Running S)) (id n slot : ℕ) (way : Way) (value : ℕ) (me : Me (Running S) (CellView S A R)) →
+      1 ≤ length me.0.seats.readers → slot < layout.slots → MayStoreAhead me.0 slot way value →
       Allows (IsCells m digest layout) n id me (field_at layout Slots slot (note_field way)) (λ _. value) (λ _. StoresAhead way st me value)
   may_store_ahead st id n slot way value me seated within may s kept homes at bound = (
     record me.0 { turn = with_ahead (Some (record { field = note_field way; value = value })) me.0.turn },

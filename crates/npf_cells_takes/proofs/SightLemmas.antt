@@ -3,37 +3,19 @@ use Rattle.std.proofs.Common.{◌≡◌, ℕ, ◌+◌, ◌/◌, ◌%◌, ◌≤�
 use Rattle.std.specs.Int.{bit_at}
 use mathlib.Core.Option.{some}
 use lib.ListN.{get_elem?}
-use Rattle.atomic_table.specs.Seated.{TableId}
-use Rattle.atomic_table.specs.Table.{State, Me}
-use Rattle.atomic_table.proofs.Lists.{at_map}
+use Rattle.atomic_table.{specs.{Seated.TableId, Table.{State, Me}}, proofs.Lists.at_map}
 use Rattle.npf_types.specs.declared.key.Key.{Key}
-use Rattle.npf_core.specs.declared.conn_id.ConnId.{ConnId}
-use Rattle.npf_core.specs.declared.stage.Stage.TheVariants.{Building}
-use Rattle.npf_core.specs.History.{Legal}
-use Rattle.npf_core.specs.Meaning.{Meaning}
-use Rattle.npf_cells_words.specs.declared.layout.Layout.{Layout}
-use Rattle.npf_cells_words.specs.declared.layout.Pool.{Pool}
-use Rattle.npf_cells_words.specs.declared.layout.Pool.TheVariants.{Slots, Nodes}
-use Rattle.npf_cells_words.specs.Layout.{pools_at}
+use Rattle.npf_core.specs.{declared.{conn_id.ConnId.ConnId, stage.Stage.TheVariants.Building}, History.Legal, Meaning.Meaning}
+use Rattle.npf_cells_words.specs.{declared.layout.{Layout.Layout, Pool.{Pool, TheVariants.{Slots, Nodes}}}, Layout.pools_at}
 use Rattle.npf_seats.specs.Seats.{FitsSeats}
-use Rattle.npf_cells_lives.specs.declared.pools.PoolSide.{PoolSide}
-use Rattle.npf_cells_lives.specs.Conns.{entry_seat}
-use Rattle.npf_cells_lives.specs.Stored.{FitsStored}
-use Rattle.npf_cells_lives.proofs.StoredLemmas.{own_same, stored_kept}
-use Rattle.npf_cells_rule.specs.declared.view.CellView.{CellView}
-use Rattle.npf_cells_rule.specs.Cells.{IsCells}
-use Rattle.npf_cells_rule.specs.Passes.{CarriesByTurn, IsPassOf}
-use Rattle.npf_cells_takes.specs.PrivateKinds.{leading}
-use Rattle.npf_cells_lives.specs.declared.turn.Ahead.{Ahead}
-use Rattle.npf_cells_lives.specs.declared.turn.Turn.{Turn}
-use Rattle.npf_cells_lives.specs.Notes.{with_ahead}
-use Rattle.npf_cells_rule.specs.Views.{seat_side, with_pools}
-use Rattle.npf_cells_rule.proofs.EntryLemmas.{sees_nothing, sole_seen}
-use Rattle.npf_cells_rule.proofs.PassLemmas.{passes_on, pools_on}
-use Rattle.npf_cells_takes.specs.SlotKinds.{seeing_slots, HasFreed, HasSeenSlots}
-use Rattle.npf_cells_lives.specs.Turns.{Running}
+use Rattle.npf_cells_lives.{specs.{declared.pools.PoolSide.PoolSide, Conns.entry_seat, Stored.FitsStored}, proofs.StoredLemmas.{own_same, stored_kept}}
+use Rattle.npf_cells_rule.specs.{declared.view.CellView.CellView, Cells.IsCells, Passes.{CarriesByTurn, IsPassOf}, Views.{seat_side, with_pools}}
+use Rattle.npf_cells_takes.specs.{PrivateKinds.leading, SlotKinds.{seeing_slots, HasFreed, HasSeenSlots}}
+use Rattle.npf_cells_lives.specs.{declared.turn.{Ahead.Ahead, Turn.Turn}, Notes.with_ahead, Turns.Running}
+use Rattle.npf_cells_rule.proofs.{EntryLemmas.{sees_nothing, sole_seen}, PassLemmas.{passes_on, pools_on}}
 
-module _ {S A R : Type 0} (m : Meaning S A R) (digest : Key → ℕ) (layout : Layout) (s : State (Running S) (CellView S A R)) (id : ℕ) (me : Me (Running S) (CellView S A R)) (kept : IsCells m digest layout s) (at : get_elem? s.views id ≡ some me.0)
+module _ {S A R : Type 0} (m : Meaning S A R) (digest : Key → ℕ) (layout : Layout) (s : State (Running S) (CellView S A R)) (id : ℕ)
+    (me : Me (Running S) (CellView S A R)) (kept : IsCells m digest layout s) (at : get_elem? s.views id ≡ some me.0)
     (lives : me.0.seats.lives ≡ true) (place : 1 ≤ length me.0.seats.readers) (found : ℕ) where
   abbrev pub seer : CellView S A R
   seer = seeing_slots me.0 found kept.log
@@ -68,8 +50,10 @@ pub sees_on : {S A R : Type 0} (m : Meaning S A R) (layout : Layout) (table seat
 sees_on m layout table seat seat' readers word found me next own same seen = rw seen.is (passes_on layout table seat seat' readers me _ _ _ _ own same own.carries)
 
 -- so it does through a load of a word of either pool
-pub swept_on : {S A R : Type 0} (m : Meaning S A R) (layout : Layout) (table seat seat' : TableId) (readers : List ℕ) (word found : ℕ) (me next : Me (Running S) (CellView S A R)) (side : PoolSide) (pool : Pool) →
-    IsPassOf layout table seat readers me → seat' ≡ seat → (pool ≡ Nodes → next ≡ with_pools me side) → (pool ≡ Slots → HasSeenSlots m layout word found me next) → IsPassOf layout table seat' readers next
+pub swept_on : {S A R : Type 0} (m : Meaning S A R) (layout : Layout) (table seat seat' : TableId) (readers : List ℕ)
+    (word found : ℕ) (me next : Me (Running S) (CellView S A R)) (side : PoolSide) (pool : Pool) →
+    IsPassOf layout table seat readers me → seat' ≡ seat → (pool ≡ Nodes → next ≡ with_pools me side) →
+    (pool ≡ Slots → HasSeenSlots m layout word found me next) → IsPassOf layout table seat' readers next
 swept_on m layout table seat seat' readers word found me next side Nodes own same nodes slots = pools_on layout table seat seat' readers me next side own same (nodes refl)
 swept_on m layout table seat seat' readers word found me next side Slots own same nodes slots = sees_on m layout table seat seat' readers word found me next own same (slots refl)
 
@@ -83,6 +67,8 @@ pub led_carries : {S F : Type 0} (ahead : Option Ahead) (turn : Option (Turn S))
 led_carries ahead None carried carries = carries
 led_carries ahead (Some turn) carried carries = carries
 
-pub led_on : {S A R : Type 0} (layout : Layout) (table seat seat' : TableId) (readers : List ℕ) (field value : ℕ) (me next : Me (Running S) (CellView S A R)) → IsPassOf layout table seat readers me → seat' ≡ seat → next ≡ leading field value me →
+pub led_on : {S A R : Type 0} (layout : Layout) (table seat seat' : TableId) (readers : List ℕ) (field value : ℕ) (me next : Me (Running S) (CellView S A R)) →
+    IsPassOf layout table seat readers me → seat' ≡ seat → next ≡ leading field value me →
     IsPassOf layout table seat' readers next
-led_on layout table seat seat' readers field value me next own same is = rw is (passes_on layout table seat seat' readers me _ _ _ _ own same (led_carries (Some (record { field = field; value = value })) me.0.turn me.1 own.carries))
+led_on layout table seat seat' readers field value me next own same is =
+    rw is (passes_on layout table seat seat' readers me _ _ _ _ own same (led_carries (Some (record { field = field; value = value })) me.0.turn me.1 own.carries))

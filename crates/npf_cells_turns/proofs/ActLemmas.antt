@@ -2,29 +2,15 @@
 use Rattle.std.specs.List.{Contains}
 use Rattle.std.proofs.Common.{◌≡◌, ◌≢◌, ℕ, Bool, true, false, ◌==◌, not, cond, eq-eqb, ne_eqb, List, refl, sym, ap, ◌∙◌, subst, ⊎_elim, inl, inr}
 use Rattle.std.proofs.lemmas.Bool.{cases_eq}
-use Rattle.npf_types.specs.declared.key.Key.{Key}
-use Rattle.npf_types.specs.declared.key.Way.{Way}
+use Rattle.npf_types.specs.declared.key.{Key.Key, Way.Way}
+use Rattle.npf_shelf.proofs.ListLemmas.{Contains-filter_from}
 use Rattle.npf_core.specs.declared.act.Act.TheVariants as Acts
-use Rattle.npf_core.specs.declared.act.Why.{Why}
-use Rattle.npf_core.specs.declared.conn_id.ConnId.{ConnId}
-use Rattle.npf_core.specs.declared.slot.Slot.{Slot}
-use Rattle.npf_core.specs.declared.stage.Stage.{Stage}
-use Rattle.npf_core.specs.declared.stage.Stage.TheVariants.{Vacant, Building, Live, Dead}
-use Rattle.npf_core.specs.declared.stepped.Stepped.TheVariants.{NotLive}
-use Rattle.npf_core.specs.Allowed.{IsDue}
-use Rattle.npf_core.specs.Machine.{Machine, stage_at, stage_of}
-use Rattle.npf_core.specs.Meaning.{Meaning}
-use Rattle.npf_core.specs.NextState.{is_id, stepped, after_act}
-use Rattle.npf_core.specs.Replies.{step_answer}
-use Rattle.npf_core.proofs.EqualityLemmas.{is_id-Decides}
+use Rattle.npf_core.specs.declared.{act.Why.Why, conn_id.ConnId.ConnId, slot.Slot.Slot, stage.Stage.{Stage, TheVariants.{Vacant, Building, Live, Dead}}}
+use Rattle.npf_core.specs.{declared.stepped.Stepped.TheVariants.NotLive, Allowed.IsDue, Machine.{Machine, stage_at, stage_of}, Meaning.Meaning}
+use Rattle.npf_core.{specs.{NextState.{is_id, stepped, after_act}, Replies.step_answer}, proofs.EqualityLemmas.is_id-Decides}
 use Rattle.npf_connections.specs.Answered.{without}
-use Rattle.npf_cells_lives.specs.Deaths.{is_dead, slot_by}
-use Rattle.npf_cells_lives.proofs.FreedLemmas.{by_none, by_some}
-use Rattle.npf_cells_lives.specs.Pools.{claim_bit}
-use Rattle.npf_cells_lives.specs.Turns.{running, stage_phase, StaysAt}
-use Rattle.npf_cells_lives.proofs.ConnLemmas.{building_at}
-use Rattle.npf_cells_lives.proofs.StoredLemmas.{filter_has, has_filtered}
-use Rattle.npf_cells_lives.proofs.TurnLemmas.{phase_stays, running_stays}
+use Rattle.npf_cells_lives.{specs.{Deaths.{is_dead, slot_by}, Pools.claim_bit, Turns.{running, stage_phase, StaysAt}}, proofs.FreedLemmas.{by_none, by_some}}
+use Rattle.npf_cells_lives.proofs.{ConnLemmas.building_at, TurnLemmas.{phase_stays, running_stays}}
 
 -- a step leaves what isn't Live, and the phase
 pub stepped_idle : {S A R : Type 0} (m : Meaning S A R) (way : Way) (arg : A) (stage : Stage S) → stage_phase stage ≡ 0 → stepped m way arg stage ≡ stage
@@ -103,8 +89,10 @@ module _ {S A R : Type 0} (m : Meaning S A R) (was now : Slot S) (stays : StaysA
 module _ {S A R : Type 0} (m : Meaning S A R) (gone : ℕ) (x : Slot S) where
   pub step_seen : (way : Way) (arg : A) → stepped m way arg (slot_by gone x).stage ≡ (slot_by gone (record x { stage = stepped m way arg x.stage })).stage
   step_seen way arg = ⊎_elim
-      (λ (none : gone ≡ 0). ap (λ (y : Slot S). stepped m way arg y.stage) (by_none gone x none) ∙ ap (λ (y : Slot S). y.stage) (sym (by_none gone (record x { stage = stepped m way arg x.stage }) none)))
-      (λ (some' : gone ≢ 0). ap (λ (y : Slot S). stepped m way arg y.stage) (by_some gone x some') ∙ ap (λ (y : Slot S). y.stage) (sym (by_some gone (record x { stage = stepped m way arg x.stage }) some')))
+      (λ (none : gone ≡ 0). ap (λ (y : Slot S). stepped m way arg y.stage) (by_none gone x none)
+      ∙ ap (λ (y : Slot S). y.stage) (sym (by_none gone (record x { stage = stepped m way arg x.stage }) none)))
+      (λ (some' : gone ≢ 0). ap (λ (y : Slot S). stepped m way arg y.stage) (by_some gone x some')
+      ∙ ap (λ (y : Slot S). y.stage) (sym (by_some gone (record x { stage = stepped m way arg x.stage }) some')))
       (cases_eq gone 0)
 
   pub answer_seen : (gone ≢ 0 → x.stage ≡ Dead) → (way : Way) (arg : A) → step_answer m way arg (slot_by gone x).stage ≡ step_answer m way arg x.stage
@@ -163,18 +151,8 @@ module _ {S : Type 0} (k k' : Machine S) (slot : ℕ) (stage : Stage S) (acts : 
 pub building_in : {S : Type 0} (k : Machine S) (slot : ℕ) (i : ConnId) (j : ℕ) → stage_of k i ≡ Building j → i.slot ≡ slot → ((k.slot slot).inc ≡ i.inc) × ((k.slot slot).stage ≡ Building j)
 building_in k slot i j built e = subst (λ p. ((k.slot p).inc ≡ i.inc) × ((k.slot p).stage ≡ Building j)) e (building_at (k.slot i.slot) i.inc j built)
 
-not_false : (test : Bool) → not test ≡ true → test ≡ false
-not_false true e = sym e
-not_false false e = refl
-
--- what is left of the connections that are built
-pub not_without : (id other : ConnId) (ids : List ConnId) → Contains (without other ids) id → Contains ids id × ¬ (id ≡ other)
-not_without id other ids c =
-    let kept = filter_has (λ (x : ConnId). not (is_id x other)) ids id c in
-    (kept.0, λ same. let is = (is_id-Decides id other).1 same in let isnt = not_false (is_id id other) kept.1 in absurd cc)
-
 pub in_without : (id other : ConnId) (ids : List ConnId) → Contains ids id → ¬ (id ≡ other) → Contains (without other ids) id
-in_without id other ids c ne = has_filtered (λ (x : ConnId). not (is_id x other)) ids id c (by_test (is_id id other) refl)
+in_without id other ids c ne = Contains-filter_from (λ (x : ConnId). not (is_id x other)) ids id c (by_test (is_id id other) refl)
   where
     by_test : (b : Bool) → is_id id other ≡ b → not (is_id id other) ≡ true
     by_test true e = absurd (ne ((is_id-Decides id other).0 e))

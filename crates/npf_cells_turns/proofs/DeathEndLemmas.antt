@@ -1,40 +1,21 @@
 -- What the end of a turn makes of deaths: an act that kills puts the connection among the pass's kills, which forgets the epoch that it loaded; any other act spares the dead.
 use Rattle.std.specs.List.{Contains}
 use Rattle.std.proofs.Common.{◌≡◌, ◌≢◌, ℕ, ◌+◌, ◌<◌, ◌≤◌, cond, eqb, eq-eqb, ne_eqb, List, ◌∷◌, map, set, refl, sym, ap, ◌∙◌, subst, ⊎_elim, inl, arith}
-use Rattle.std.proofs.lemmas.Bool.{cases_eq}
-use Rattle.std.proofs.lemmas.List.{map-set}
+use Rattle.std.proofs.lemmas.{Bool.cases_eq, List.map-set}
 use mathlib.Core.Option.{some}
 use lib.ListN.{get_elem?}
-use Rattle.atomic_table.specs.Table.{State}
-use Rattle.atomic_table.proofs.Lists.{at_map}
+use Rattle.atomic_table.{specs.Table.State, proofs.Lists.at_map}
 use Rattle.npf_types.specs.declared.key.Key.{Key}
-use Rattle.npf_core.specs.declared.conn_id.ConnId.{ConnId}
-use Rattle.npf_core.specs.declared.slot.Slot.{Slot}
-use Rattle.npf_core.specs.declared.stage.Stage.{Stage}
-use Rattle.npf_core.specs.declared.stage.Stage.TheVariants.{Vacant, Dead}
-use Rattle.npf_core.specs.History.{state_of}
-use Rattle.npf_core.specs.Machine.{Machine, stage_at, stage_of}
-use Rattle.npf_core.specs.Meaning.{Meaning}
-use Rattle.npf_cells_words.specs.declared.layout.Layout.{Layout}
-use Rattle.npf_cells_words.specs.declared.layout.Pool.TheVariants.{Slots}
-use Rattle.npf_cells_words.specs.Layout.{turn_field, notes_field, field_at, epoch_word, reader_word}
-use Rattle.npf_seats.specs.Sums.{occurs}
-use Rattle.npf_seats.proofs.ListLemmas.{one_where, occurs-cons}
-use Rattle.npf_seats.proofs.PrefixLemmas.{none_listed, cons_cases}
-use Rattle.npf_seats.proofs.SumLemmas.{sum-set, side_same}
-use Rattle.npf_cells_pins.specs.declared.pin.EpochSide.{EpochSide}
-use Rattle.npf_cells_pins.specs.Epochs.{ReaderView, FitsEpochs, Epochs, pin_place}
-use Rattle.npf_cells_pins.proofs.EpochLemmas.{changed}
+use Rattle.npf_core.specs.{declared.{conn_id.ConnId.ConnId, slot.Slot.Slot, stage.Stage.{Stage, TheVariants.{Vacant, Dead}}}, History.state_of}
+use Rattle.npf_core.specs.{Machine.{Machine, stage_at, stage_of}, Meaning.Meaning}
+use Rattle.npf_cells_words.specs.{declared.layout.{Layout.Layout, Pool.TheVariants.Slots}, Layout.{turn_field, notes_field, field_at, epoch_word, reader_word}}
+use Rattle.npf_seats.{specs.Sums.occurs, proofs.{ListLemmas.{one_where, occurs-cons}, PrefixLemmas.{none_listed, cons_cases}, SumLemmas.{sum-set, side_same}}}
+use Rattle.npf_cells_pins.{specs.{declared.pin.EpochSide.EpochSide, Epochs.{ReaderView, FitsEpochs, Epochs, pin_place}}, proofs.EpochLemmas.changed}
 use Rattle.npf_cells_leaves.proofs.TrieLemmas.{KnowsNoMore, knows_same}
-use Rattle.npf_cells_lives.specs.Deaths.{is_dead, has_epoch, first_note, slots_named, killed_in, cleared_in, FitsKill, Deaths}
-use Rattle.npf_cells_lives.specs.Turns.{Running}
+use Rattle.npf_cells_lives.specs.{Deaths.{is_dead, has_epoch, first_note, slots_named, killed_in, cleared_in, FitsKill, Deaths}, Turns.Running}
 use Rattle.npf_cells_lives.proofs.DeathLemmas.{same_dates, Spares, spares_held, stays_dead, deaths-set}
-use Rattle.npf_cells_rule.specs.declared.view.CellView.{CellView}
-use Rattle.npf_cells_rule.specs.Cells.{IsCells}
-use Rattle.npf_cells_rule.specs.Views.{reader_view, dead_hand, death_side, unloaded}
-use Rattle.npf_cells_rule.proofs.DeathFrames.{rests_less, deaths_spared}
-use Rattle.npf_cells_rule.proofs.Frames.{epochs_apart}
-use Rattle.npf_cells_rule.proofs.TurnFrames.{other_word, below}
+use Rattle.npf_cells_rule.specs.{declared.view.CellView.CellView, Cells.IsCells, Views.{reader_view, dead_hand, death_side, unloaded}}
+use Rattle.npf_cells_rule.proofs.{DeathFrames.{rests_less, deaths_spared}, Frames.epochs_apart, TurnFrames.{other_word, below}}
 use Rattle.npf_cells_turns.proofs.ActLemmas.{ActsOn}
 
 module _ {S : Type 0} (k k' : Machine S) (slot : ℕ) (stage : Stage S) (acts : ActsOn k k' slot stage) where
@@ -59,7 +40,8 @@ module _ {S : Type 0} (k k' : Machine S) (slot : ℕ) (stage : Stage S) (acts : 
   killed_stage conn there last dead =
       ap (λ p. stage_at (k'.slot p) conn.inc) there ∙ (ap (λ (x : Slot S). stage_at x conn.inc) acts.here ∙ (ap (λ b. cond b stage Vacant) (eq-eqb (k.slot slot).inc conn.inc last) ∙ dead))
 
-module _ {S A R : Type 0} (m : Meaning S A R) (digest : Key → ℕ) (layout : Layout) (s : State (Running S) (CellView S A R)) (kept : IsCells m digest layout s) (id : ℕ) (v : CellView S A R) (at : get_elem? s.views id ≡ some v) (slot : ℕ) (within : slot < layout.slots) where
+module _ {S A R : Type 0} (m : Meaning S A R) (digest : Key → ℕ) (layout : Layout) (s : State (Running S) (CellView S A R)) (kept : IsCells m digest layout s)
+    (id : ℕ) (v : CellView S A R) (at : get_elem? s.views id ≡ some v) (slot : ℕ) (within : slot < layout.slots) where
   abbrev k : Machine S
   k = state_of m kept.log
 
@@ -76,17 +58,22 @@ module _ {S A R : Type 0} (m : Meaning S A R) (digest : Key → ℕ) (layout : L
   same_notes p h = other_word m digest layout s kept slot turn_field 0 within (inl refl) (field_at layout Slots p notes_field) (λ e. absurd (omega (arith, e)))
 
   -- an act that kills nobody
-  pub deaths_stay : (k' : Machine S) (stage : Stage S) (acts : ActsOn k k' slot stage) → is_dead stage ≡ is_dead (k.slot slot).stage → ((k.slot slot).stage ≡ Dead → stage ≡ Dead) → (w : CellView S A R) → dead_hand w.pools ≡ dead_hand v.pools → w.epochs ≡ v.epochs → w.trie ≡ v.trie →
+  pub deaths_stay : (k' : Machine S) (stage : Stage S) (acts : ActsOn k k' slot stage) → is_dead stage ≡ is_dead (k.slot slot).stage →
+      ((k.slot slot).stage ≡ Dead → stage ≡ Dead) → (w : CellView S A R) → dead_hand w.pools ≡ dead_hand v.pools → w.epochs ≡ v.epochs → w.trie ≡ v.trie →
       Deaths death_side layout k' ws (set s.views id w)
-  deaths_stay k' stage acts same stays w kills epochs trie = deaths_spared m digest layout s word 0 id v w k' kept at kills (ap (λ (e : EpochSide). e.loaded) epochs) (acts_spare k k' slot stage acts stays) (dead_stays k k' slot stage acts same)
+  deaths_stay k' stage acts same stays w kills epochs trie = deaths_spared m digest layout s word 0 id v w k' kept at kills
+      (ap (λ (e : EpochSide). e.loaded) epochs) (acts_spare k k' slot stage acts stays) (dead_stays k k' slot stage acts same)
       (rests_less k v w (subst (λ side. KnowsNoMore v.trie side) (sym trie) (knows_same v.trie)) (ap (λ (e : EpochSide). e.pin) epochs)) same_epoch same_notes
 
   -- and one that kills the slot's connection
-  pub deaths_killed : (k' : Machine S) (conn : ConnId) (acts : ActsOn k k' slot Dead) → conn.slot ≡ slot → (k.slot slot).inc ≡ conn.inc → is_dead (k.slot slot).stage ≡ 0 → (w : CellView S A R) → w.pools.kills ≡ conn ∷ v.pools.kills → w.pools.reclaims ≡ v.pools.reclaims → w.pools.cleared ≡ v.pools.cleared → w.pools.dated ≡ v.pools.dated → w.epochs ≡ unloaded v.epochs → w.trie ≡ v.trie →
+  pub deaths_killed : (k' : Machine S) (conn : ConnId) (acts : ActsOn k k' slot Dead) → conn.slot ≡ slot → (k.slot slot).inc ≡ conn.inc → is_dead (k.slot slot).stage ≡ 0 →
+      (w : CellView S A R) → w.pools.kills ≡ conn ∷ v.pools.kills → w.pools.reclaims ≡ v.pools.reclaims →
+      w.pools.cleared ≡ v.pools.cleared → w.pools.dated ≡ v.pools.dated → w.epochs ≡ unloaded v.epochs → w.trie ≡ v.trie →
       Deaths death_side layout k' ws (set s.views id w)
   deaths_killed k' conn acts there last alive w kills reclaims cleared dated epochs trie = deaths-set death_side layout k k' s.words ws s.views id v w kept.deaths at spares same_epoch
       (rests_less k v w (subst (λ side. KnowsNoMore v.trie side) (sym trie) (knows_same v.trie)) (ap (λ (e : EpochSide). e.pin) epochs))
-      reclaims cleared counted (λ p h. (let note = ap has_epoch (same_notes p h) in let was = kept.deaths.reclaimed p h in omega (arith, note, was))) mine (λ p epoch h note. sym (same_notes p h) ∙ note)
+      reclaims cleared counted (λ p h. (let note = ap has_epoch (same_notes p h) in let was = kept.deaths.reclaimed p h in
+      omega (arith, note, was))) mine (λ p epoch h note. sym (same_notes p h) ∙ note)
       (same_dates death_side layout k s.words ws s.views id v w kept.deaths at same_epoch dated)
     where
       spares : Spares k k'
@@ -128,7 +115,8 @@ module _ {S A R : Type 0} (m : Meaning S A R) (digest : Key → ℕ) (layout : L
   -- the epochs are none the worse for what the pass forgets of them
   pub epochs_unloaded : (w : CellView S A R) → w.seats.readers ≡ v.seats.readers → w.epochs ≡ unloaded v.epochs → Epochs (epoch_word ws) (reader_word ws) (map reader_view (set s.views id w))
   epochs_unloaded w readers epochs =
-      subst (λ rs. Epochs (epoch_word ws) (reader_word ws) rs) (sym (map-set reader_view s.views id w ∙ ap (λ (r : ReaderView). set readings id r) (λ i. record { places = readers i; side = epochs i })))
+      subst (λ rs. Epochs (epoch_word ws) (reader_word ws) rs)
+      (sym (map-set reader_view s.views id w ∙ ap (λ (r : ReaderView). set readings id r) (λ i. record { places = readers i; side = epochs i })))
       (changed (epoch_word ws) (epoch_word ws) (reader_word ws) (reader_word ws) readings id forgetful moved (record {
         from = moved.from;
         most = moved.most;

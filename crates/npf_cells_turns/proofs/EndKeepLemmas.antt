@@ -4,65 +4,33 @@ use Rattle.std.proofs.Common.{◌≡◌, ◌≢◌, ℕ, ◌<◌, ◌≤◌, tru
 use mathlib.Core.Option.{some}
 use lib.ListN.{get_elem?}
 use denote.Bor.{Bor}
-use Rattle.atomic_table.specs.Table.{State, Me, Step, Allows, gives}
-use Rattle.npf_types.specs.declared.key.Key.{Key}
-use Rattle.npf_types.specs.declared.key.Way.{Way}
+use Rattle.atomic_table.{specs.Table.{State, Me, Step, Allows, gives}, proofs.Lists.at_map}
+use Rattle.npf_types.specs.declared.key.{Key.Key, Way.Way}
+use Rattle.npf_shelf.proofs.ListLemmas.{Contains-filter_parts}
 use Rattle.npf_core.specs.declared.act.Act.TheVariants as Acts
 use Rattle.npf_core.specs.declared.act.Why.TheVariants as Reasons
-use Rattle.npf_core.specs.declared.conn_id.ConnId.{ConnId}
-use Rattle.npf_core.specs.declared.entry.Entry.{Entry}
+use Rattle.npf_core.specs.declared.{conn_id.ConnId.ConnId, entry.Entry.Entry, slot.Slot.Slot, stage.Stage.{Stage, TheVariants.{Vacant, Building, Live, Dead}}}
 use Rattle.npf_core.specs.declared.reply.Reply.TheVariants as Replies
-use Rattle.npf_core.specs.declared.slot.Slot.{Slot}
-use Rattle.npf_core.specs.declared.stage.Stage.{Stage}
-use Rattle.npf_core.specs.declared.stage.Stage.TheVariants.{Vacant, Building, Live, Dead}
-use Rattle.npf_core.specs.Allowed.{IsDue}
-use Rattle.npf_core.specs.History.{MayFollow, after, state_of}
-use Rattle.npf_core.specs.Machine.{Machine, stage_at, stage_of, IsClaimed, HoldsNone}
-use Rattle.npf_core.specs.Meaning.{Meaning}
-use Rattle.npf_core.specs.NextState.{stepped as step_of}
-use Rattle.npf_core.specs.Replies.{step_answer}
-use Rattle.npf_core.proofs.EqualityLemmas.{same_conn_id}
-use Rattle.npf_core.proofs.LifeLemmas.{IsClaimed-last}
-use Rattle.npf_connections.specs.Adding.{AddsOwn}
-use Rattle.npf_connections.specs.Answered.{without}
-use Rattle.npf_connections.specs.Pass.{IsPass}
-use Rattle.npf_cells_words.specs.declared.layout.Layout.{Layout}
-use Rattle.npf_cells_words.specs.declared.layout.Pool.TheVariants.{Slots}
-use Rattle.npf_cells_words.specs.Layout.{turn_field, field_at, epoch_word, reader_word, note_field}
+use Rattle.npf_core.specs.{Allowed.IsDue, History.{MayFollow, after, state_of}, Machine.{Machine, stage_at, stage_of, IsClaimed, HoldsNone}, Meaning.Meaning}
+use Rattle.npf_core.{specs.{NextState.stepped as step_of, Replies.step_answer}, proofs.{EqualityLemmas.same_conn_id, LifeLemmas.IsClaimed-last}}
+use Rattle.npf_connections.{specs.{Adding.AddsOwn, Answered.without, Pass.IsPass}, proofs.WithoutLemmas.Contains-without_parts}
+use Rattle.npf_cells_words.specs.{declared.layout.{Layout.Layout, Pool.TheVariants.Slots}, Layout.{turn_field, field_at, epoch_word, reader_word, note_field}}
 use Rattle.npf_cells_pins.specs.Epochs.{Epochs}
-use Rattle.npf_cells_lives.specs.declared.pools.PoolSide.{PoolSide}
-use Rattle.npf_cells_lives.specs.declared.turn.Turn.{Turn}
-use Rattle.npf_cells_lives.specs.Conns.{IsBuiltIn, FitsBuilds}
-use Rattle.npf_cells_lives.specs.Deaths.{is_dead, slot_by, Deaths, last_id}
+use Rattle.npf_cells_lives.specs.{declared.{pools.PoolSide.PoolSide, turn.Turn.Turn}, Conns.{IsBuiltIn, FitsBuilds}, Deaths.{is_dead, slot_by, Deaths, last_id}}
 use Rattle.npf_cells_words.proofs.WordLemmas.{same_note}
-use Rattle.npf_cells_lives.specs.declared.pools.Note.{Note}
-use Rattle.npf_cells_lives.specs.Notes.{note_word, FitsNote}
-use Rattle.npf_cells_lives.specs.Pools.{claim_bit}
-use Rattle.npf_cells_lives.specs.Stored.{FitsStored, stored_but}
-use Rattle.npf_cells_lives.specs.Turns.{Running, running, stage_phase, StaysAt}
-use Rattle.npf_cells_lives.proofs.ConnLemmas.{one_builder}
-use Rattle.npf_cells_lives.proofs.StoredLemmas.{own_same, stored_kept, fits_but, filter_has}
-use Rattle.npf_cells_lives.proofs.NoteLemmas.{note_stays}
-use Rattle.npf_cells_lives.proofs.BuiltLemmas.{bare_before}
-use Rattle.npf_cells_lives.proofs.TurnLemmas.{phase_stays, running_stays}
-use Rattle.npf_cells_rule.specs.declared.view.CellView.{CellView}
-use Rattle.npf_cells_rule.specs.Cells.{IsCells}
-use Rattle.npf_cells_rule.specs.Passes.{cell_pass}
-use Rattle.npf_cells_rule.specs.Views.{reader_view, death_side, seat_side}
-use Rattle.npf_cells_rule.proofs.Frames.{epochs_apart}
-use Rattle.npf_cells_rule.proofs.TurnFrames.{below}
-use Rattle.npf_cells_turns.specs.declared.act.TurnAct.{TurnAct}
-use Rattle.npf_cells_turns.specs.declared.act.TurnAct.TheVariants.{Nothing, Start, Step as Steps, Abandoned, Expired, Reclaim}
+use Rattle.npf_cells_lives.specs.{declared.pools.Note.Note, Notes.{note_word, FitsNote}, Pools.claim_bit, Stored.{FitsStored, stored_but}}
+use Rattle.npf_cells_lives.{specs.Turns.{Running, running, stage_phase, StaysAt}, proofs.ConnLemmas.one_builder}
+use Rattle.npf_cells_lives.proofs.{StoredLemmas.{own_same, stored_kept, fits_but}, NoteLemmas.note_stays, BuiltLemmas.bare_before}
+use Rattle.npf_cells_lives.proofs.{TurnLemmas.{phase_stays, running_stays}, DeathLemmas.{dead_stage, gone_dead}, FreedLemmas.{gone_in, by_none, still_there}}
+use Rattle.npf_cells_rule.specs.{declared.view.CellView.CellView, Cells.IsCells, Passes.cell_pass, Views.{reader_view, death_side, seat_side}}
+use Rattle.npf_cells_rule.proofs.{Frames.epochs_apart, TurnFrames.below}
+use Rattle.npf_cells_turns.specs.declared.act.TurnAct.{TurnAct, TheVariants.{Nothing, Start, Step as Steps, Abandoned, Expired, Reclaim}}
 use Rattle.npf_cells_turns.specs.EndKinds.{stage_by, BuildsThere, KnowsThere, IsDueThere, MayReclaim, MayAct, MayEndBy, act_entries, without_build, acted, HasActed, TellsEnd, EndsTurn, HasBareNotes}
-use Rattle.npf_cells_turns.proofs.ActLemmas.{stepped_idle, stepped_bit, stepped_death, stepped_dead, due_bit, due_settled, due_alive, answer_stays, answer_seen, step_seen, step_runs, step_phase, ActsOn, starts_on, steps_on, kills_on, still_building, building_in, not_without, in_without}
-use Rattle.npf_cells_turns.proofs.DeathEndLemmas.{deaths_stay, deaths_killed, epochs_unloaded}
-use Rattle.npf_cells_turns.proofs.ReclaimLemmas.{reclaimer, reclaims}
-use Rattle.npf_cells_turns.proofs.SightKeepLemmas.{above}
+use Rattle.npf_cells_turns.proofs.ActLemmas.{stepped_idle, stepped_bit, stepped_death, stepped_dead, due_bit, due_settled, due_alive, answer_stays, answer_seen, step_seen, step_runs}
+use Rattle.npf_cells_turns.proofs.ActLemmas.{step_phase, ActsOn, starts_on, steps_on, kills_on, still_building, building_in, in_without}
+use Rattle.npf_cells_turns.proofs.{DeathEndLemmas.{deaths_stay, deaths_killed, epochs_unloaded}, ReclaimLemmas.{reclaimer, reclaims}, SightKeepLemmas.above}
 use Rattle.npf_seats.proofs.PrefixLemmas.{cons_cases}
 use Rattle.std.proofs.lemmas.Bool.{cases_eq}
-use Rattle.npf_cells_lives.proofs.DeathLemmas.{dead_stage, gone_dead}
-use Rattle.npf_cells_lives.proofs.FreedLemmas.{gone_in, by_none, still_there}
-use Rattle.atomic_table.proofs.Lists.{at_map}
 use Rattle.npf_cells_turns.proofs.EndLemmas.{ends_alone, ends_with, adds_act, legal_after}
 
 -- where a Building slot is stepped it stays so
@@ -110,7 +78,8 @@ module _ {S A R : Type 0} (m : Meaning S A R) (digest : Key → ℕ) (layout : L
     given_before : (i : ConnId) (way : Way) → Contains v.pools.kills i → ¬ Contains v.pools.gave_up (record { id = i; way = way }) → HoldsNone k i way → note_word layout s.words i.slot way ≡ 0
     given_before i way c not none = kept.notes.given id v i way at c not none
 
-    given_killed : (conn : ConnId) → conn ≡ last_id k turn.slot → ((way : Way) → HoldsNone k (last_id k turn.slot) way → note_word layout s.words turn.slot way ≡ 0) → (i : ConnId) (way : Way) → Contains (conn ∷ v.pools.kills) i →
+    given_killed : (conn : ConnId) → conn ≡ last_id k turn.slot → ((way : Way) → HoldsNone k (last_id k turn.slot) way → note_word layout s.words turn.slot way ≡ 0) →
+        (i : ConnId) (way : Way) → Contains (conn ∷ v.pools.kills) i →
         ¬ Contains v.pools.gave_up (record { id = i; way = way }) → HoldsNone k i way → note_word layout s.words i.slot way ≡ 0
     given_killed conn last bare i way c not none = ⊎_elim
         (λ (same : conn ≡ i).
@@ -135,7 +104,8 @@ module _ {S A R : Type 0} (m : Meaning S A R) (digest : Key → ℕ) (layout : L
 
     -- the part on epochs stays, where the seat knows of it what it knew
     epochs_still : (w : CellView S A R) → reader_view w ≡ reader_view v → Epochs (epoch_word after_words) (reader_word after_words) (map reader_view (set s.views id w))
-    epochs_still w same = epochs_apart m digest layout s (field_at layout Slots turn.slot turn_field) 0 id v w kept at same (λ j h. below m digest layout s kept turn.slot turn_field 0 exists (inl refl) j (omega (arith, h)))
+    epochs_still w same = epochs_apart m digest layout s (field_at layout Slots turn.slot turn_field) 0 id v w kept at same
+        (λ j h. below m digest layout s kept turn.slot turn_field 0 exists (inl refl) j (omega (arith, h)))
 
     -- a connection that the pass is building is started or killed
     module _ (conn : ConnId) (there : BuildsThere v turn conn) (entry : Entry S A R) (mine' : entry.seat ≡ id) (stage : Stage S) (acts : ActsOn k (after m k entry) turn.slot stage) where
@@ -167,7 +137,7 @@ module _ {S A R : Type 0} (m : Meaning S A R) (digest : Key → ℕ) (layout : L
       builds_left : FitsBuilds (after m k entry) id side.builds side.unstored
       builds_left = record {
         building = λ i c.
-            let left = not_without i conn v.pools.builds c in
+            let left = Contains-without_parts i conn v.pools.builds c in
             still_building k (after m k entry) turn.slot stage acts i id (mine.building i left.0)
             (λ same. absurd (left.1 (same_conn_id i conn (same ∙ sym there.there, sym (building_in k turn.slot i id (mine.building i left.0) same).0 ∙ at_conn.0))));
         owing = λ p c. still_built p (λ e. there.stored (subst (Contains v.pools.unstored) e c)) (mine.owing p c);
@@ -177,24 +147,37 @@ module _ {S A R : Type 0} (m : Meaning S A R) (digest : Key → ℕ) (layout : L
       stored_left : FitsStored layout s.words side
       stored_left =
           let fits = fits_but layout s.words v.pools conn.slot (kept.stored id v at) (without conn v.pools.builds) still_built in
-          record { own = λ x c. own_same layout (record v.pools { builds = without conn v.pools.builds; stored = stored_but conn.slot v.pools.stored }) side refl refl x.pool x.place x.field (fits.own x c); stands = fits.stands }
+          record {
+            own = λ x c. own_same layout (record v.pools {
+              builds = without conn v.pools.builds;
+              stored = stored_but conn.slot v.pools.stored;
+            }) side refl refl x.pool x.place x.field (fits.own x c);
+            stands = fits.stands;
+          }
 
       fewer : v.pools.builds ≡ [] → side.builds ≡ []
       fewer none = ap (without conn) none
 
       notes_left : (note : Note) → Contains side.notes note → FitsNote layout k s.words side.builds note
       notes_left note c =
-          let left = filter_has (λ x. not (x.slot == conn.slot)) v.pools.notes note c in
+          let left = Contains-filter_parts (λ x. not (x.slot == conn.slot)) v.pools.notes note c in
           let was = kept.notes.each id v note at left.0 in
           let apart : note.slot ≢ conn.slot = (λ e. absurd (let no : true ≡ false = sym left.1 ∙ ap not (eq-eqb note.slot conn.slot e) in cc)) in
           note_stays layout k k s.words s.words v.pools.builds side.builds note (λ w is. refl) (λ key i w a b d holds. holds)
           (λ i e c'. in_without i conn v.pools.builds c' (λ same. apart (sym e ∙ ap (λ (y : ConnId). y.slot) same))) was
 
-      module _ (value : Running S) (follows : MayFollow m layout.slots k entry) (freeless : (i : ConnId) → ¬ (entry.act ≡ Acts.Free i)) (bit : claim_bit stage ≡ 1) (runs : value ≡ running stage) (phase : turn.phase ≡ stage_phase stage)
+      module _ (value : Running S) (follows : MayFollow m layout.slots k entry) (freeless : (i : ConnId) →
+          ¬ (entry.act ≡ Acts.Free i)) (bit : claim_bit stage ≡ 1) (runs : value ≡ running stage) (phase : turn.phase ≡ stage_phase stage)
           (fresh : stage_phase stage ≡ 1 → (way : Way) → HoldsNone k (last_id k turn.slot) way → note_word layout s.words turn.slot way ≡ 0) (kills : List ConnId)
-          (given : (i : ConnId) (way : Way) → Contains kills i → ¬ Contains v.pools.gave_up (record { id = i; way = way }) → HoldsNone k i way → note_word layout s.words i.slot way ≡ 0) (loaded : ℕ) (scanned behind : List ℕ) where
+          (given : (i : ConnId) (way : Way) → Contains kills i → ¬ Contains v.pools.gave_up (record { id = i; way = way }) →
+          HoldsNone k i way → note_word layout s.words i.slot way ≡ 0) (loaded : ℕ) (scanned behind : List ℕ) where
         abbrev pub builder : CellView S A R
-        builder = record v { seats = record v.seats { history = kept.log ++ entry ∷ [] }; epochs = record v.epochs { loaded = loaded; scanned = scanned; behind = behind }; pools = record side { kills = kills }; turn = None }
+        builder = record v {
+          seats = record v.seats { history = kept.log ++ entry ∷ [] };
+          epochs = record v.epochs { loaded = loaded; scanned = scanned; behind = behind };
+          pools = record side { kills = kills };
+          turn = None;
+        }
 
         ungone_here : gone ≡ 0
         ungone_here = ungone (λ dead. absurd (let no : Building id ≡ Dead = sym at_conn.1 ∙ dead in cc))
@@ -206,22 +189,30 @@ module _ {S A R : Type 0} (m : Meaning S A R) (digest : Key → ℕ) (layout : L
         seen_phase = phase ∙ ap stage_phase (sym (seen_at stage ungone_here))
 
         stored_kills : FitsStored layout s.words (record side { kills = kills })
-        stored_kills = stored_kept layout s.words s.words side (record side { kills = kills }) stored_left refl (own_same layout side (record side { kills = kills }) refl refl) (λ pool place field own. refl)
+        stored_kills = stored_kept layout s.words s.words side (record side { kills = kills }) stored_left refl
+            (own_same layout side (record side { kills = kills }) refl refl) (λ pool place field own. refl)
 
-        pub built_ends : (1 ≤ loaded → loaded ≡ v.epochs.loaded) → Epochs (epoch_word after_words) (reader_word after_words) (map reader_view (set s.views id builder)) → Deaths death_side layout (after m k entry) after_words (set s.views id builder) → IsCells m digest layout (record { words = set s.words (field_at layout Slots turn.slot turn_field) 0; homes = set s.homes turn.slot (some value); views = set s.views id builder })
-        built_ends = ends_with m digest layout s kept id v turn at has value quiet lives settled seated entry mine' follows freeless stage acts (bit ∙ sym is_claimed) seen_runs seen_phase (record side { kills = kills }) refl refl refl refl refl stored_kills builds_left others_fit notes_left fresh given loaded scanned behind
+        pub built_ends : (1 ≤ loaded → loaded ≡ v.epochs.loaded) → Epochs (epoch_word after_words) (reader_word after_words) (map reader_view (set s.views id builder)) →
+            Deaths death_side layout (after m k entry) after_words (set s.views id builder) →
+            IsCells m digest layout (record { words = set s.words (field_at layout Slots turn.slot turn_field) 0; homes = set s.homes turn.slot (some value); views = set s.views id builder })
+        built_ends = ends_with m digest layout s kept id v turn at has value quiet lives settled seated entry mine' follows freeless stage acts
+            (bit ∙ sym is_claimed) seen_runs seen_phase (record side { kills = kills }) refl refl refl refl refl stored_kills builds_left others_fit notes_left fresh given loaded scanned behind
 
-        pub built_acted : (act : TurnAct S A) → AddsOwn (cell_pass v) (kept.log ++ entry ∷ []) (act_entries m (cell_pass v) turn.was.stage act) → builder ≡ acted act v (kept.log ++ entry ∷ []) → HasActed m act (v, (turn.slot, value) ∷ []) (builder, [])
+        pub built_acted : (act : TurnAct S A) → AddsOwn (cell_pass v) (kept.log ++ entry ∷ []) (act_entries m (cell_pass v) turn.was.stage act) →
+            builder ≡ acted act v (kept.log ++ entry ∷ []) → HasActed m act (v, (turn.slot, value) ∷ []) (builder, [])
         built_acted act adds after' = record {
           turn = turn;
           has = has;
           adds = adds;
-          legal = legal_after m digest layout s kept id v turn at has value quiet lives settled seated entry mine' follows freeless stage acts (bit ∙ sym is_claimed) seen_runs seen_phase (record side { kills = kills }) refl refl refl refl refl stored_kills builds_left others_fit notes_left fresh given loaded scanned behind fewer;
+          legal = legal_after m digest layout s kept id v turn at has value quiet lives settled seated entry mine' follows freeless stage acts
+              (bit ∙ sym is_claimed) seen_runs seen_phase
+              (record side { kills = kills }) refl refl refl refl refl stored_kills builds_left others_fit notes_left fresh given loaded scanned behind fewer;
           is = ap (λ (w : CellView S A R). (w, [])) after';
         }
 
         pub built_adds : AddsOwn (cell_pass v) (kept.log ++ entry ∷ []) (record entry { seat = v.seats.number } ∷ [])
-        built_adds = adds_act m digest layout s kept id v turn at has value quiet lives settled seated entry mine' follows freeless stage acts (bit ∙ sym is_claimed) seen_runs seen_phase (record side { kills = kills }) refl refl refl refl refl stored_kills builds_left others_fit notes_left fresh given loaded scanned behind
+        built_adds = adds_act m digest layout s kept id v turn at has value quiet lives settled seated entry mine' follows freeless stage acts
+            (bit ∙ sym is_claimed) seen_runs seen_phase (record side { kills = kills }) refl refl refl refl refl stored_kills builds_left others_fit notes_left fresh given loaded scanned behind
 
     -- the notes of a connection that holds none of a way are 0, as the pass stored them
     bare_there : (conn : ConnId) → BuildsThere v turn conn → HasBareNotes m v conn → (way : Way) → HoldsNone k (last_id k turn.slot) way → note_word layout s.words turn.slot way ≡ 0
@@ -229,16 +220,20 @@ module _ {S A R : Type 0} (m : Meaning S A R) (digest : Key → ℕ) (layout : L
         let is = building_in k turn.slot conn id (mine.building conn there.built) there.there in
         let same : conn ≡ last_id k turn.slot = (λ i. record { slot = there.there i; inc = sym is.0 i }) in
         let seat = kept.seats.each id v.seats (at_map seat_side s.views id v at) in
-        let bare = bare_before m layout.slots v.seats.history kept.log id conn way kept.connections.legal seat.seen (seat.lives lives).own (mine.building conn there.built) (λ key holds. none key (subst (λ (i : ConnId). k.holder key ≡ Some (record { id = i; way = way })) same holds)) in
+        let bare = bare_before m layout.slots v.seats.history kept.log id conn way kept.connections.legal seat.seen (seat.lives lives).own
+        (mine.building conn there.built) (λ key holds. none key (subst (λ (i : ConnId). k.holder key ≡ Some (record { id = i; way = way })) same holds)) in
         let fits = kept.notes.each id v (record { slot = conn.slot; field = note_field way; value = 0 }) at (notes way bare) in
         ap (λ p. note_word layout s.words p way) (sym there.there) ∙ (ap (note_word layout s.words conn.slot) (same_note way fits.way fits.field_is) ∙ fits.stands)
 
     starts : (conn : ConnId) (n : ℕ) (init : S) → BuildsThere v turn conn → HasBareNotes m v conn → turn.phase ≡ 1 → Ended (Start conn n init)
     starts conn n init there notes phase = (
       builder conn there entry refl (Live init 1) acts value follows (λ i e. absurd cc) refl refl phase fresh v.pools.kills given_before v.epochs.loaded v.epochs.scanned v.epochs.behind,
-      built_ends conn there entry refl (Live init 1) acts value follows (λ i e. absurd cc) refl refl phase fresh v.pools.kills given_before v.epochs.loaded v.epochs.scanned v.epochs.behind (λ _. refl) (epochs_still starter refl)
-          (deaths_stay m digest layout s kept id v at turn.slot exists (after m k entry) (Live init 1) acts (sym (ap is_dead building)) (λ dead. absurd (let no : Building id ≡ Dead = sym building ∙ dead in cc)) starter refl refl refl),
-      built_acted conn there entry refl (Live init 1) acts value follows (λ i e. absurd cc) refl refl phase fresh v.pools.kills given_before v.epochs.loaded v.epochs.scanned v.epochs.behind (Start conn n init)
+      built_ends conn there entry refl (Live init 1) acts value follows
+          (λ i e. absurd cc) refl refl phase fresh v.pools.kills given_before v.epochs.loaded v.epochs.scanned v.epochs.behind (λ _. refl) (epochs_still starter refl)
+          (deaths_stay m digest layout s kept id v at turn.slot exists (after m k entry) (Live init 1) acts (sym (ap is_dead building))
+          (λ dead. absurd (let no : Building id ≡ Dead = sym building ∙ dead in cc)) starter refl refl refl),
+      built_acted conn there entry refl (Live init 1) acts value follows
+          (λ i e. absurd cc) refl refl phase fresh v.pools.kills given_before v.epochs.loaded v.epochs.scanned v.epochs.behind (Start conn n init)
           (built_adds conn there entry refl (Live init 1) acts value follows (λ i e. absurd cc) refl refl phase fresh v.pools.kills given_before v.epochs.loaded v.epochs.scanned v.epochs.behind) refl,
     )
       where
@@ -266,7 +261,8 @@ module _ {S A R : Type 0} (m : Meaning S A R) (digest : Key → ℕ) (layout : L
     abandons : (conn : ConnId) → BuildsThere v turn conn → HasBareNotes m v conn → turn.phase ≡ 2 → Ended (Abandoned conn)
     abandons conn there notes phase = (
       builder conn there entry refl Dead acts None follows (λ i e. absurd cc) refl refl phase (λ live way none. absurd cc) (conn ∷ v.pools.kills) killed_given 0 [] [],
-      built_ends conn there entry refl Dead acts None follows (λ i e. absurd cc) refl refl phase (λ live way none. absurd cc) (conn ∷ v.pools.kills) killed_given 0 [] [] (λ some'. absurd (omega (arith, some'))) (epochs_unloaded m digest layout s kept id v at turn.slot exists killer refl refl)
+      built_ends conn there entry refl Dead acts None follows (λ i e. absurd cc) refl refl phase (λ live way none. absurd cc) (conn ∷
+          v.pools.kills) killed_given 0 [] [] (λ some'. absurd (omega (arith, some'))) (epochs_unloaded m digest layout s kept id v at turn.slot exists killer refl refl)
           (deaths_killed m digest layout s kept id v at turn.slot exists (after m k entry) conn acts there.there building.0 (ap is_dead building.1) killer refl refl refl refl refl refl),
       built_acted conn there entry refl Dead acts None follows (λ i e. absurd cc) refl refl phase (λ live way none. absurd cc) (conn ∷ v.pools.kills) killed_given 0 [] [] (Abandoned conn)
           (built_adds conn there entry refl Dead acts None follows (λ i e. absurd cc) refl refl phase (λ live way none. absurd cc) (conn ∷ v.pools.kills) killed_given 0 [] []) refl,
@@ -284,7 +280,8 @@ module _ {S A R : Type 0} (m : Meaning S A R) (digest : Key → ℕ) (layout : L
         building : (x.inc ≡ conn.inc) × (x.stage ≡ Building id)
         building = building_in k turn.slot conn id (mine.building conn there.built) there.there
 
-        killed_given : (i : ConnId) (way : Way) → Contains (conn ∷ v.pools.kills) i → ¬ Contains v.pools.gave_up (record { id = i; way = way }) → HoldsNone k i way → note_word layout s.words i.slot way ≡ 0
+        killed_given : (i : ConnId) (way : Way) → Contains (conn ∷ v.pools.kills) i →
+            ¬ Contains v.pools.gave_up (record { id = i; way = way }) → HoldsNone k i way → note_word layout s.words i.slot way ≡ 0
         killed_given = given_killed conn (λ i. record { slot = there.there i; inc = sym building.0 i }) (bare_there conn there notes)
 
         killer : CellView S A R
@@ -293,9 +290,11 @@ module _ {S A R : Type 0} (m : Meaning S A R) (digest : Key → ℕ) (layout : L
     -- a connection that isn't Building is stepped or killed
     module _ (entry : Entry S A R) (mine' : entry.seat ≡ id) (stage : Stage S) (acts : ActsOn k (after m k entry) turn.slot stage)
         (leaves : (i : ConnId) (j : ℕ) → stage_of k i ≡ Building j → i.slot ≡ turn.slot → stage ≡ x.stage)
-        (value : Running S) (follows : MayFollow m layout.slots k entry) (freeless : (i : ConnId) → ¬ (entry.act ≡ Acts.Free i)) (bit : claim_bit stage ≡ claim_bit x.stage) (runs : value ≡ running (slot_by gone (record x { stage = stage })).stage) (phase : turn.phase ≡ stage_phase (slot_by gone (record x { stage = stage })).stage)
+        (value : Running S) (follows : MayFollow m layout.slots k entry) (freeless : (i : ConnId) → ¬ (entry.act ≡ Acts.Free i)) (bit : claim_bit stage ≡ claim_bit x.stage)
+        (runs : value ≡ running (slot_by gone (record x { stage = stage })).stage) (phase : turn.phase ≡ stage_phase (slot_by gone (record x { stage = stage })).stage)
         (fresh : stage_phase stage ≡ 1 → (way : Way) → HoldsNone k (last_id k turn.slot) way → note_word layout s.words turn.slot way ≡ 0) (kills : List ConnId)
-        (given : (i : ConnId) (way : Way) → Contains kills i → ¬ Contains v.pools.gave_up (record { id = i; way = way }) → HoldsNone k i way → note_word layout s.words i.slot way ≡ 0) (loaded : ℕ) (scanned behind : List ℕ) where
+        (given : (i : ConnId) (way : Way) → Contains kills i → ¬ Contains v.pools.gave_up (record { id = i; way = way }) →
+        HoldsNone k i way → note_word layout s.words i.slot way ≡ 0) (loaded : ℕ) (scanned behind : List ℕ) where
       fits_on : (j : ℕ) (builds : List ConnId) (unstored : List ℕ) → FitsBuilds k j builds unstored → FitsBuilds (after m k entry) j builds unstored
       fits_on j builds unstored fits = record {
         building = λ i c. still_building k (after m k entry) turn.slot stage acts i j (fits.building i c) (leaves i j (fits.building i c));
@@ -307,19 +306,33 @@ module _ {S A R : Type 0} (m : Meaning S A R) (digest : Key → ℕ) (layout : L
       all_on j u ne e = fits_on j u.pools.builds u.pools.unstored (kept.connections.each j u e)
 
       abbrev pub stepper : CellView S A R
-      stepper = record v { seats = record v.seats { history = kept.log ++ entry ∷ [] }; epochs = record v.epochs { loaded = loaded; scanned = scanned; behind = behind }; pools = record v.pools { kills = kills }; turn = None }
+      stepper = record v {
+        seats = record v.seats { history = kept.log ++ entry ∷ [] };
+        epochs = record v.epochs { loaded = loaded; scanned = scanned; behind = behind };
+        pools = record v.pools { kills = kills };
+        turn = None;
+      }
 
       stored_on : FitsStored layout s.words (record v.pools { kills = kills })
-      stored_on = stored_kept layout s.words s.words v.pools (record v.pools { kills = kills }) (kept.stored id v at) refl (own_same layout v.pools (record v.pools { kills = kills }) refl refl) (λ pool place field own. refl)
+      stored_on = stored_kept layout s.words s.words v.pools (record v.pools { kills = kills }) (kept.stored id v at) refl
+          (own_same layout v.pools (record v.pools { kills = kills }) refl refl) (λ pool place field own. refl)
 
-      pub plain_ends : (1 ≤ loaded → loaded ≡ v.epochs.loaded) → Epochs (epoch_word after_words) (reader_word after_words) (map reader_view (set s.views id stepper)) → Deaths death_side layout (after m k entry) after_words (set s.views id stepper) → IsCells m digest layout (record { words = set s.words (field_at layout Slots turn.slot turn_field) 0; homes = set s.homes turn.slot (some value); views = set s.views id stepper })
-      plain_ends = ends_with m digest layout s kept id v turn at has value quiet lives settled seated entry mine' follows freeless stage acts bit runs phase (record v.pools { kills = kills }) refl refl refl refl refl stored_on (fits_on id v.pools.builds v.pools.unstored mine) all_on (λ note c. kept.notes.each id v note at c) fresh given loaded scanned behind
+      pub plain_ends : (1 ≤ loaded → loaded ≡ v.epochs.loaded) → Epochs (epoch_word after_words) (reader_word after_words) (map reader_view (set s.views id stepper)) →
+          Deaths death_side layout (after m k entry) after_words (set s.views id stepper) →
+          IsCells m digest layout (record { words = set s.words (field_at layout Slots turn.slot turn_field) 0; homes = set s.homes turn.slot (some value); views = set s.views id stepper })
+      plain_ends = ends_with m digest layout s kept id v turn at has value quiet lives settled seated entry mine' follows freeless stage acts bit runs phase
+          (record v.pools { kills = kills }) refl refl refl refl refl stored_on (fits_on id v.pools.builds v.pools.unstored mine) all_on
+          (λ note c. kept.notes.each id v note at c) fresh given loaded scanned behind
 
       pub plain_adds : AddsOwn (cell_pass v) (kept.log ++ entry ∷ []) (record entry { seat = v.seats.number } ∷ [])
-      plain_adds = adds_act m digest layout s kept id v turn at has value quiet lives settled seated entry mine' follows freeless stage acts bit runs phase (record v.pools { kills = kills }) refl refl refl refl refl stored_on (fits_on id v.pools.builds v.pools.unstored mine) all_on (λ note c. kept.notes.each id v note at c) fresh given loaded scanned behind
+      plain_adds = adds_act m digest layout s kept id v turn at has value quiet lives settled seated entry mine' follows freeless stage acts bit runs phase
+          (record v.pools { kills = kills }) refl refl refl refl refl stored_on (fits_on id v.pools.builds v.pools.unstored mine) all_on
+          (λ note c. kept.notes.each id v note at c) fresh given loaded scanned behind
 
       pub plain_legal : IsPass m (cell_pass v) → IsPass m (cell_pass stepper)
-      plain_legal = legal_after m digest layout s kept id v turn at has value quiet lives settled seated entry mine' follows freeless stage acts bit runs phase (record v.pools { kills = kills }) refl refl refl refl refl stored_on (fits_on id v.pools.builds v.pools.unstored mine) all_on (λ note c. kept.notes.each id v note at c) fresh given loaded scanned behind (λ none. none)
+      plain_legal = legal_after m digest layout s kept id v turn at has value quiet lives settled seated entry mine' follows freeless stage acts bit runs phase
+          (record v.pools { kills = kills }) refl refl refl refl refl stored_on (fits_on id v.pools.builds v.pools.unstored mine) all_on
+          (λ note c. kept.notes.each id v note at c) fresh given loaded scanned behind (λ none. none)
 
     -- the stage of a claimed identity is its slot's
     stage_there : (conn : ConnId) → conn.slot ≡ turn.slot → x.inc ≡ conn.inc → stage_of k conn ≡ x.stage
@@ -328,14 +341,17 @@ module _ {S A R : Type 0} (m : Meaning S A R) (digest : Key → ℕ) (layout : L
 
     steps : (conn : ConnId) (n : ℕ) (way : Way) (lent : Bor A) → KnowsThere v turn conn → turn.phase ≡ stage_phase (step_of m way lent.now turn.was.stage) → Ended (Steps conn n way lent)
     steps conn n way lent there phase =
-        let legal = plain_legal entry refl stage acts leaves value follows (λ i e. absurd cc) (stepped_bit m way arg x.stage) runs phased fresh v.pools.kills given_before v.epochs.loaded v.epochs.scanned v.epochs.behind in (
+        let legal = plain_legal entry refl stage acts leaves value follows (λ i e. absurd cc)
+        (stepped_bit m way arg x.stage) runs phased fresh v.pools.kills given_before v.epochs.loaded v.epochs.scanned v.epochs.behind in (
           walker,
-          plain_ends entry refl stage acts leaves value follows (λ i e. absurd cc) (stepped_bit m way arg x.stage) runs phased fresh v.pools.kills given_before v.epochs.loaded v.epochs.scanned v.epochs.behind (λ _. refl) (epochs_still walker refl)
+          plain_ends entry refl stage acts leaves value follows (λ i e. absurd cc)
+              (stepped_bit m way arg x.stage) runs phased fresh v.pools.kills given_before v.epochs.loaded v.epochs.scanned v.epochs.behind (λ _. refl) (epochs_still walker refl)
               (deaths_stay m digest layout s kept id v at turn.slot exists (after m k entry) stage acts (stepped_death m way arg x.stage) (stepped_dead m way arg x.stage) walker refl refl refl),
           record {
             turn = turn;
             has = has;
-            adds = plain_adds entry refl stage acts leaves value follows (λ i e. absurd cc) (stepped_bit m way arg x.stage) runs phased fresh v.pools.kills given_before v.epochs.loaded v.epochs.scanned v.epochs.behind;
+            adds = plain_adds entry refl stage acts leaves value follows (λ i e. absurd cc)
+                (stepped_bit m way arg x.stage) runs phased fresh v.pools.kills given_before v.epochs.loaded v.epochs.scanned v.epochs.behind;
             legal = legal;
             is = refl;
           },
@@ -368,7 +384,8 @@ module _ {S A R : Type 0} (m : Meaning S A R) (digest : Key → ℕ) (layout : L
         follows : MayFollow m layout.slots k entry
         follows = record {
           allowed = claimed;
-          replied = ap (λ r. Replies.ToStep r) (sym (answer_stays m turn.was (slot_by gone x) stays way arg) ∙ (answer_seen m gone x gone_stage way arg ∙ ap (step_answer m way arg) (sym (stage_there conn there.there last))));
+          replied = ap (λ r. Replies.ToStep r) (sym (answer_stays m turn.was (slot_by gone x) stays way arg)
+              ∙ (answer_seen m gone x gone_stage way arg ∙ ap (step_answer m way arg) (sym (stage_there conn there.there last))));
         }
 
         leaves : (i : ConnId) (j : ℕ) → stage_of k i ≡ Building j → i.slot ≡ turn.slot → stage ≡ x.stage
@@ -384,14 +401,17 @@ module _ {S A R : Type 0} (m : Meaning S A R) (digest : Key → ℕ) (layout : L
         fresh live w none = kept.notes.bare turn.slot w (kept.turns.each id v turn at has).exists (was_live m way arg x.stage live) none
 
         walker : CellView S A R
-        walker = stepper entry refl stage acts leaves value follows (λ i e. absurd cc) (stepped_bit m way arg x.stage) runs phased fresh v.pools.kills given_before v.epochs.loaded v.epochs.scanned v.epochs.behind
+        walker = stepper entry refl stage acts leaves value follows (λ i e. absurd cc)
+            (stepped_bit m way arg x.stage) runs phased fresh v.pools.kills given_before v.epochs.loaded v.epochs.scanned v.epochs.behind
 
     expires : (conn : ConnId) (now : ℕ) → IsDueThere m turn conn now → turn.phase ≡ 2 → Ended (Expired conn now)
     expires conn now there phase =
         let legal = plain_legal entry refl Dead acts leaves None follows (λ i e. absurd cc) bit runs phased (λ live w none. absurd cc) (conn ∷ v.pools.kills) killed_given 0 [] [] in (
           killer,
-          plain_ends entry refl Dead acts leaves None follows (λ i e. absurd cc) bit runs phased (λ live w none. absurd cc) (conn ∷ v.pools.kills) killed_given 0 [] [] (λ some'. absurd (omega (arith, some'))) (epochs_unloaded m digest layout s kept id v at turn.slot exists killer refl refl)
-              (deaths_killed m digest layout s kept id v at turn.slot exists (after m k entry) conn acts there.there (ap (λ (y : Slot S). y.inc) same ∙ there.inc) (due_alive m now x.stage due) killer refl refl refl refl refl refl),
+          plain_ends entry refl Dead acts leaves None follows (λ i e. absurd cc) bit runs phased (λ live w none. absurd cc) (conn ∷
+              v.pools.kills) killed_given 0 [] [] (λ some'. absurd (omega (arith, some'))) (epochs_unloaded m digest layout s kept id v at turn.slot exists killer refl refl)
+              (deaths_killed m digest layout s kept id v at turn.slot exists (after m k entry) conn acts there.there
+              (ap (λ (y : Slot S). y.inc) same ∙ there.inc) (due_alive m now x.stage due) killer refl refl refl refl refl refl),
           record {
             turn = turn;
             has = has;
@@ -423,8 +443,10 @@ module _ {S A R : Type 0} (m : Meaning S A R) (digest : Key → ℕ) (layout : L
         due : IsDue m now x.stage
         due = subst (λ (y : Slot S). IsDue m now y.stage) (sym same) there.due
 
-        killed_given : (i : ConnId) (way : Way) → Contains (conn ∷ v.pools.kills) i → ¬ Contains v.pools.gave_up (record { id = i; way = way }) → HoldsNone k i way → note_word layout s.words i.slot way ≡ 0
-        killed_given = given_killed conn (λ i. record { slot = there.there i; inc = sym (ap (λ (y : Slot S). y.inc) same ∙ there.inc) i }) (λ way none. kept.notes.bare turn.slot way exists (due_settled m now x.stage due) none)
+        killed_given : (i : ConnId) (way : Way) → Contains (conn ∷ v.pools.kills) i →
+            ¬ Contains v.pools.gave_up (record { id = i; way = way }) → HoldsNone k i way → note_word layout s.words i.slot way ≡ 0
+        killed_given = given_killed conn (λ i. record { slot = there.there i; inc = sym (ap (λ (y : Slot S). y.inc) same ∙ there.inc) i })
+            (λ way none. kept.notes.bare turn.slot way exists (due_settled m now x.stage due) none)
 
         follows : MayFollow m layout.slots k entry
         follows = record { allowed = subst (IsDue m now) (sym (stage_there conn there.there (ap (λ (y : Slot S). y.inc) same ∙ there.inc))) due; replied = refl }
@@ -441,7 +463,8 @@ module _ {S A R : Type 0} (m : Meaning S A R) (digest : Key → ℕ) (layout : L
     nothing : turn.phase ≡ stage_phase turn.was.stage → Ended Nothing
     nothing phase = (
       record v { turn = None },
-      ends_alone m digest layout s kept id v turn at has (running turn.was.stage) quiet seated (sym (running_stays turn.was (slot_by gone x) stays)) (phase ∙ sym (phase_stays turn.was (slot_by gone x) stays)),
+      ends_alone m digest layout s kept id v turn at has (running turn.was.stage) quiet seated
+          (sym (running_stays turn.was (slot_by gone x) stays)) (phase ∙ sym (phase_stays turn.was (slot_by gone x) stays)),
       refl,
     )
 
@@ -456,10 +479,12 @@ module _ {S A R : Type 0} (m : Meaning S A R) (digest : Key → ℕ) (layout : L
     ends (Expired conn now) may phase = expires conn now may phase
     ends (Reclaim conn) may phase = reclaimed conn may phase
 
-  pub may_end : (st : Step (Running S)) (id n slot : ℕ) (act : TurnAct S A) (me : Me (Running S) (CellView S A R)) → me.0.seats.lives ≡ true → me.0.seats.theirs ≡ [] → 1 ≤ length me.0.seats.readers → MayEndBy m act slot me →
+  pub may_end : (st : Step (Running S)) (id n slot : ℕ) (act : TurnAct S A) (me : Me (Running S) (CellView S A R)) →
+      me.0.seats.lives ≡ true → me.0.seats.theirs ≡ [] → 1 ≤ length me.0.seats.readers → MayEndBy m act slot me →
       Allows (IsCells m digest layout) n id me (field_at layout Slots slot turn_field) (λ _. 0) (λ _. EndsTurn m act st me 0)
   may_end st id n slot act me lives settled seated may =
-      subst (λ (y : ℕ × List (ℕ × Running S)). Allows (IsCells m digest layout) n id (me.0, y.1) (field_at layout Slots y.0 turn_field) (λ _. 0) (λ _. EndsTurn m act st (me.0, y.1) 0)) (λ i. (may.there i, sym may.carries i))
+      subst (λ (y : ℕ × List (ℕ × Running S)). Allows (IsCells m digest layout) n id (me.0, y.1) (field_at layout Slots y.0 turn_field)
+      (λ _. 0) (λ _. EndsTurn m act st (me.0, y.1) 0)) (λ i. (may.there i, sym may.carries i))
       (λ s kept homes at bound.
       let e = ends s kept id me.0 may.turn at may.has lives settled seated may.settled act may.may may.phase in
       (e.0, gives, tt, e.1, record { tells = e.2 }))

@@ -4,55 +4,26 @@ use Rattle.std.proofs.Common.{◌≡◌, ◌≢◌, ℕ, ◌<◌, ◌≤◌, Boo
 use Rattle.std.proofs.lemmas.List.{set-get_or}
 use mathlib.Core.Option.{some}
 use lib.ListN.{get_elem?}
-use Rattle.atomic_table.specs.Table.{State, Me, Step, Allows, stepped, keeps}
-use Rattle.atomic_table.proofs.Lists.{at_set}
-use Rattle.npf_types.specs.declared.key.Key.{Key}
-use Rattle.npf_types.specs.declared.key.Way.{Way}
-use Rattle.npf_core.specs.declared.conn_id.ConnId.{ConnId}
-use Rattle.npf_core.specs.History.{state_of}
-use Rattle.npf_core.specs.Machine.{Machine, Holds, HoldsNone}
-use Rattle.npf_core.specs.Meaning.{Meaning}
+use Rattle.atomic_table.{specs.Table.{State, Me, Step, Allows, stepped, keeps}, proofs.Lists.at_set}
+use Rattle.npf_types.specs.declared.key.{Key.Key, Way.Way}
+use Rattle.npf_core.specs.{declared.{conn_id.ConnId.ConnId, found.Found.Found}, History.state_of, Machine.{Machine, Holds, HoldsNone}, Meaning.Meaning}
 use Rattle.npf_connections.specs.Pass.{all_places}
-use Rattle.npf_core.specs.declared.found.Found.{Found}
-use Rattle.npf_paths.specs.declared.cell.Cell.TheVariants.{Empty}
-use Rattle.npf_paths.specs.declared.place.Place.{Place}
-use Rattle.npf_paths.specs.Paths.{EndsAt}
-use Rattle.npf_cells_words.specs.declared.layout.Layout.{Layout}
-use Rattle.npf_cells_words.specs.declared.layout.Pool.TheVariants.{Slots}
-use Rattle.npf_cells_words.specs.Layout.{note_field, field_at}
-use Rattle.npf_cells_words.specs.MarkWords.{shown_of}
-use Rattle.npf_cells_words.specs.Places.{IsInTrie, is_in_trie, place_at}
-use Rattle.npf_cells_words.proofs.WordLemmas.{in_trie, same_note}
-use Rattle.npf_seats.specs.Seats.{Seats}
-use Rattle.npf_seats.proofs.SumLemmas.{side_same}
-use Rattle.npf_cells_leaves.specs.Trie.{digits_of, holder_at, trie_words}
-use Rattle.npf_cells_leaves.proofs.TrieLemmas.{knows_same}
-use Rattle.npf_cells_lives.specs.declared.pools.Note.{Note}
-use Rattle.npf_cells_lives.specs.declared.turn.Ahead.{Ahead}
-use Rattle.npf_cells_lives.specs.declared.turn.Said.{Said}
-use Rattle.npf_cells_lives.specs.declared.turn.Turn.{Turn}
-use Rattle.npf_cells_lives.specs.Conns.{entry_seat}
-use Rattle.npf_cells_lives.specs.Deaths.{unreclaimed, last_id}
-use Rattle.npf_cells_lives.specs.Notes.{note_word, IsAheadOf, NobodyAhead, with_said, FitsAhead, FitsNote, Notes}
-use Rattle.npf_cells_lives.specs.Pools.{taken}
-use Rattle.npf_cells_lives.specs.Turns.{Running, has_turn, FitsTurn, Turns}
-use Rattle.npf_cells_lives.proofs.DeathLemmas.{dead_at, spares_all}
-use Rattle.npf_cells_lives.proofs.FreedLemmas.{freed_stays}
-use Rattle.npf_cells_lives.proofs.NoteLemmas.{IsGiven, IsToldSo, given_same, nobody_before, notes_so}
-use Rattle.npf_cells_lives.proofs.PoolLemmas.{pools-same, taken-set}
+use Rattle.npf_paths.specs.{declared.{cell.Cell.TheVariants.Empty, place.Place.Place}, Paths.EndsAt}
+use Rattle.npf_cells_words.specs.{declared.layout.{Layout.Layout, Pool.TheVariants.Slots}, Layout.{note_field, field_at}, MarkWords.shown_of}
+use Rattle.npf_cells_words.{specs.Places.{IsInTrie, is_in_trie, place_at}, proofs.WordLemmas.{in_trie, same_note}}
+use Rattle.npf_seats.{specs.Seats.Seats, proofs.SumLemmas.side_same}
+use Rattle.npf_cells_leaves.{specs.Trie.{digits_of, holder_at, trie_words}, proofs.TrieLemmas.knows_same}
+use Rattle.npf_cells_lives.specs.{declared.{pools.Note.Note, turn.{Ahead.Ahead, Said.Said, Turn.Turn}}, Conns.entry_seat, Deaths.{unreclaimed, last_id}}
+use Rattle.npf_cells_lives.specs.{Notes.{note_word, IsAheadOf, NobodyAhead, with_said, FitsAhead, FitsNote, Notes}, Pools.taken}
+use Rattle.npf_cells_lives.{specs.Turns.{Running, has_turn, FitsTurn, Turns}, proofs.{DeathLemmas.{dead_at, spares_all}, FreedLemmas.freed_stays}}
+use Rattle.npf_cells_lives.proofs.{NoteLemmas.{IsGiven, IsToldSo, given_same, nobody_before, notes_so}, PoolLemmas.{pools-same, taken-set}}
 use Rattle.npf_cells_lives.proofs.TurnLemmas.{turns-like}
-use Rattle.npf_cells_rule.specs.declared.view.CellView.{CellView}
-use Rattle.npf_cells_rule.specs.Cells.{IsCells}
-use Rattle.npf_cells_rule.specs.Views.{seat_side, pool_side, turn_side, death_side}
+use Rattle.npf_cells_rule.specs.{declared.view.CellView.CellView, Cells.IsCells, Views.{seat_side, pool_side, turn_side, death_side}}
 use Rattle.npf_cells_rule.proofs.DeathFrames.{deaths_load, known_apart, gone_same}
 use Rattle.npf_cells_rule.proofs.Frames.{alone-set, alone_still, framed, epochs_apart, trie_apart, conns_apart, stored_apart, locks_apart}
-use Rattle.npf_cells_rule.proofs.MarkFrames.{marks_on, meets_same, words_loaded}
-use Rattle.npf_cells_rule.specs.NoteLaw.{NamesEnd}
-use Rattle.npf_cells_rule.proofs.NoteFrames.{notes_behind}
-use Rattle.npf_cells_rule.proofs.NoteLawLemmas.{code_above, names_end}
-use Rattle.npf_cells_rule.proofs.StoodLemmas.{stood_so}
-use Rattle.npf_cells_turns.specs.NoteKinds.{NamesPlace, ShowsKill, LoadsNote}
-use Rattle.npf_cells_turns.specs.TurnKinds.{HasSlotTurn}
+use Rattle.npf_cells_rule.{proofs.{MarkFrames.{marks_on, meets_same, words_loaded}, NoteFrames.notes_behind}, specs.NoteLaw.NamesEnd}
+use Rattle.npf_cells_rule.proofs.{NoteLawLemmas.{code_above, names_end}, StoodLemmas.stood_so}
+use Rattle.npf_cells_turns.specs.{NoteKinds.{NamesPlace, ShowsKill, LoadsNote}, TurnKinds.HasSlotTurn}
 use Rattle.npf_cells_turns.proofs.WordKeepLemmas.{own_alone, shows_by_turn, shows_note}
 
 -- who remembers what a note said has the same turn otherwise
@@ -61,7 +32,8 @@ said_turn said None slot = refl
 said_turn said (Some turn) slot = refl
 
 module _ {S A R : Type 0} (m : Meaning S A R) (digest : Key → ℕ) (layout : Layout) where
-  module _ (s : State (Running S) (CellView S A R)) (kept : IsCells m digest layout s) (id : ℕ) (v : CellView S A R) (at : get_elem? s.views id ≡ some v) (seated : 1 ≤ length v.seats.readers) (turn : Turn S) (has : v.turn ≡ Some turn) (way : Way) where
+  module _ (s : State (Running S) (CellView S A R)) (kept : IsCells m digest layout s) (id : ℕ) (v : CellView S A R) (at : get_elem? s.views id ≡ some v)
+      (seated : 1 ≤ length v.seats.readers) (turn : Turn S) (has : v.turn ≡ Some turn) (way : Way) where
     abbrev k : Machine S
     k = state_of m kept.log
 
@@ -90,7 +62,8 @@ module _ {S A R : Type 0} (m : Meaning S A R) (digest : Key → ℕ) (layout : L
     same j = ap (λ xs. slice_index xs j) (set-get_or s.words word 0)
 
     turns_after : Turns turn_side layout (unreclaimed death_side (set s.views id teller) k) ws s.homes (set s.views id teller)
-    turns_after = turns-like turn_side layout (unreclaimed death_side s.views k) (unreclaimed death_side (set s.views id teller) k) s.words ws s.homes s.views id v teller kept.turns at (said_turn (Some heard) v.turn)
+    turns_after = turns-like turn_side layout (unreclaimed death_side s.views k)
+        (unreclaimed death_side (set s.views id teller) k) s.words ws s.homes s.views id v teller kept.turns at (said_turn (Some heard) v.turn)
         (λ t is.
         let one : turn' ≡ t = (let e : Some turn' ≡ Some t = sym has' ∙ is in cc) in
         let fits = kept.turns.each id v turn at has in
@@ -123,10 +96,14 @@ module _ {S A R : Type 0} (m : Meaning S A R) (digest : Key → ℕ) (layout : L
         both j u e = ⊎_elim
             (λ (x : (j ≡ id) × (teller ≡ u)). subst (λ (y : CellView S A R). IsGiven turn_side pool_side layout k s.words y × IsToldSo turn_side pool_side layout k s.words y) x.1
             (given_same turn_side pool_side layout k s.words v teller refl refl (λ i w c not none. kept.notes.given id v i w at c not none), told))
-            (λ (x : (j ≢ id) × (get_elem? s.views j ≡ some u)). (λ i w c not none. kept.notes.given j u i w x.1 c not none, λ t said w is e firm field. kept.notes.said j u t said w x.1 is e firm field))
+            (λ (x : (j ≢ id) × (get_elem? s.views j ≡ some u)). (
+              λ i w c not none. kept.notes.given j u i w x.1 c not none,
+              λ t said w is e firm field. kept.notes.said j u t said w x.1 is e firm field,
+            ))
             (at_set s.views id j teller u e)
 
-        aheads : (j : ℕ) (u : CellView S A R) (t : Turn S) (note : Ahead) → get_elem? (set s.views id teller) j ≡ some u → u.turn ≡ Some t → t.ahead ≡ Some note → FitsAhead layout k s.words t.slot note
+        aheads : (j : ℕ) (u : CellView S A R) (t : Turn S) (note : Ahead) → get_elem? (set s.views id teller) j ≡ some u →
+            u.turn ≡ Some t → t.ahead ≡ Some note → FitsAhead layout k s.words t.slot note
         aheads j u t note e is ahead = ⊎_elim
             (λ (x : (j ≡ id) × (teller ≡ u)).
             let one : turn' ≡ t = (let d : Some turn' ≡ Some t = sym has' ∙ (ap (λ (y : CellView S A R). y.turn) x.1 ∙ is) in cc) in
@@ -136,7 +113,8 @@ module _ {S A R : Type 0} (m : Meaning S A R) (digest : Key → ℕ) (layout : L
 
         each : (j : ℕ) (u : CellView S A R) (note : Note) → get_elem? (set s.views id teller) j ≡ some u → Contains u.pools.notes note → FitsNote layout k s.words u.pools.builds note
         each j u note e c = ⊎_elim
-            (λ (x : (j ≡ id) × (teller ≡ u)). subst (λ (y : CellView S A R). FitsNote layout k s.words y.pools.builds note) x.1 (kept.notes.each id v note at (subst (λ (y : CellView S A R). Contains y.pools.notes note) (sym x.1) c)))
+            (λ (x : (j ≡ id) × (teller ≡ u)). subst (λ (y : CellView S A R). FitsNote layout k s.words y.pools.builds note) x.1
+            (kept.notes.each id v note at (subst (λ (y : CellView S A R). Contains y.pools.notes note) (sym x.1) c)))
             (λ (x : (j ≢ id) × (get_elem? s.views j ≡ some u)). kept.notes.each j u note x.1 c)
             (at_set s.views id j teller u e)
 
@@ -144,7 +122,8 @@ module _ {S A R : Type 0} (m : Meaning S A R) (digest : Key → ℕ) (layout : L
     tells c = framed m digest layout s (stepped s word found id c teller keeps) kept kept.published kept.log (length-set s.words word found)
         (subst (λ sides. Seats entry_seat layout.slots all_places kept.log sides) (sym (side_same seat_side s.views id v teller at refl)) kept.seats)
         (epochs_apart m digest layout s word found id v teller kept at refl (λ j h. same j))
-        (pools-same layout (taken pool_side kept.published k s.views) (taken pool_side kept.published k (set s.views id teller)) s.words ws kept.pools (length-set s.words word found) (λ j h. same j) (taken-set pool_side kept.published k s.views id v teller at refl refl))
+        (pools-same layout (taken pool_side kept.published k s.views) (taken pool_side kept.published k (set s.views id teller)) s.words ws kept.pools
+        (length-set s.words word found) (λ j h. same j) (taken-set pool_side kept.published k s.views id v teller at refl refl))
         (trie_apart m digest layout s word found id v teller kept at (knows_same v.trie) (λ j h. same j))
         (conns_apart m digest layout s word found id v teller kept at refl refl (λ j h. same j))
         (stored_apart m digest layout s word found id teller kept (kept.stored id v at) (λ j h. same j))
@@ -189,12 +168,14 @@ module _ {S A R : Type 0} (m : Meaning S A R) (digest : Key → ℕ) (layout : L
                 absurd cc
 
         names : (key : Key) → Holds (state_of m v.seats.history) conn way key → NamesPlace layout found
-        names key held = (let end = ends_there key held in record { place = end.place; within = within key end.level end.place ((kept.known id v conn at killed).held way key held) end.ends; names = end.names })
+        names key held = (let end = ends_there key held in
+            record { place = end.place; within = within key end.level end.place ((kept.known id v conn at killed).held way key held) end.ends; names = end.names })
 
         given : HoldsNone (state_of m v.seats.history) conn way → found ≡ 0
         given none = ap (λ p. note_word layout s.words p way) (sym slots) ∙ kept.notes.given id v conn way at killed not (λ key holds. none key ((kept.known id v conn at killed).back way key holds))
 
-  pub may_load_note : (st : Step (Running S)) (id n slot : ℕ) (way : Way) (me : Me (Running S) (CellView S A R)) → me.0.seats.lives ≡ true → 1 ≤ length me.0.seats.readers → slot < layout.slots → HasSlotTurn me.0 slot →
+  pub may_load_note : (st : Step (Running S)) (id n slot : ℕ) (way : Way) (me : Me (Running S) (CellView S A R)) →
+      me.0.seats.lives ≡ true → 1 ≤ length me.0.seats.readers → slot < layout.slots → HasSlotTurn me.0 slot →
       Allows (IsCells m digest layout) n id me (field_at layout Slots slot (note_field way)) (λ x. x) (LoadsNote m digest layout slot way st me)
   may_load_note st id n slot way me lives seated within turn =
       subst (λ p. Allows (IsCells m digest layout) n id me (field_at layout Slots p (note_field way)) (λ x. x) (LoadsNote m digest layout p way st me)) turn.there

@@ -1,26 +1,14 @@
 -- A pass of the table stays one through steps on turns.
-use Rattle.std.proofs.Common.{◌≡◌, ◌≢◌, ℕ, ◌≤◌, Option, Some, None, List, [], ◌∷◌, refl, sym, ap, ◌∙◌, subst, ⊎_elim, arith}
-use Rattle.std.proofs.lemmas.Bool.{cases_eq}
-use Rattle.atomic_table.specs.Seated.{TableId}
-use Rattle.atomic_table.specs.Table.{Me, Step, rest}
+use Rattle.std.proofs.{Common.{◌≡◌, ◌≢◌, ℕ, ◌≤◌, Option, Some, None, List, [], ◌∷◌, refl, sym, ap, ◌∙◌, subst, ⊎_elim, arith}, lemmas.Bool.cases_eq}
+use Rattle.atomic_table.specs.{Seated.TableId, Table.{Me, Step, rest}}
 use Rattle.npf_types.specs.declared.key.Key.{Key}
-use Rattle.npf_core.specs.declared.conn_id.ConnId.{ConnId}
-use Rattle.npf_core.specs.declared.entry.Entry.{Entry}
-use Rattle.npf_core.specs.Meaning.{Meaning}
+use Rattle.npf_core.specs.{declared.{conn_id.ConnId.ConnId, entry.Entry.Entry}, Meaning.Meaning}
 use Rattle.npf_cells_words.specs.declared.layout.Layout.{Layout}
 use Rattle.npf_cells_pins.specs.declared.pin.EpochSide.{EpochSide}
-use Rattle.npf_cells_lives.specs.declared.turn.Said.{Said}
-use Rattle.npf_cells_lives.specs.declared.turn.Turn.{Turn}
-use Rattle.npf_cells_lives.specs.Notes.{with_said}
-use Rattle.npf_cells_lives.specs.Turns.{Running, running}
-use Rattle.npf_cells_rule.specs.declared.view.CellView.{CellView}
-use Rattle.npf_cells_rule.specs.Passes.{CarriesByTurn, IsPassOf}
-use Rattle.npf_cells_rule.proofs.PassLemmas.{passes_on}
-use Rattle.npf_cells_turns.specs.declared.act.TurnAct.{TurnAct}
-use Rattle.npf_cells_turns.specs.declared.act.TurnAct.TheVariants.{Nothing, Start, Step as Steps, Abandoned, Expired, Reclaim}
-use Rattle.npf_cells_turns.specs.EndKinds.{acted, epochs_after, with_reclaim, TellsEnd}
-use Rattle.npf_cells_turns.specs.NoteKinds.{noting}
-use Rattle.npf_cells_turns.specs.TurnKinds.{TriesTurn, HasSlotTurn}
+use Rattle.npf_cells_lives.specs.{declared.turn.{Said.Said, Turn.Turn}, Notes.with_said, Turns.{Running, running}}
+use Rattle.npf_cells_rule.{specs.{declared.view.CellView.CellView, Passes.{CarriesByTurn, IsPassOf}}, proofs.PassLemmas.passes_on}
+use Rattle.npf_cells_turns.specs.declared.act.TurnAct.{TurnAct, TheVariants.{Nothing, Start, Step as Steps, Abandoned, Expired, Reclaim}}
+use Rattle.npf_cells_turns.specs.{EndKinds.{acted, epochs_after, with_reclaim, TellsEnd}, NoteKinds.noting, TurnKinds.{TriesTurn, HasSlotTurn}}
 
 -- what an act makes of what the pass knows of the epoch: its pin stays, and it may forget what it loaded
 pin_after : {S A : Type 0} (act : TurnAct S A) (side : EpochSide) → (epochs_after act side).pin ≡ side.pin
@@ -50,14 +38,17 @@ module _ {S A R : Type 0} (layout : Layout) (table seat : TableId) (readers : Li
   turned_on seat' next turn carried own same is carries = rw is (passes_on layout table seat seat' readers me _ _ _ _ own same carries)
 
   -- through one by which it reclaims a connection
-  pub reclaimed_on : (seat' : TableId) (next : Me (Running S) (CellView S A R)) (conn : ConnId) → IsPassOf layout table seat readers me → seat' ≡ seat → next ≡ (record me.0 { pools = with_reclaim conn me.0.pools; turn = None }, []) →
+  pub reclaimed_on : (seat' : TableId) (next : Me (Running S) (CellView S A R)) (conn : ConnId) → IsPassOf layout table seat readers me →
+      seat' ≡ seat → next ≡ (record me.0 { pools = with_reclaim conn me.0.pools; turn = None }, []) →
       IsPassOf layout table seat' readers next
   reclaimed_on seat' next conn own same is = rw is (passes_on layout table seat seat' readers me _ _ _ _ own same refl)
 
   -- through a load of a note under a turn
-  pub noted_on : (seat' : TableId) (next : Me (Running S) (CellView S A R)) (field found : ℕ) → IsPassOf layout table seat readers me → seat' ≡ seat → next ≡ noting field found me → IsPassOf layout table seat' readers next
+  pub noted_on : (seat' : TableId) (next : Me (Running S) (CellView S A R)) (field found : ℕ) → IsPassOf layout table seat readers me →
+      seat' ≡ seat → next ≡ noting field found me → IsPassOf layout table seat' readers next
   noted_on seat' next field found own same is =
-      turned_on seat' next (with_said (Some (record { field = field; value = found })) me.0.turn) me.1 own same is (said_carries (Some (record { field = field; value = found })) me.0.turn me.1 own.carries)
+      turned_on seat' next (with_said (Some (record { field = field; value = found })) me.0.turn) me.1 own same is
+      (said_carries (Some (record { field = field; value = found })) me.0.turn me.1 own.carries)
 
   -- and through one that makes an entry
   pub acted_on : (seat' : TableId) (next : Me (Running S) (CellView S A R)) (act : TurnAct S A) (history : List (Entry S A R)) → IsPassOf layout table seat readers me → seat' ≡ seat →
@@ -98,7 +89,8 @@ module _ {S A R : Type 0} (layout : Layout) (table seat : TableId) (readers : Li
       turned_on seat' next me.0.turn ((slot, value) ∷ []) own same is (subst (λ turn. CarriesByTurn turn ((slot, value) ∷ [])) (sym has.has) (value, ap (λ p. (p, value) ∷ []) (sym has.there)))
 
 -- through a try of a turn
-pub tried_on : {S A R : Type 0} (m : Meaning S A R) (digest : Key → ℕ) (layout aim : Layout) (slot : ℕ) (st : Step (Running S)) (table seat seat' : TableId) (readers : List ℕ) (found : ℕ) (me next : Me (Running S) (CellView S A R)) →
+pub tried_on : {S A R : Type 0} (m : Meaning S A R) (digest : Key → ℕ) (layout aim : Layout) (slot : ℕ) (st : Step (Running S))
+    (table seat seat' : TableId) (readers : List ℕ) (found : ℕ) (me next : Me (Running S) (CellView S A R)) →
     IsPassOf layout table seat readers me → seat' ≡ seat → TriesTurn m digest aim slot st me found next → IsPassOf layout table seat' readers next
 tried_on m digest layout aim slot st table seat seat' readers found me next own same tries = ⊎_elim
     (λ (free : found ≡ 0).

@@ -4,54 +4,29 @@ use Rattle.std.proofs.Common.{◌≡◌, ◌≢◌, ℕ, ◌+◌, ◌^◌, ◌<�
 use Rattle.std.proofs.lemmas.Bool.{cases_eq}
 use mathlib.Core.Option.{some}
 use lib.ListN.{get_elem?}
-use Rattle.atomic_table.specs.Table.{State}
-use Rattle.atomic_table.proofs.Lists.{at_map}
-use Rattle.npf_types.specs.declared.key.Key.{Key}
-use Rattle.npf_types.specs.declared.key.Way.{Way}
-use Rattle.npf_types.specs.declared.key.Way.TheVariants.{Forward}
-use Rattle.npf_core.specs.declared.conn_id.ConnId.{ConnId}
-use Rattle.npf_core.specs.declared.slot.Slot.{Slot}
-use Rattle.npf_core.specs.declared.stage.Stage.TheVariants.{Vacant, Dead}
-use Rattle.npf_core.specs.History.{state_of}
-use Rattle.npf_core.specs.Machine.{Machine, HoldsNone, stage_of}
-use Rattle.npf_core.specs.Meaning.{Meaning}
+use Rattle.atomic_table.{specs.Table.State, proofs.Lists.at_map}
+use Rattle.npf_types.specs.declared.key.{Key.Key, Way.{Way, TheVariants.Forward}}
+use Rattle.npf_core.specs.{declared.{conn_id.ConnId.ConnId, slot.Slot.Slot, stage.Stage.TheVariants.{Vacant, Dead}}, History.state_of}
+use Rattle.npf_core.specs.{Machine.{Machine, HoldsNone, stage_of}, Meaning.Meaning}
 use Rattle.npf_connections.specs.Pass.{all_places}
-use Rattle.npf_cells_words.specs.declared.layout.Layout.{Layout}
-use Rattle.npf_cells_words.specs.declared.layout.Pool.TheVariants.{Slots}
-use Rattle.npf_cells_words.specs.Layout.{turn_field, field_at}
-use Rattle.npf_seats.specs.Seats.{Seats}
-use Rattle.npf_seats.specs.Sums.{occurs}
-use Rattle.npf_seats.proofs.ListLemmas.{one_where, occurs-cons}
-use Rattle.npf_seats.proofs.PrefixLemmas.{cons_cases}
-use Rattle.npf_seats.proofs.SumLemmas.{sum-set, side_same}
-use Rattle.npf_cells_leaves.specs.Trie.{trie_words}
-use Rattle.npf_cells_leaves.proofs.TrieLemmas.{knows_same, trie_same}
-use Rattle.npf_cells_lives.specs.declared.turn.Turn.{Turn}
-use Rattle.npf_cells_lives.specs.Conns.{entry_seat}
+use Rattle.npf_cells_words.specs.{declared.layout.{Layout.Layout, Pool.TheVariants.Slots}, Layout.{turn_field, field_at}}
+use Rattle.npf_seats.{specs.{Seats.Seats, Sums.occurs}, proofs.{ListLemmas.{one_where, occurs-cons}, PrefixLemmas.cons_cases, SumLemmas.{sum-set, side_same}}}
+use Rattle.npf_cells_leaves.{specs.Trie.trie_words, proofs.TrieLemmas.{knows_same, trie_same}}
+use Rattle.npf_cells_lives.specs.{declared.turn.Turn.Turn, Conns.entry_seat}
 use Rattle.npf_cells_lives.specs.Deaths.{Rests, has_epoch, first_note, slots_named, reclaimed_in, cleared_in, freed_slot, slot_by, unreclaimed, last_id, FitsReclaim, Deaths}
-use Rattle.npf_cells_lives.specs.Pools.{taken}
-use Rattle.npf_cells_lives.specs.Stored.{FitsStored}
-use Rattle.npf_cells_lives.specs.Turns.{Homes, Running, running, stage_phase, Turns}
+use Rattle.npf_cells_lives.specs.{Pools.taken, Stored.FitsStored, Turns.{Homes, Running, running, stage_phase, Turns}}
 use Rattle.npf_cells_lives.proofs.ConnLemmas.{builds-kept, unstored-set, conns-same}
 use Rattle.npf_cells_lives.proofs.DeathLemmas.{same_dates, spares_all, epoch_note, last_stage, RestsNoMore, kill_kept, reclaim_kept, deaths-changed}
-use Rattle.npf_cells_lives.proofs.FreedLemmas.{gone_in, freed_stays, still_there, by_some}
-use Rattle.npf_cells_lives.proofs.LockLemmas.{locks-same, holders-set}
-use Rattle.npf_cells_lives.proofs.NoteLemmas.{notes-set}
-use Rattle.npf_cells_lives.proofs.PoolLemmas.{pools-kept, taken-set}
-use Rattle.npf_cells_lives.proofs.StoredLemmas.{own_same, stored_kept}
-use Rattle.npf_cells_rule.specs.declared.view.CellView.{CellView}
-use Rattle.npf_cells_rule.specs.Cells.{IsCells}
-use Rattle.npf_cells_rule.specs.Views.{seat_side, reader_view, lock_side, pool_side, trie_side, turn_side, death_side}
-use Rattle.npf_cells_rule.proofs.DeathFrames.{known_apart}
-use Rattle.npf_cells_rule.proofs.DeathLawLemmas.{rests_hold_back}
-use Rattle.npf_cells_rule.proofs.Frames.{alone-set, alone_still, framed, epochs_apart}
-use Rattle.npf_cells_rule.proofs.MarkFrames.{marks_on, meets_same, words_slot}
-use Rattle.npf_cells_rule.proofs.TurnFrames.{below, inc_else, lock_else, keeps_trie, stored_else, notes_stay}
-use Rattle.npf_cells_turns.specs.EndKinds.{MayReclaim, with_reclaim}
-use Rattle.npf_cells_turns.proofs.DeathEndLemmas.{same_epoch, same_notes}
-use Rattle.npf_cells_turns.proofs.EndLemmas.{turns_end, ahead_none}
+use Rattle.npf_cells_lives.proofs.{FreedLemmas.{gone_in, freed_stays, still_there, by_some}, LockLemmas.{locks-same, holders-set}, NoteLemmas.notes-set}
+use Rattle.npf_cells_lives.proofs.{PoolLemmas.{pools-kept, taken-set}, StoredLemmas.{own_same, stored_kept}}
+use Rattle.npf_cells_rule.specs.{declared.view.CellView.CellView, Cells.IsCells}
+use Rattle.npf_cells_rule.{specs.Views.{seat_side, reader_view, lock_side, pool_side, trie_side, turn_side, death_side}, proofs.DeathFrames.known_apart}
+use Rattle.npf_cells_rule.proofs.{DeathLawLemmas.rests_hold_back, Frames.{alone-set, alone_still, framed, epochs_apart}}
+use Rattle.npf_cells_rule.proofs.{MarkFrames.{marks_on, meets_same, words_slot}, TurnFrames.{below, inc_else, lock_else, keeps_trie, stored_else, notes_stay}}
+use Rattle.npf_cells_turns.{specs.EndKinds.{MayReclaim, with_reclaim}, proofs.{DeathEndLemmas.{same_epoch, same_notes}, EndLemmas.{turns_end, ahead_none}}}
 
-module _ {S A R : Type 0} (m : Meaning S A R) (digest : Key → ℕ) (layout : Layout) (s : State (Running S) (CellView S A R)) (kept : IsCells m digest layout s) (id : ℕ) (v : CellView S A R) (turn : Turn S) (at : get_elem? s.views id ≡ some v) (has : v.turn ≡ Some turn) (quiet : turn.ahead ≡ None)
+module _ {S A R : Type 0} (m : Meaning S A R) (digest : Key → ℕ) (layout : Layout) (s : State (Running S) (CellView S A R)) (kept : IsCells m digest layout s)
+    (id : ℕ) (v : CellView S A R) (turn : Turn S) (at : get_elem? s.views id ≡ some v) (has : v.turn ≡ Some turn) (quiet : turn.ahead ≡ None)
     (conn : ConnId) (may : MayReclaim v turn conn) where
   abbrev k : Machine S
   k = state_of m kept.log
@@ -134,7 +109,8 @@ module _ {S A R : Type 0} (m : Meaning S A R) (digest : Key → ℕ) (layout : L
       omega (arith, more, note, one, none, epoch))
       (λ (ne : p ≢ slot). let none = none_else p ne in omega (arith, more, note, was, none))
       (cases_eq p slot))
-      (λ i c. kill_kept death_side layout k k s.words ws s.views id v reclaimer kept.deaths at (spares_all k) (same_epoch m digest layout s kept id v at slot exists) less v.epochs.loaded i (kept.deaths.kills id v i at c))
+      (λ i c. kill_kept death_side layout k k s.words ws s.views id v reclaimer kept.deaths at (spares_all k)
+      (same_epoch m digest layout s kept id v at slot exists) less v.epochs.loaded i (kept.deaths.kills id v i at c))
       (λ i c. reclaim_kept death_side layout k k s.words ws s.views id v reclaimer kept.deaths at (spares_all k) (same_epoch m digest layout s kept id v at slot exists) less i (⊎_elim
       (λ (mine : Contains (conn ∷ v.pools.reclaims) i). ⊎_elim
       (λ (same : conn ≡ i). subst (FitsReclaim death_side k s.views) same fits_conn)
@@ -155,7 +131,8 @@ module _ {S A R : Type 0} (m : Meaning S A R) (digest : Key → ℕ) (layout : L
   -- turns see the slot as freed from now on
   turns_after : turn.phase ≡ 0 → Turns turn_side layout (unreclaimed death_side (set s.views id reclaimer) k) ws homes' (set s.views id reclaimer)
   turns_after phase = turns_end m digest layout s kept id v turn at has (running {S = S} Vacant) quiet (unreclaimed death_side (set s.views id reclaimer) k) reclaimer refl
-      (λ p ne. freed_stays death_side s.views (set s.views id reclaimer) k k p (let more = gone_more p in let clear = cleared_still p in let none = none_else p ne in omega (arith, more, clear, none)) (inl refl))
+      (λ p ne. freed_stays death_side s.views (set s.views id reclaimer) k k p (let more = gone_more p in
+      let clear = cleared_still p in let none = none_else p ne in omega (arith, more, clear, none)) (inl refl))
       (ap (λ (x : Slot S). running x.stage) (sym now_freed))
       (phase ∙ ap (λ (x : Slot S). stage_phase x.stage) (sym now_freed))
     where
@@ -163,20 +140,27 @@ module _ {S A R : Type 0} (m : Meaning S A R) (digest : Key → ℕ) (layout : L
       now_freed = by_some (gone_in death_side (set s.views id reclaimer) slot) (k.slot slot) (λ none. absurd (let more = gone_more slot in let one = one_here in omega (arith, none, more, one)))
 
   pub reclaims : turn.phase ≡ 0 → 1 ≤ length v.seats.readers → IsCells m digest layout (record { words = ws; homes = homes'; views = set s.views id reclaimer })
-  reclaims phase seated = framed m digest layout s (record { words = ws; homes = homes'; views = set s.views id reclaimer }) kept kept.published kept.log (length-set s.words (field_at layout Slots slot turn_field) 0)
+  reclaims phase seated = framed m digest layout s (record { words = ws; homes = homes'; views = set s.views id reclaimer }) kept kept.published kept.log
+      (length-set s.words (field_at layout Slots slot turn_field) 0)
       (subst (λ sides. Seats entry_seat layout.slots all_places kept.log sides) (sym (side_same seat_side s.views id v reclaimer at refl)) kept.seats)
-      (epochs_apart m digest layout s (field_at layout Slots slot turn_field) 0 id v reclaimer kept at refl (λ j h. below m digest layout s kept slot turn_field 0 exists (inl refl) j (omega (arith, h))))
-      (pools-kept layout (taken pool_side kept.published k s.views) (taken pool_side kept.published k (set s.views id reclaimer)) s.words ws kept.pools (length-set s.words (field_at layout Slots slot turn_field) 0)
+      (epochs_apart m digest layout s (field_at layout Slots slot turn_field) 0 id v reclaimer kept at refl
+      (λ j h. below m digest layout s kept slot turn_field 0 exists (inl refl) j (omega (arith, h))))
+      (pools-kept layout (taken pool_side kept.published k s.views) (taken pool_side kept.published k (set s.views id reclaimer)) s.words ws kept.pools
+      (length-set s.words (field_at layout Slots slot turn_field) 0)
       (below m digest layout s kept slot turn_field 0 exists (inl refl)) (taken-set pool_side kept.published k s.views id v reclaimer at refl refl))
-      (trie_same trie_side digest layout kept.published k k s.words ws s.views id v reclaimer kept.trie at (knows_same v.trie) (keeps_trie m digest layout s kept slot turn_field 0 exists (inl refl) k (λ key. refl) (λ i c. c) (λ i e. e)))
-      (conns-same pool_side m layout kept.log s.words ws s.views (set s.views id reclaimer) kept.connections (length-set s.words (field_at layout Slots slot turn_field) 0) (λ p h. inc_else m digest layout s kept slot turn_field 0 exists (inl refl) p)
+      (trie_same trie_side digest layout kept.published k k s.words ws s.views id v reclaimer kept.trie at (knows_same v.trie)
+      (keeps_trie m digest layout s kept slot turn_field 0 exists (inl refl) k (λ key. refl) (λ i c. c) (λ i e. e)))
+      (conns-same pool_side m layout kept.log s.words ws s.views (set s.views id reclaimer) kept.connections
+      (length-set s.words (field_at layout Slots slot turn_field) 0) (λ p h. inc_else m digest layout s kept slot turn_field 0 exists (inl refl) p)
       (builds-kept pool_side k s.views id v reclaimer at refl refl kept.connections.each) (unstored-set pool_side s.views id v reclaimer at refl))
       (stored_else m digest layout s kept slot turn_field 0 exists (inl refl) id reclaimer stored_on)
-      (locks-same lock_side layout s.words ws s.views (set s.views id reclaimer) kept.locks (lock_else m digest layout s kept slot turn_field 0 exists (inl refl)) (holders-set lock_side layout s.views id v reclaimer at refl))
+      (locks-same lock_side layout s.words ws s.views (set s.views id reclaimer) kept.locks
+      (lock_else m digest layout s kept slot turn_field 0 exists (inl refl)) (holders-set lock_side layout s.views id v reclaimer at refl))
       (turns_after phase)
       deaths_after
       (known_apart m digest layout s id v reclaimer k kept at (λ i c. c) refl (spares_all k))
-      (notes-set turn_side pool_side layout k k (trie_words layout s.words).cell (trie_words layout ws).cell s.words ws s.views id v reclaimer kept.notes at (ahead_none m digest layout s kept id v turn at has (running {S = S} Vacant) quiet) refl refl refl (λ i c. c)
+      (notes-set turn_side pool_side layout k k (trie_words layout s.words).cell (trie_words layout ws).cell s.words ws s.views id v reclaimer kept.notes at
+      (ahead_none m digest layout s kept id v turn at has (running {S = S} Vacant) quiet) refl refl refl (λ i c. c)
       (notes_stay m digest layout s kept slot turn_field 0 exists (inl refl) k (λ key. refl) (λ p. inl refl)))
       (marks_on m digest layout s kept ws id v reclaimer at (words_slot layout kept.published s.words slot turn_field 0) (meets_same v.trie) refl (λ _. refl) refl)
       (alone-set s.views id reclaimer (alone_still v reclaimer (kept.alone id v at) seated refl (λ none. none)) kept.alone)

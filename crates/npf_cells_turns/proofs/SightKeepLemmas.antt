@@ -3,31 +3,16 @@ use Rattle.std.proofs.Common.{◌≡◌, ◌≢◌, ℕ, ◌<◌, ◌≤◌, tru
 use Rattle.std.proofs.lemmas.List.{set-get_or}
 use mathlib.Core.Option.{some}
 use lib.ListN.{get_elem?}
-use Rattle.atomic_table.specs.Seated.{TableId}
-use Rattle.atomic_table.specs.Table.{State, Me, Step, Allows, keeps}
-use Rattle.atomic_table.proofs.Lists.{at_map}
+use Rattle.atomic_table.{specs.{Seated.TableId, Table.{State, Me, Step, Allows, keeps}}, proofs.Lists.at_map}
 use Rattle.npf_types.specs.declared.key.Key.{Key}
-use Rattle.npf_core.specs.declared.stage.Stage.TheVariants.{Building}
-use Rattle.npf_core.specs.History.{Legal, state_of}
-use Rattle.npf_core.specs.Meaning.{Meaning}
+use Rattle.npf_core.specs.{declared.stage.Stage.TheVariants.Building, History.{Legal, state_of}, Meaning.Meaning}
 use Rattle.npf_cells_words.specs.declared.layout.Layout.{Layout}
-use Rattle.npf_seats.specs.Seats.{FitsSeats}
+use Rattle.npf_seats.{specs.Seats.FitsSeats, proofs.SeatLemmas.cases_lt}
 use Rattle.npf_cells_leaves.proofs.TrieLemmas.{knows_same}
-use Rattle.npf_cells_lives.specs.declared.turn.Turn.{Turn}
-use Rattle.npf_cells_lives.specs.Conns.{entry_seat}
-use Rattle.npf_cells_lives.specs.Pools.{taken}
-use Rattle.npf_cells_lives.specs.Turns.{Running}
-use Rattle.npf_cells_lives.proofs.PoolLemmas.{pools-same, taken-set}
-use Rattle.npf_cells_rule.specs.declared.view.CellView.{CellView}
-use Rattle.npf_cells_rule.specs.Cells.{IsCells}
-use Rattle.npf_cells_rule.specs.Passes.{IsPassOf}
-use Rattle.npf_cells_rule.specs.Views.{seat_side, pool_side, death_side}
-use Rattle.npf_seats.proofs.SeatLemmas.{cases_lt}
-use Rattle.npf_cells_lives.proofs.DeathLemmas.{dead_stage, gone_dead}
-use Rattle.npf_cells_lives.proofs.FreedLemmas.{gone_in, there_or_idle}
-use Rattle.npf_cells_rule.proofs.EntryLemmas.{sees_nothing, sole_seen}
-use Rattle.npf_cells_rule.proofs.Frames.{alone_still, sight_step}
-use Rattle.npf_cells_rule.proofs.PassLemmas.{passes_on}
+use Rattle.npf_cells_lives.{specs.{declared.turn.Turn.Turn, Conns.entry_seat, Pools.taken, Turns.Running}, proofs.PoolLemmas.{pools-same, taken-set}}
+use Rattle.npf_cells_rule.specs.{declared.view.CellView.CellView, Cells.IsCells, Passes.IsPassOf, Views.{seat_side, pool_side, death_side}}
+use Rattle.npf_cells_lives.proofs.{DeathLemmas.{dead_stage, gone_dead}, FreedLemmas.{gone_in, there_or_idle}}
+use Rattle.npf_cells_rule.proofs.{EntryLemmas.{sees_nothing, sole_seen}, Frames.{alone_still, sight_step}, PassLemmas.passes_on}
 use Rattle.npf_cells_turns.specs.SightKinds.{seeing, StaysByTurn, HasSeen, Sees}
 
 pub above : (n : ℕ) → n ≢ 0 → 1 ≤ n
@@ -44,7 +29,9 @@ module _ {S A R : Type 0} (m : Meaning S A R) (digest : Key → ℕ) (layout : L
     stays (Some turn) has =
         let fits = kept.turns.each id me.0 turn at has in
         there_or_idle death_side s.views (state_of m kept.log) turn.slot turn.was
-        (λ gone. dead_stage ((state_of m kept.log).slot turn.slot).stage (let one = gone_dead death_side layout (state_of m kept.log) s.words s.views turn.slot kept.deaths fits.exists (let some' = above (gone_in death_side s.views turn.slot) gone in some') in omega (arith, one)))
+        (λ gone. dead_stage ((state_of m kept.log).slot turn.slot).stage (let one =
+        gone_dead death_side layout (state_of m kept.log) s.words s.views turn.slot kept.deaths fits.exists (let some' = above (gone_in death_side s.views turn.slot) gone in some') in
+        omega (arith, one)))
         fits.stays
 
     pub has_seen : HasSeen m me (seeing me.0 kept.log, me.1)
@@ -74,7 +61,8 @@ module _ {S A R : Type 0} (m : Meaning S A R) (digest : Key → ℕ) (layout : L
         sight_step m digest layout s i (slice_index s.words i) id me.1 me.0 w kept at lives refl refl (knows_same me.0.trie) (kept.stored id me.0 at) refl refl refl refl refl
             (alone_still me.0 w (kept.alone id me.0 at) place refl (λ none. none))
             (record { before = λ j h. ap (λ ws. slice_index ws j) words; behind = λ j h. ap (λ ws. slice_index ws j) words })
-            (pools-same layout (taken pool_side kept.published (state_of m kept.log) s.views) (taken pool_side kept.published (state_of m kept.log) (set s.views id w)) s.words (set s.words i (slice_index s.words i)) kept.pools
+            (pools-same layout (taken pool_side kept.published (state_of m kept.log) s.views)
+            (taken pool_side kept.published (state_of m kept.log) (set s.views id w)) s.words (set s.words i (slice_index s.words i)) kept.pools
             (length-set s.words i (slice_index s.words i)) (λ j h. ap (λ ws. slice_index ws j) words) (taken-set pool_side kept.published (state_of m kept.log) s.views id me.0 w at refl refl)),
         record { seen = has_seen s id me kept at lives settled place },
       )

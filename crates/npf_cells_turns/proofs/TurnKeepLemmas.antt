@@ -4,35 +4,22 @@ use Rattle.std.proofs.lemmas.List.{get_or-set_same}
 use mathlib.Core.Option.{none, some}
 use lib.ListN.{get_elem?}
 use prog.Atomic.{either}
-use Rattle.atomic_table.specs.Table.{State, Me, Act, Step, stepped, Allows, Valid, carried_after, keeps, takes}
-use Rattle.atomic_table.proofs.Lists.{exchanged, set_else}
+use Rattle.atomic_table.{specs.Table.{State, Me, Act, Step, stepped, Allows, Valid, carried_after, keeps, takes}, proofs.Lists.{exchanged, set_else}}
 use Rattle.npf_types.specs.declared.key.Key.{Key}
-use Rattle.npf_core.specs.History.{state_of}
-use Rattle.npf_core.specs.Machine.{Machine}
-use Rattle.npf_core.specs.Meaning.{Meaning}
-use Rattle.npf_cells_words.specs.declared.layout.Layout.{Layout}
-use Rattle.npf_cells_words.specs.declared.layout.Pool.TheVariants.{Slots}
-use Rattle.npf_cells_words.specs.Layout.{turn_field, phase_field, field_at}
+use Rattle.npf_core.specs.{History.state_of, Machine.Machine, Meaning.Meaning}
+use Rattle.npf_cells_words.specs.{declared.layout.{Layout.Layout, Pool.TheVariants.Slots}, Layout.{turn_field, phase_field, field_at}}
 use Rattle.npf_cells_words.proofs.WordLemmas.{field_reach}
 use Rattle.npf_seats.proofs.SumLemmas.{sum-set, one_of_sum}
-use Rattle.npf_cells_lives.specs.declared.turn.Turn.{Turn}
-use Rattle.npf_cells_lives.specs.Deaths.{unreclaimed}
-use Rattle.npf_cells_lives.specs.Turns.{Homes, Running, running, has_turn, turn_holders, StaysAt, FitsTurn, IsAtHome, Turns}
-use Rattle.npf_cells_lives.proofs.FreedLemmas.{freed_stays}
-use Rattle.npf_cells_lives.proofs.NoteLemmas.{SameAhead, ahead_of_none}
-use Rattle.npf_cells_lives.proofs.TurnLemmas.{has_once, has_none, turns-changed}
-use Rattle.npf_cells_rule.specs.declared.view.CellView.{CellView}
-use Rattle.npf_cells_rule.specs.Cells.{IsCells}
-use Rattle.npf_cells_rule.specs.Views.{turn_side, death_side}
-use Rattle.npf_cells_rule.proofs.DeathFrames.{gone_same}
-use Rattle.npf_cells_rule.proofs.Frames.{alone_still}
-use Rattle.npf_cells_rule.proofs.StoodLemmas.{stood_so}
-use Rattle.npf_cells_rule.proofs.TurnFrames.{other_word, turn_step}
-use Rattle.npf_cells_turns.specs.TurnKinds.{turn_at, TriesTurn}
-use Rattle.npf_cells_turns.proofs.WordKeepLemmas.{still}
+use Rattle.npf_cells_lives.specs.{declared.turn.Turn.Turn, Deaths.unreclaimed}
+use Rattle.npf_cells_lives.{specs.Turns.{Homes, Running, running, has_turn, turn_holders, StaysAt, FitsTurn, IsAtHome, Turns}, proofs.FreedLemmas.freed_stays}
+use Rattle.npf_cells_lives.proofs.{NoteLemmas.{SameAhead, ahead_of_none}, TurnLemmas.{has_once, has_none, turns-changed}}
+use Rattle.npf_cells_rule.{specs.{declared.view.CellView.CellView, Cells.IsCells, Views.{turn_side, death_side}}, proofs.DeathFrames.gone_same}
+use Rattle.npf_cells_rule.proofs.{Frames.alone_still, StoodLemmas.stood_so, TurnFrames.{other_word, turn_step}}
+use Rattle.npf_cells_turns.{specs.TurnKinds.{turn_at, TriesTurn}, proofs.WordKeepLemmas.still}
 
 module _ {S A R : Type 0} (m : Meaning S A R) (digest : Key → ℕ) (layout : Layout) where
-  module _ (s : State (Running S) (CellView S A R)) (kept : IsCells m digest layout s) (id slot : ℕ) (v : CellView S A R) (at : get_elem? s.views id ≡ some v) (within : slot < layout.slots) (turnless : v.turn ≡ None) (free : slice_index s.words (field_at layout Slots slot turn_field) ≡ 0) where
+  module _ (s : State (Running S) (CellView S A R)) (kept : IsCells m digest layout s) (id slot : ℕ) (v : CellView S A R) (at : get_elem? s.views id ≡ some v)
+      (within : slot < layout.slots) (turnless : v.turn ≡ None) (free : slice_index s.words (field_at layout Slots slot turn_field) ≡ 0) where
     abbrev k : Machine S
     k = state_of m kept.log
 
@@ -90,7 +77,8 @@ module _ {S A R : Type 0} (m : Meaning S A R) (digest : Key → ℕ) (layout : L
           let once : has_turn slot u.turn ≡ 1 = ap (has_turn slot) has ∙ (ap (λ p. has_turn p (Some theirs)) (sym same) ∙ has_once theirs) in
           let none' = none_had in
           absurd (omega (arith, mine, once, none'));
-      says = get_or-set_same s.words (field_at layout Slots slot turn_field) 1 0 (let reach = field_reach layout Slots slot turn_field within (omega arith) in let long = kept.connections.reach in omega (arith, reach, long)) ∙ sym one_has;
+      says = get_or-set_same s.words (field_at layout Slots slot turn_field) 1 0 (let reach = field_reach layout Slots slot turn_field within (omega arith) in
+          let long = kept.connections.reach in omega (arith, reach, long)) ∙ sym one_has;
       alone = (let one = one_has in omega (arith, one));
       at_home = λ none'. absurd (let one = one_has in omega (arith, one, none'));
       mine = λ turn' is.
@@ -103,10 +91,12 @@ module _ {S A R : Type 0} (m : Meaning S A R) (digest : Key → ℕ) (layout : L
     })
 
     ahead_none : SameAhead v.turn (Some turn)
-    ahead_none = ahead_of_none v.turn (Some turn) (λ t is. absurd (let no : None ≡ Some t = sym turnless ∙ is in cc)) (λ t is. let same : turn ≡ t = cc in ap (λ (y : Turn S). y.ahead) (sym same)) (λ t is. let same : turn ≡ t = cc in ap (λ (y : Turn S). y.said) (sym same))
+    ahead_none = ahead_of_none v.turn (Some turn) (λ t is. absurd (let no : None ≡ Some t = sym turnless ∙ is in cc)) (λ t is. let same : turn ≡ t = cc in
+        ap (λ (y : Turn S). y.ahead) (sym same)) (λ t is. let same : turn ≡ t = cc in ap (λ (y : Turn S). y.said) (sym same))
 
     pub got : 1 ≤ length v.seats.readers → IsCells m digest layout (record { words = ws; homes = homes'; views = set s.views id taker })
-    got seated = turn_step m digest layout s kept slot turn_field 1 within (inl refl) id v taker homes' at refl refl refl refl ahead_none (alone_still v taker (kept.alone id v at) seated refl (λ none'. none')) turns
+    got seated = turn_step m digest layout s kept slot turn_field 1 within (inl refl) id v taker homes' at refl refl refl refl ahead_none
+        (alone_still v taker (kept.alone id v at) seated refl (λ none'. none')) turns
 
   -- a try that makes the word of the turn this
   abbrev TurnTry : (st : Step (Running S)) (id slot : ℕ) (v : CellView S A R) (s : State (Running S) (CellView S A R)) → ℕ → Type 0
@@ -140,8 +130,10 @@ module _ {S A R : Type 0} (m : Meaning S A R) (digest : Key → ℕ) (layout : L
         },
       ))
 
-  pub may_take : (st : Step (Running S)) (id n slot : ℕ) (me : Me (Running S) (CellView S A R)) → me.0.seats.lives ≡ true → 1 ≤ length me.0.seats.readers → slot < layout.slots → me.0.turn ≡ None → me.1 ≡ [] →
+  pub may_take : (st : Step (Running S)) (id n slot : ℕ) (me : Me (Running S) (CellView S A R)) → me.0.seats.lives ≡ true →
+      1 ≤ length me.0.seats.readers → slot < layout.slots → me.0.turn ≡ None → me.1 ≡ [] →
       Allows (IsCells m digest layout) n id me (field_at layout Slots slot turn_field) (λ x. either (eqb x 0) 1 x) (TriesTurn m digest layout slot st me)
   may_take st id n slot me lives seated within turnless free =
-      subst (λ (y : Me (Running S) (CellView S A R)). Allows (IsCells m digest layout) n id y (field_at layout Slots slot turn_field) (λ x. either (eqb x 0) 1 x) (TriesTurn m digest layout slot st y)) (λ i. (me.0, sym free i))
+      subst (λ (y : Me (Running S) (CellView S A R)). Allows (IsCells m digest layout) n id y (field_at layout Slots slot turn_field)
+      (λ x. either (eqb x 0) 1 x) (TriesTurn m digest layout slot st y)) (λ i. (me.0, sym free i))
       (tries st id n slot me.0 lives seated within turnless)

@@ -1,31 +1,16 @@
 -- A load of a node's state or parent, or of a connection's phase or note, keeps the rule.
-use Rattle.std.proofs.Common.{◌≡◌, ℕ, ◌<◌, ◌≤◌, true, Some, None, List, set, slice_index, refl, sym, ap, ◌∙◌, subst, ⊎_elim, arith}
-use Rattle.std.proofs.lemmas.List.{set-get_or}
+use Rattle.std.proofs.{Common.{◌≡◌, ℕ, ◌<◌, ◌≤◌, true, Some, None, List, set, slice_index, refl, sym, ap, ◌∙◌, subst, ⊎_elim, arith}, lemmas.List.set-get_or}
 use mathlib.Core.Option.{some, some-injective}
 use lib.ListN.{get_elem?}
-use Rattle.atomic_table.specs.Table.{State, Me, Step, Allows, stepped, keeps}
-use Rattle.atomic_table.proofs.Lists.{at_map, set_again}
+use Rattle.atomic_table.{specs.Table.{State, Me, Step, Allows, stepped, keeps}, proofs.Lists.{at_map, set_again}}
 use Rattle.npf_types.specs.declared.key.Key.{Key}
-use Rattle.npf_core.specs.declared.slot.Slot.{Slot}
-use Rattle.npf_core.specs.History.{state_of}
-use Rattle.npf_core.specs.Machine.{Machine, Holds}
-use Rattle.npf_core.specs.Meaning.{Meaning}
-use Rattle.npf_cells_words.specs.declared.layout.Layout.{Layout}
-use Rattle.npf_cells_words.specs.declared.layout.Pool.{Pool}
-use Rattle.npf_cells_words.specs.declared.layout.Pool.TheVariants.{Slots, Nodes}
+use Rattle.npf_core.specs.{declared.slot.Slot.Slot, History.state_of, Machine.{Machine, Holds}, Meaning.Meaning}
+use Rattle.npf_cells_words.specs.declared.layout.{Layout.Layout, Pool.{Pool, TheVariants.{Slots, Nodes}}}
 use Rattle.npf_cells_words.specs.Layout.{phase_field, notes_field, note_field, field_at, field_count}
-use Rattle.npf_cells_lives.specs.declared.turn.Turn.{Turn}
-use Rattle.npf_cells_lives.specs.Deaths.{unreclaimed, last_id}
-use Rattle.npf_cells_lives.proofs.FreedLemmas.{still_there}
-use Rattle.npf_cells_lives.specs.Notes.{note_word, NobodyAhead}
-use Rattle.npf_cells_lives.specs.Turns.{Running, stage_phase}
-use Rattle.npf_cells_lives.proofs.TurnLemmas.{turns_alone}
-use Rattle.npf_cells_rule.specs.NoteLaw.{NamesEnd}
-use Rattle.npf_cells_rule.specs.Views.{seat_side, turn_side, death_side}
-use Rattle.npf_cells_rule.proofs.NoteLawLemmas.{code_above, names_end}
-use Rattle.npf_cells_rule.specs.declared.view.CellView.{CellView}
-use Rattle.npf_cells_rule.specs.Cells.{IsCells}
-use Rattle.npf_cells_rule.proofs.StoodLemmas.{stood_so}
+use Rattle.npf_cells_lives.{specs.{declared.turn.Turn.Turn, Deaths.{unreclaimed, last_id}, Notes.{note_word, NobodyAhead}}, proofs.FreedLemmas.still_there}
+use Rattle.npf_cells_lives.{specs.Turns.{Running, stage_phase}, proofs.TurnLemmas.turns_alone}
+use Rattle.npf_cells_rule.{specs.{NoteLaw.NamesEnd, Views.{seat_side, turn_side, death_side}}, proofs.NoteLawLemmas.{code_above, names_end}}
+use Rattle.npf_cells_rule.{specs.{declared.view.CellView.CellView, Cells.IsCells}, proofs.StoodLemmas.stood_so}
 use Rattle.npf_cells_turns.specs.WordKinds.{ShowsByTurn, ShowsNote, IsLoadField, ShowsPhase, LoadsWord}
 
 -- such a field is one of the place's words
@@ -35,7 +20,8 @@ field_within Nodes field is = is.1
 
 module _ {S A R : Type 0} (m : Meaning S A R) (digest : Key → ℕ) (layout : Layout) where
   -- a step in which nothing changes keeps the rule
-  pub still : (s : State (Running S) (CellView S A R)) (i id : ℕ) (c : List (ℕ × Running S)) (v : CellView S A R) → IsCells m digest layout s → get_elem? s.views id ≡ some v → IsCells m digest layout (stepped s i (slice_index s.words i) id c v keeps)
+  pub still : (s : State (Running S) (CellView S A R)) (i id : ℕ) (c : List (ℕ × Running S)) (v : CellView S A R) → IsCells m digest layout s →
+      get_elem? s.views id ≡ some v → IsCells m digest layout (stepped s i (slice_index s.words i) id c v keeps)
   still s i id c v kept at =
       subst (λ (vs : List (CellView S A R)). IsCells m digest layout (record { words = set s.words i (slice_index s.words i); homes = s.homes; views = vs })) (sym (set_again s.views id v at))
       (subst (λ (ws : List ℕ). IsCells m digest layout (record { words = ws; homes = s.homes; views = s.views })) (sym (set-get_or s.words i 0)) kept)
@@ -47,20 +33,24 @@ module _ {S A R : Type 0} (m : Meaning S A R) (digest : Key → ℕ) (layout : L
 
   pub shows_note : (s : State (Running S) (CellView S A R)) (id : ℕ) (v : CellView S A R) (kept : IsCells m digest layout s) → get_elem? s.views id ≡ some v → (pool : Pool) (place field : ℕ) →
       ShowsNote v.pools.notes pool place field (slice_index s.words (field_at layout pool place field))
-  shows_note s id v kept at Slots slot field = λ value c. let fits = kept.notes.each id v (record { slot = slot; field = field; value = value }) at c in ap (λ f. slice_index s.words (field_at layout Slots slot f)) fits.field_is ∙ fits.stands
+  shows_note s id v kept at Slots slot field = λ value c. let fits = kept.notes.each id v (record { slot = slot; field = field; value = value }) at c in
+      ap (λ f. slice_index s.words (field_at layout Slots slot f)) fits.field_is ∙ fits.stands
   shows_note s id v kept at Nodes node field = tt
 
   -- while a pass that has a slot's turn is ahead of none of its notes, nobody is
-  pub own_alone : (s : State (Running S) (CellView S A R)) (id : ℕ) (v : CellView S A R) (turn : Turn S) (kept : IsCells m digest layout s) → get_elem? s.views id ≡ some v → v.turn ≡ Some turn → turn.ahead ≡ None → (slot field : ℕ) → turn.slot ≡ slot →
+  pub own_alone : (s : State (Running S) (CellView S A R)) (id : ℕ) (v : CellView S A R) (turn : Turn S) (kept : IsCells m digest layout s) →
+      get_elem? s.views id ≡ some v → v.turn ≡ Some turn → turn.ahead ≡ None → (slot field : ℕ) → turn.slot ≡ slot →
       NobodyAhead turn_side s.views slot field
   own_alone s id v turn kept at has settled slot field there j u e a =
-      let same : j ≡ id = turns_alone turn_side layout (unreclaimed death_side s.views (state_of m kept.log)) s.words s.homes s.views j id u v a.mine turn kept.turns e at a.has has (a.there ∙ sym there) in
+      let same : j ≡ id =
+      turns_alone turn_side layout (unreclaimed death_side s.views (state_of m kept.log)) s.words s.homes s.views j id u v a.mine turn kept.turns e at a.has has (a.there ∙ sym there) in
       let one : u ≡ v = some-injective u v (sym e ∙ (ap (get_elem? s.views) same ∙ at)) in
       let turns : a.mine ≡ turn = (let d : Some a.mine ≡ Some turn = sym a.has ∙ (ap (λ (y : CellView S A R). y.turn) one ∙ has) in cc) in
       let no : None ≡ Some a.note = sym settled ∙ (ap (λ (t : Turn S). t.ahead) (sym turns) ∙ a.ahead) in
       cc
 
-  pub shows_by_turn : (s : State (Running S) (CellView S A R)) (id : ℕ) (v : CellView S A R) (kept : IsCells m digest layout s) → get_elem? s.views id ≡ some v → v.seats.lives ≡ true → (pool : Pool) (place field : ℕ) →
+  pub shows_by_turn : (s : State (Running S) (CellView S A R)) (id : ℕ) (v : CellView S A R) (kept : IsCells m digest layout s) →
+      get_elem? s.views id ≡ some v → v.seats.lives ≡ true → (pool : Pool) (place field : ℕ) →
       ShowsByTurn m digest layout v pool place field (slice_index s.words (field_at layout pool place field))
   shows_by_turn s id v kept at lives Slots slot field = λ turn way has there settled live is.
       let k : Machine S = state_of m kept.log in
@@ -69,7 +59,8 @@ module _ {S A R : Type 0} (m : Meaning S A R) (digest : Key → ℕ) (layout : L
       let now : stage_phase (k.slot slot).stage ≡ 1 = ap (λ p. stage_phase (k.slot p).stage) (sym there) ∙ (ap (λ (x : Slot S). stage_phase x.stage) same ∙ live) in
       let nobody : NobodyAhead turn_side s.views slot (note_field way) = own_alone s id v turn kept at has settled slot (note_field way) there in
       let noted : slice_index s.words (field_at layout Slots slot field) ≡ note_word layout s.words slot way = ap (λ f. slice_index s.words (field_at layout Slots slot f)) is in
-      let names : (key : Key) → Holds k (last_id k slot) way key → NamesEnd digest layout s.words key (slice_index s.words (field_at layout Slots slot field)) = (λ key holds. subst (NamesEnd digest layout s.words key) (sym noted) (names_end m layout digest s kept slot way key nobody holds)) in
+      let names : (key : Key) → Holds k (last_id k slot) way key → NamesEnd digest layout s.words key (slice_index s.words (field_at layout Slots slot field)) =
+      (λ key holds. subst (NamesEnd digest layout s.words key) (sym noted) (names_end m layout digest s kept slot way key nobody holds)) in
       record {
         state = s;
         rule = kept;

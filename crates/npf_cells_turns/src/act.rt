@@ -1,3 +1,4 @@
+// What a pass asks the machine under a turn.
 use npf_core::ConnId;
 use npf_types::Way;
 

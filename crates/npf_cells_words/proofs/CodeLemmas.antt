@@ -1,8 +1,7 @@
 -- Two places have two numbers.
 use Rattle.std.proofs.Common.{◌≡◌, ap, arith}
 use Rattle.npf_paths.specs.declared.place.Place.TheVariants as Places
-use Rattle.npf_cells_words.specs.declared.layout.Layout.{Layout}
-use Rattle.npf_cells_words.specs.Codes.{CodesAreApart, CodesFit}
+use Rattle.npf_cells_words.specs.{declared.layout.Layout.Layout, Codes.{CodesAreApart, CodesFit}}
 
 pub codes_are_apart : (layout : Layout) → CodesAreApart layout
 codes_are_apart layout (Places.Root d) (Places.Root e) h k same = ap (λ x. Places.Root x) (omega (arith, same))

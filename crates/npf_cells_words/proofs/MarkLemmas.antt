@@ -1,9 +1,7 @@
 -- What the words of marks say, and where they lead.
 use Rattle.std.proofs.Common.{◌≡◌, ◌≢◌, ℕ, ◌/◌, ◌%◌, Bool, true, false, cond, eqb, refl, arith}
 use Rattle.npf_types.specs.declared.key.Way.TheVariants.{Forward, Backward, Port}
-use Rattle.npf_paths.specs.declared.cell.Cell.{Cell}
-use Rattle.npf_paths.specs.declared.cell.Cell.TheVariants.{Empty, Leaf, Node, Mark}
-use Rattle.npf_paths.specs.CellWords.{cell_of, cell_word}
+use Rattle.npf_paths.specs.{declared.cell.Cell.{Cell, TheVariants.{Empty, Leaf, Node, Mark}}, CellWords.{cell_of, cell_word}}
 use Rattle.npf_cells_words.specs.MarkWords.{mark_word, shown_of, MarksSayNodes, MarksLeadOn}
 
 mark_read : (node : ℕ) → cell_of (mark_word node) ≡ Mark

@@ -1,15 +1,11 @@
 -- The words of a new table.
 use Rattle.std.specs.Int.{bit_at}
-use Rattle.std.proofs.Common.{◌≡◌, ◌≢◌, ◌⊎◌, ℕ, zero, suc, ◌+◌, ◌-◌, ◌*◌, ◌/◌, ◌%◌, ◌^◌, ◌<◌, ◌≤◌, Bool, true, false, cond, eqb, List, length, set, slice_index, replicate, refl, ap, ◌∙◌, ⊎_elim, inl, inr, arith, length-set}
-use Rattle.std.proofs.lemmas.Bool.{cases_eq}
-use Rattle.std.proofs.lemmas.Bool.Decides.{Decides-eqb, not_from_Decides}
-use Rattle.std.proofs.lemmas.List.{get_or-set_same, get_or-set_other, length-replicate}
+use Rattle.std.proofs.Common.{◌≡◌, ◌≢◌, ◌⊎◌, ℕ, zero, suc, ◌+◌, ◌-◌, ◌*◌, ◌/◌, ◌%◌, ◌^◌, ◌<◌, ◌≤◌, Bool, true, false, cond, eqb, List, length, set}
+use Rattle.std.proofs.{Common.{slice_index, replicate, refl, ap, ◌∙◌, ⊎_elim, inl, inr, arith, length-set}, lemmas.Bool.cases_eq}
+use Rattle.std.proofs.lemmas.{Bool.Decides.{Decides-eqb, not_from_Decides}, List.{get_or-set_same, get_or-set_other, length-replicate}}
 use Rattle.std.proofs.lemmas.Nat.Bits.{bit_at-zero, bit_at_mask_inside, bit_at_mask_below}
-use Rattle.npf_cells_words.specs.declared.layout.Layout.{Layout}
-use Rattle.npf_cells_words.specs.declared.layout.Pool.{Pool}
-use Rattle.npf_cells_words.specs.declared.layout.Pool.TheVariants.{Slots, Nodes}
-use Rattle.npf_cells_words.specs.Layout.{pools_at, pool_words, pool_places, pool_at, pool_bit, root_at, word_count}
-use Rattle.npf_cells_words.specs.Opening.{with_past, opening_words}
+use Rattle.npf_cells_words.specs.declared.layout.{Layout.Layout, Pool.{Pool, TheVariants.{Slots, Nodes}}}
+use Rattle.npf_cells_words.specs.{Layout.{pools_at, pool_words, pool_places, pool_at, pool_bit, root_at, word_count}, Opening.{with_past, opening_words}}
 
 zeros : (n i : ℕ) → slice_index (replicate n 0) i ≡ 0
 zeros zero i = refl
@@ -33,7 +29,8 @@ module _ (at places : ℕ) (words : List ℕ) (reach : at + pool_words places �
       by_test true e = refl
       by_test false e =
           let ne : places % 64 ≢ 0 = not_from_Decides _ (Decides-eqb (places % 64) 0) e in
-          get_or-set_other words (at + places / 64) i (2 ^ 64 - 2 ^ (places % 64)) 0 (λ h. ⊎_elim (λ (l : i < at). omega (arith, h, l)) (λ (l : at + pool_words places ≤ i). omega (arith, h, l, ne)) out)
+          get_or-set_other words (at + places / 64) i (2 ^ 64 - 2 ^ (places % 64)) 0
+          (λ h. ⊎_elim (λ (l : i < at). omega (arith, h, l)) (λ (l : at + pool_words places ≤ i). omega (arith, h, l, ne)) out)
 
   module _ (idle : (i : ℕ) → at ≤ i → i < at + pool_words places → slice_index words i ≡ 0) where
     no_bit : (i p : ℕ) → slice_index words i ≡ 0 → bit_at (slice_index words i) (p % 64) ≡ 0
@@ -47,7 +44,8 @@ module _ (at places : ℕ) (words : List ℕ) (reach : at + pool_words places �
         by_test false e = ⊎_elim
             (λ (same : at + p / 64 ≡ at + places / 64).
             let word : slice_index (set words (at + places / 64) (2 ^ 64 - 2 ^ (places % 64))) (at + p / 64) ≡ 2 ^ 64 - 2 ^ (places % 64)
-            = ap (slice_index (set words (at + places / 64) (2 ^ 64 - 2 ^ (places % 64)))) same ∙ get_or-set_same words (at + places / 64) (2 ^ 64 - 2 ^ (places % 64)) 0 (omega (arith, reach, h, same)) in
+            = ap (slice_index (set words (at + places / 64) (2 ^ 64 - 2 ^ (places % 64)))) same
+            ∙ get_or-set_same words (at + places / 64) (2 ^ 64 - 2 ^ (places % 64)) 0 (omega (arith, reach, h, same)) in
             ap (λ n. bit_at n (p % 64)) word ∙ bit_at_mask_below (places % 64) 64 (p % 64) (omega (arith, h, same)))
             (λ (ne : at + p / 64 ≢ at + places / 64).
             ap (λ n. bit_at n (p % 64)) (get_or-set_other words (at + places / 64) (at + p / 64) (2 ^ 64 - 2 ^ (places % 64)) 0 ne)

@@ -1,19 +1,12 @@
 -- Two words of a table are one word only where they are of one place.
-use Rattle.std.proofs.Common.{◌≡◌, ◌≢◌, ℕ, ◌<◌, arith, ◌≤◌, ap, ◌+◌, Bool, true, false, ◌&&◌, nat_lt, refl}
-use Rattle.std.proofs.lemmas.Bool.Decides.{Decides-ltb}
-use Rattle.npf_types.specs.declared.key.Way.{Way}
-use Rattle.npf_types.specs.declared.key.Way.TheVariants.{Forward, Backward, Port}
-use Rattle.npf_paths.specs.declared.place.Lock.{Lock}
+use Rattle.std.proofs.{Common.{◌≡◌, ◌≢◌, ℕ, ◌<◌, arith, ◌≤◌, ap, ◌+◌, Bool, true, false, ◌&&◌, nat_lt, refl}, lemmas.Bool.Decides.Decides-ltb}
+use Rattle.npf_types.specs.declared.key.Way.{Way, TheVariants.{Forward, Backward, Port}}
+use Rattle.npf_paths.specs.{declared.place.{Lock.Lock, Place.Place}, Places.lock_of}
 use Rattle.npf_paths.specs.declared.place.Lock.TheVariants as Locking
-use Rattle.npf_paths.specs.declared.place.Place.{Place}
 use Rattle.npf_paths.specs.declared.place.Place.TheVariants as Places
-use Rattle.npf_paths.specs.Places.{lock_of}
-use Rattle.npf_cells_words.specs.declared.layout.Layout.{Layout}
-use Rattle.npf_cells_words.specs.declared.layout.Pool.{Pool}
-use Rattle.npf_cells_words.specs.declared.layout.Pool.TheVariants.{Slots, Nodes}
+use Rattle.npf_cells_words.specs.declared.layout.{Layout.Layout, Pool.{Pool, TheVariants.{Slots, Nodes}}}
 use Rattle.npf_cells_words.specs.Layout.{inc_field, parent_field, note_field, field_at, root_at, word_count, pool_places, pool_words, pool_at, field_count, key_field}
-use Rattle.npf_cells_words.specs.WordsLaw.{FieldsAreApart, PlacesAreApart, LocksAreApart}
-use Rattle.npf_cells_words.specs.Places.{IsLockOf, IsInTrie, lock_at, place_at, is_in_trie}
+use Rattle.npf_cells_words.specs.{WordsLaw.{FieldsAreApart, PlacesAreApart, LocksAreApart}, Places.{IsLockOf, IsInTrie, lock_at, place_at, is_in_trie}}
 
 -- a word of a place is no other place's incarnation
 pub inc_apart : (layout : Layout) (place field slot : ℕ) → field < 21 → (place ≡ slot → field ≢ inc_field) → field_at layout Slots place field ≢ field_at layout Slots slot inc_field

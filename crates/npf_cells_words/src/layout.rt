@@ -1,3 +1,4 @@
+// Where each word of the table lies.
 ghost use Rattle.std.specs.Prelude.{◌≡◌, ◌+◌, ◌<◌};
 ghost use Rattle.npf_cells_words.specs.Codes.{place_code};
 ghost use Rattle.npf_cells_words.specs.Places.{IsLockOf, lock_at};

@@ -1,3 +1,4 @@
+// What a pass knows of emptied nodes and of their marks.
 use npf_paths::Place;
 use std::collections::LinkedList;
 

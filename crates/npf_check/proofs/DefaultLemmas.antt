@@ -1,9 +1,7 @@
 -- How the default groups of a text are counted from its front.
 use Rattle.std.proofs.Common.{◌≡◌, Bool, true, false, not, List, [], ◌∷◌, refl}
 use Rattle.npf_types.specs.declared.span.Span.{Span}
-use Rattle.npf_faults.specs.declared.fault.ConfFault.{ConfFault}
-use Rattle.npf_faults.specs.declared.fault.Fault.TheVariants.{NoDefault, TwoDefaults}
-use Rattle.npf_faults.specs.First.{fault_at, fault_if}
+use Rattle.npf_faults.specs.{declared.fault.{ConfFault.ConfFault, Fault.TheVariants.{NoDefault, TwoDefaults}}, First.{fault_at, fault_if}}
 use Rattle.npf_check.specs.Default.{one_default}
 
 -- the faults of the default groups that are left, where one was met or none was

@@ -1,12 +1,9 @@
 -- One more name in front of the others.
 use Rattle.std.proofs.Common.{◌≡◌, Bool, Option, List, ◌∷◌, ℕ, sym, ap, ◌∙◌}
 use mathlib.Core.Path.{fun_ext}
-use Rattle.npf_faults.specs.declared.fault.ConfFault.{ConfFault}
-use Rattle.npf_faults.specs.declared.fault.Fault.TheVariants.{DuplicateName}
-use Rattle.npf_faults.specs.First.{earlier, fault_if, first_fault}
+use Rattle.npf_faults.specs.{declared.fault.{ConfFault.ConfFault, Fault.TheVariants.DuplicateName}, First.{earlier, fault_if, first_fault}}
 use Rattle.npf_faults.proofs.FirstLemmas.{earlier-assoc, first_fault-append}
-use Rattle.npf_check.specs.Duplicate.{repeated}
-use Rattle.npf_check.specs.Name.{NameAt, with_text}
+use Rattle.npf_check.specs.{Duplicate.repeated, Name.{NameAt, with_text}}
 
 pub repeated_step : (known after : List ℕ → Bool) (given : NameAt) (names : List NameAt) (first next : Option ConfFault)
     → ((text : List ℕ) → after text ≡ with_text given.name known text)

@@ -1,6 +1,5 @@
 -- Texts that are known, with one more.
-use Rattle.std.proofs.Common.{◌≡◌, ◌||◌, Bool, true, false, cond, Result, Ok, Err, refl}
-use Rattle.std.specs.Prelude.{OnOk}
+use Rattle.std.proofs.Common.{◌≡◌, ◌||◌, Bool, true, false, cond, refl}
 
 pub or_from_cond : (b x : Bool) → cond b true x ≡ (b || x)
 or_from_cond true x = refl
@@ -15,8 +14,3 @@ or-comm true true = refl
 or-comm true false = refl
 or-comm false true = refl
 or-comm false false = refl
-
--- what follows of what is known where the answer is Ok
-pub on_ok : {A E : Type 0} (P Q : Type 0) (answer : Result A E) → (P → Q) → OnOk answer P → OnOk answer Q
-on_ok P Q (Ok value) follows known = follows known
-on_ok P Q (Err error) follows known = known

@@ -1,10 +1,6 @@
 -- The first fault of pairs, one pair on and at the end.
-use Rattle.std.proofs.Common.{◌≡◌, Option, List, [], ◌∷◌, ◌++◌, length, zip, refl, sym, ap, ◌∙◌}
-use Rattle.std.proofs.lemmas.List.{nil_from_length}
-use Rattle.std.specs.List.{flat_map}
-use Rattle.npf_faults.specs.declared.fault.ConfFault.{ConfFault}
-use Rattle.npf_faults.specs.First.{earlier, first_fault}
-use Rattle.npf_faults.proofs.FirstLemmas.{earlier-assoc, first_fault-append}
+use Rattle.std.{proofs.{Common.{◌≡◌, Option, List, [], ◌∷◌, ◌++◌, length, zip, refl, sym, ap, ◌∙◌}, lemmas.List.nil_from_length}, specs.List.flat_map}
+use Rattle.npf_faults.{specs.{declared.fault.ConfFault.ConfFault, First.{earlier, first_fault}}, proofs.FirstLemmas.{earlier-assoc, first_fault-append}}
 use Rattle.npf_check.specs.Pair.{first_beside}
 
 module _ {A B : Type 0} (f : A × B → List ConfFault) where

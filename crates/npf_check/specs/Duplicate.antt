@@ -4,8 +4,8 @@ use Rattle.std.specs.Prelude.{ℕ, Bool, Option, List, [], ◌∷◌, ◌++◌}
 use Rattle.std.specs.List.{flat_map}
 use Rattle.npf_faults.specs.declared.fault.ConfFault.{ConfFault}
 use Rattle.npf_faults.specs.declared.fault.Fault.TheVariants.{DuplicateName}
-use Rattle.npf_syntax.specs.declared.group.Item.{Item}
-use Rattle.npf_syntax.specs.declared.group.Item.TheVariants as ItemIs
+use Rattle.npf_syntax.specs.declared.group.ItemTree.{ItemTree}
+use Rattle.npf_syntax.specs.declared.group.ItemTree.TheVariants as ItemIs
 use Rattle.npf_syntax.specs.declared.stmt.Stmt.{Stmt}
 use Rattle.npf_syntax.specs.declared.stmt.Tree.{Tree}
 use Rattle.npf_faults.specs.First.{earlier, fault_if, first_fault}
@@ -18,7 +18,7 @@ abbrev pub repeated : (List ℕ → Bool) → List NameAt → List ConfFault
 repeated known [] = []
 repeated known (given ∷ others) = fault_if (known given.name) given.span DuplicateName ++ repeated (with_text given.name known) others
 
-abbrev pub ruleset_given : Item → List NameAt
+abbrev pub ruleset_given : ItemTree → List NameAt
 ruleset_given (ItemIs.Rule rule span) = []
 ruleset_given (ItemIs.Ruleset name dir on span) = record { name = name.text; span = span } ∷ []
 

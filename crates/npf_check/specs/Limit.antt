@@ -8,15 +8,15 @@ use Rattle.npf_faults.specs.declared.fault.ConfFault.{ConfFault}
 use Rattle.npf_faults.specs.declared.fault.Excess.{Excess}
 use Rattle.npf_faults.specs.declared.fault.Excess.TheVariants as Of
 use Rattle.npf_faults.specs.declared.fault.Fault.TheVariants.{TooMany}
-use Rattle.npf_syntax.specs.declared.group.Item.{Item}
-use Rattle.npf_syntax.specs.declared.group.Item.TheVariants as ItemIs
+use Rattle.npf_syntax.specs.declared.group.ItemTree.{ItemTree}
+use Rattle.npf_syntax.specs.declared.group.ItemTree.TheVariants as ItemIs
 use Rattle.npf_syntax.specs.declared.stmt.Stmt.{Stmt}
 use Rattle.npf_syntax.specs.declared.stmt.Tree.{Tree}
 use Rattle.npf_faults.specs.First.{fault_at}
-use Rattle.npf_check.specs.declared.limit.Found.{Found}
-use Rattle.npf_check.specs.declared.limit.Found.TheVariants.{At, Later}
+use Rattle.npf_check.specs.declared.limit.SpanSearch.{SpanSearch}
+use Rattle.npf_check.specs.declared.limit.SpanSearch.TheVariants.{At, Later}
 
-abbrev pub rule_place : Item → List Span
+abbrev pub rule_place : ItemTree → List Span
 rule_place (ItemIs.Rule rule span) = rule.span ∷ []
 rule_place (ItemIs.Ruleset name dir on span) = []
 
@@ -44,6 +44,6 @@ limit_faults tree =
     ++ past_faults Of.Procedures MAX_PROCEDURES tree.stmts
 
 -- the answer of a search for the item at a place: the item, or how many are to pass behind the last
-abbrev pub FindsPlace : List Span → ℕ → Found → Type 0
+abbrev pub FindsPlace : List Span → ℕ → SpanSearch → Type 0
 FindsPlace spans place (At span) = slice_get spans place ≡ Some span
 FindsPlace spans place (Later left) = place ≡ length spans + left

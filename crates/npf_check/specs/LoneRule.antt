@@ -9,8 +9,8 @@ use Rattle.npf_faults.specs.declared.fault.Fault.TheVariants.{UnknownTable, Unkn
 use Rattle.npf_faults.specs.First.{fault_if}
 use Rattle.npf_syntax.specs.declared.filter.Addresses.{Addresses}
 use Rattle.npf_syntax.specs.declared.filter.Addresses.TheVariants as Written
-use Rattle.npf_syntax.specs.declared.filter.Ends.{Ends as WrittenEnds}
-use Rattle.npf_syntax.specs.declared.filter.Ends.TheVariants as EndsAre
+use Rattle.npf_syntax.specs.declared.filter.EndsTree.{EndsTree as WrittenEnds}
+use Rattle.npf_syntax.specs.declared.filter.EndsTree.TheVariants as EndsAre
 use Rattle.npf_syntax.specs.declared.filter.Where.{Where}
 use Rattle.npf_syntax.specs.declared.rule.RuleTree.{RuleTree}
 use Rattle.npf_syntax.specs.declared.value.Value.{Value}

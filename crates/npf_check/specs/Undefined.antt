@@ -7,12 +7,12 @@ use Rattle.npf_faults.specs.declared.fault.ConfFault.{ConfFault}
 use Rattle.npf_faults.specs.declared.fault.Fault.TheVariants.{UnknownTable, UnknownProcedure}
 use Rattle.npf_syntax.specs.declared.filter.Addresses.{Addresses}
 use Rattle.npf_syntax.specs.declared.filter.Addresses.TheVariants as Written
-use Rattle.npf_syntax.specs.declared.filter.Ends.{Ends}
-use Rattle.npf_syntax.specs.declared.filter.Ends.TheVariants as EndsAre
+use Rattle.npf_syntax.specs.declared.filter.EndsTree.{EndsTree}
+use Rattle.npf_syntax.specs.declared.filter.EndsTree.TheVariants as EndsAre
 use Rattle.npf_syntax.specs.declared.filter.Filter.{Filter}
 use Rattle.npf_syntax.specs.declared.filter.Where.{Where}
-use Rattle.npf_syntax.specs.declared.group.Item.{Item}
-use Rattle.npf_syntax.specs.declared.group.Item.TheVariants as ItemIs
+use Rattle.npf_syntax.specs.declared.group.ItemTree.{ItemTree}
+use Rattle.npf_syntax.specs.declared.group.ItemTree.TheVariants as ItemIs
 use Rattle.npf_syntax.specs.declared.stmt.Stmt.{Stmt}
 use Rattle.npf_syntax.specs.declared.stmt.Tree.{Tree}
 use Rattle.npf_syntax.specs.declared.value.Value.{Value}
@@ -37,11 +37,11 @@ module _ (is_defined : List ℕ → Bool) where
   tables_of_addresses (Written.One value span) = table_faults value
   tables_of_addresses (Written.List list span) = flat_map table_faults list.values
 
-  abbrev pub tables_of_ends : Ends → List ConfFault
+  abbrev pub tables_of_ends : EndsTree → List ConfFault
   tables_of_ends (EndsAre.Addresses addresses ports span) = tables_of_addresses addresses
   tables_of_ends (EndsAre.Ports ports span) = []
 
-  abbrev pub tables_of_target : Option Ends → List ConfFault
+  abbrev pub tables_of_target : Option EndsTree → List ConfFault
   tables_of_target None = []
   tables_of_target (Some ends) = tables_of_ends ends
 
@@ -54,7 +54,7 @@ module _ (is_defined : List ℕ → Bool) where
   tables_of_pass None = []
   tables_of_pass (Some filter) = tables_of_where filter.ends
 
-  abbrev pub tables_of_item : Item → List ConfFault
+  abbrev pub tables_of_item : ItemTree → List ConfFault
   tables_of_item (ItemIs.Rule rule span) = tables_of_where rule.filter.ends
   tables_of_item (ItemIs.Ruleset name dir on span) = []
 
@@ -71,7 +71,7 @@ module _ (is_defined : List ℕ → Bool) where
   applied_faults None = []
   applied_faults (Some name) = fault_if (not (is_defined name.text)) name.span UnknownProcedure
 
-  abbrev pub procedures_of_item : Item → List ConfFault
+  abbrev pub procedures_of_item : ItemTree → List ConfFault
   procedures_of_item (ItemIs.Rule rule span) = applied_faults rule.apply
   procedures_of_item (ItemIs.Ruleset name dir on span) = []
 

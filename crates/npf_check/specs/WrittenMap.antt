@@ -8,7 +8,7 @@ use Rattle.npf_syntax.specs.declared.map.MapKind.{MapKind}
 use Rattle.npf_syntax.specs.declared.stmt.Stmt.{Stmt}
 use Rattle.npf_syntax.specs.declared.value.Value.{Value}
 use Rattle.npf_syntax.specs.declared.value.Values.{Values}
-use Rattle.npf_check.specs.declared.written_map.Variables.{Variables}
+use Rattle.npf_check.specs.declared.written_map.TableVariables.{TableVariables}
 
 pub record WrittenMap : Type 0 where
   pub span : Span
@@ -47,5 +47,5 @@ written_maps known [] = []
 written_maps known (stmt ∷ stmts) = map_written known stmt ++ written_maps (tables_behind known stmt) stmts
 
 -- the variable is a table among those that the code keeps
-abbrev pub stands_for_table : Variables → List ℕ → Bool
+abbrev pub stands_for_table : TableVariables → List ℕ → Bool
 stands_for_table variables name = unwrap_or (get_by (λ var. bytes_eq name var.now) variables.tables) false

@@ -6,8 +6,8 @@ use Rattle.npf_types.specs.declared.span.Span.{Span}
 use Rattle.npf_faults.specs.declared.fault.ConfFault.{ConfFault}
 use Rattle.npf_syntax.specs.declared.filter.Filter.{Filter}
 use Rattle.npf_syntax.specs.declared.group.GroupHead.TheVariants as Head
-use Rattle.npf_syntax.specs.declared.group.Item.{Item as WrittenItem}
-use Rattle.npf_syntax.specs.declared.group.Item.TheVariants as ItemIs
+use Rattle.npf_syntax.specs.declared.group.ItemTree.{ItemTree as WrittenItem}
+use Rattle.npf_syntax.specs.declared.group.ItemTree.TheVariants as ItemIs
 use Rattle.npf_syntax.specs.declared.stmt.Stmt.{Stmt}
 use Rattle.npf_syntax.specs.declared.stmt.Tree.{Tree}
 use Rattle.npf_model.specs.declared.group.Group.{Group}

@@ -7,7 +7,7 @@ ghost use Rattle.npf_check.specs.Name.{NameAt, as_list, names_given, no_text};
 
 use crate::name::{Given, NameKind, Names};
 use npf_faults::{ConfFault, Fault, earlier, fault_if};
-use npf_syntax::{Item, Stmt, Tree};
+use npf_syntax::{ItemTree, Stmt, Tree};
 use npf_types::NoMemory;
 use std::alloc::Global;
 
@@ -50,7 +50,7 @@ fn repeated_ruleset(alloc: Global, stmts: &[Stmt]) -> Result<Option<ConfFault>, 
 }
 
 // The items of a group; other statements have none.
-fn items_of(stmt: &Stmt) -> &[Item]
+fn items_of(stmt: &Stmt) -> &[ItemTree]
     ensures { flat_map ruleset_given result.now ≡ rulesets_of_stmt stmt.now }
 {
     match stmt {
@@ -91,7 +91,7 @@ impl<'a> Repeated<'a> {
         self.names.add(given.text)
     }
 
-    fn meet_rulesets(&mut self, items: &'a [Item]) -> Result<(), NoMemory>
+    fn meet_rulesets(&mut self, items: &'a [ItemTree]) -> Result<(), NoMemory>
         ensures { OnOk result ((names : List NameAt) → first_again self.old (flat_map ruleset_given items.now ++ names) ≡ first_again self.new names) }
     {
         for item in items {
@@ -101,12 +101,12 @@ impl<'a> Repeated<'a> {
     }
 }
 
-fn ruleset_given(item: &Item) -> Option<Given>
+fn ruleset_given(item: &ItemTree) -> Option<Given>
     ensures { as_list result ≡ ruleset_given item.now }
 {
     match item {
-        Item::Rule { .. } => None,
-        Item::Ruleset { name, span, .. } => Some(Given {
+        ItemTree::Rule { .. } => None,
+        ItemTree::Ruleset { name, span, .. } => Some(Given {
             text: name.text.as_slice(),
             span: *span,
         }),

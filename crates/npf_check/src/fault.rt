@@ -1,3 +1,4 @@
+// The first fault of a model.
 ghost use Rattle.std.specs.Prelude.{◌≡◌, IfErr, IfOk, []};
 ghost use Rattle.npf_faults.specs.First.{first_fault};
 ghost use Rattle.npf_check.specs.Fault.{RefusedByFirst, check_faults};

@@ -5,7 +5,7 @@ ghost use Rattle.npf_faults.specs.First.{first_fault};
 ghost use Rattle.npf_check.specs.Limit.{FindsPlace, limited_places, limit_faults, past_faults, rule_place};
 
 use npf_faults::{ConfFault, Excess, Fault, earlier};
-use npf_syntax::{Item, Stmt, Tree};
+use npf_syntax::{ItemTree, Stmt, Tree};
 use npf_types::Span;
 use npf_types::limits::{MAX_MAPS, MAX_PROCEDURES, MAX_RULES, MAX_TABLES};
 
@@ -22,7 +22,7 @@ pub(crate) fn limit_fault(tree: &Tree) -> Option<ConfFault>
 }
 
 // Where a thing stands that is looked for by its place in the text, or how many more are to pass.
-enum Found {
+enum SpanSearch {
     At(Span),
     Later(usize),
 }
@@ -34,17 +34,17 @@ fn past(quantity: Excess, most: usize, stmts: &[Stmt]) -> Option<ConfFault>
     let mut left = most;
     for stmt in stmts {
         match find_in_stmt(quantity, stmt, left) {
-            Found::At(span) => {
+            SpanSearch::At(span) => {
                 let fault = Fault::TooMany(quantity, most as u64 + 1);
                 return Some(ConfFault { span, fault });
             }
-            Found::Later(later) => left = later,
+            SpanSearch::Later(later) => left = later,
         }
     }
     None
 }
 
-fn find_in_stmt(quantity: Excess, stmt: &Stmt, left: usize) -> Found
+fn find_in_stmt(quantity: Excess, stmt: &Stmt, left: usize) -> SpanSearch
     ensures { FindsPlace (limited_places quantity stmt.now) left result }
 {
     match (quantity, stmt) {
@@ -52,38 +52,38 @@ fn find_in_stmt(quantity: Excess, stmt: &Stmt, left: usize) -> Found
         (Excess::Tables, Stmt::Table { span, .. }) => find_here(*span, left),
         (Excess::Maps, Stmt::Map { span, .. }) => find_here(*span, left),
         (Excess::Procedures, Stmt::Procedure { span, .. }) => find_here(*span, left),
-        _ => Found::Later(left),
+        _ => SpanSearch::Later(left),
     }
 }
 
-fn find_here(span: Span, left: usize) -> Found
+fn find_here(span: Span, left: usize) -> SpanSearch
     ensures { FindsPlace (span ∷ []) left result }
 {
     if left == 0 {
-        Found::At(span)
+        SpanSearch::At(span)
     } else {
-        Found::Later(left - 1)
+        SpanSearch::Later(left - 1)
     }
 }
 
-fn find_rule(items: &[Item], place: usize) -> Found
+fn find_rule(items: &[ItemTree], place: usize) -> SpanSearch
     ensures { FindsPlace (flat_map rule_place items.now) place result }
 {
     let mut left = place;
     for item in items {
         match find_in_item(item, left) {
-            Found::At(span) => return Found::At(span),
-            Found::Later(later) => left = later,
+            SpanSearch::At(span) => return SpanSearch::At(span),
+            SpanSearch::Later(later) => left = later,
         }
     }
-    Found::Later(left)
+    SpanSearch::Later(left)
 }
 
-fn find_in_item(item: &Item, left: usize) -> Found
+fn find_in_item(item: &ItemTree, left: usize) -> SpanSearch
     ensures { FindsPlace (rule_place item.now) left result }
 {
     match item {
-        Item::Rule { rule, .. } => find_here(rule.span, left),
-        Item::Ruleset { .. } => Found::Later(left),
+        ItemTree::Rule { rule, .. } => find_here(rule.span, left),
+        ItemTree::Ruleset { .. } => SpanSearch::Later(left),
     }
 }

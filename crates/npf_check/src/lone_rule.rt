@@ -8,7 +8,7 @@ ghost use Rattle.npf_check.specs.Pair.{first_beside};
 use crate::written_rule::rule_fault;
 use npf_faults::{ConfFault, Fault, earlier, fault_if};
 use npf_model::{AddrItem, Ends, Rule};
-use npf_syntax::{Addresses, Boxed, Ends as Written, RuleTree, Str, Value, Where};
+use npf_syntax::{Addresses, Boxed, EndsTree as Written, RuleTree, Str, Value, Where};
 use npf_types::Span;
 
 /// The number that a rule has for a table or a procedure that isn't there.

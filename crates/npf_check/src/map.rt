@@ -11,7 +11,7 @@ ghost use Rattle.npf_check.specs.WrittenMap.{WrittenMap};
 
 use crate::port::carries_ports;
 use crate::unbuilt::is_built_kind;
-use crate::written_map::Variables;
+use crate::written_map::TableVariables;
 use npf_faults::{ConfFault, Fault, earlier, fault_if};
 use npf_model::{Algo, Arrow, Map, Model};
 use npf_syntax::{MapKind, Stmt, Tree};
@@ -27,7 +27,7 @@ pub(crate) fn map_fault(
     ensures { IfOk result (λ first. first ≡ first_fault (bad_map_faults tree.now model.now)) }
 {
     let mut so_far = MapsLeft {
-        variables: Variables::new(alloc),
+        variables: TableVariables::new(alloc),
         rest: model.maps.as_slice(),
         first: None,
     };
@@ -40,7 +40,7 @@ pub(crate) fn map_fault(
 // The maps of a model that are left behind some statements, with the variables and the first fault of those statements.
 #[derive(Drop)]
 struct MapsLeft<'a> {
-    variables: Variables<'a>,
+    variables: TableVariables<'a>,
     rest: &'a [Map],
     first: Option<ConfFault>,
 }

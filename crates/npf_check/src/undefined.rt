@@ -7,7 +7,9 @@ ghost use Rattle.npf_check.specs.Undefined.{applied_faults, procedures_of_item, 
 
 use crate::name::{NameKind, Names, names_given};
 use npf_faults::{ConfFault, Fault, earlier, fault_if};
-use npf_syntax::{Addresses, Boxed, Ends, Filter, Item, Stmt, Str, Tree, Value, Values, Where};
+use npf_syntax::{
+    Addresses, Boxed, EndsTree, Filter, ItemTree, Stmt, Str, Tree, Value, Values, Where,
+};
 use npf_types::NoMemory;
 use std::alloc::Global;
 
@@ -53,7 +55,7 @@ fn table_in_stmt(tables: &Names, stmt: &Stmt) -> Option<ConfFault>
     }
 }
 
-fn table_in_items(tables: &Names, items: &[Item]) -> Option<ConfFault>
+fn table_in_items(tables: &Names, items: &[ItemTree]) -> Option<ConfFault>
     ensures { result ≡ first_fault (flat_map (tables_of_item (holds tables.now)) items.now) }
 {
     let mut first = None;
@@ -63,12 +65,12 @@ fn table_in_items(tables: &Names, items: &[Item]) -> Option<ConfFault>
     first
 }
 
-fn table_in_item(tables: &Names, item: &Item) -> Option<ConfFault>
+fn table_in_item(tables: &Names, item: &ItemTree) -> Option<ConfFault>
     ensures { result ≡ first_fault (tables_of_item (holds tables.now) item.now) }
 {
     match item {
-        Item::Rule { rule, .. } => table_in_where(tables, &rule.filter.ends),
-        Item::Ruleset { .. } => None,
+        ItemTree::Rule { rule, .. } => table_in_where(tables, &rule.filter.ends),
+        ItemTree::Ruleset { .. } => None,
     }
 }
 
@@ -96,7 +98,7 @@ fn table_in_where(tables: &Names, ends: &Where) -> Option<ConfFault>
     }
 }
 
-fn table_in_target(tables: &Names, target: &Option<Boxed<Ends>>) -> Option<ConfFault>
+fn table_in_target(tables: &Names, target: &Option<Boxed<EndsTree>>) -> Option<ConfFault>
     ensures { result ≡ first_fault (tables_of_target (holds tables.now) target.now) }
 {
     match target {
@@ -105,12 +107,12 @@ fn table_in_target(tables: &Names, target: &Option<Boxed<Ends>>) -> Option<ConfF
     }
 }
 
-fn table_in_ends(tables: &Names, ends: &Ends) -> Option<ConfFault>
+fn table_in_ends(tables: &Names, ends: &EndsTree) -> Option<ConfFault>
     ensures { result ≡ first_fault (tables_of_ends (holds tables.now) ends.now) }
 {
     match ends {
-        Ends::Addresses { addresses, .. } => table_in_addresses(tables, addresses),
-        Ends::Ports { .. } => None,
+        EndsTree::Addresses { addresses, .. } => table_in_addresses(tables, addresses),
+        EndsTree::Ports { .. } => None,
     }
 }
 
@@ -184,7 +186,7 @@ fn procedure_in_stmt(procedures: &Names, stmt: &Stmt) -> Option<ConfFault>
     }
 }
 
-fn procedure_in_items(procedures: &Names, items: &[Item]) -> Option<ConfFault>
+fn procedure_in_items(procedures: &Names, items: &[ItemTree]) -> Option<ConfFault>
     ensures { result ≡ first_fault (flat_map (procedures_of_item (holds procedures.now)) items.now) }
 {
     let mut first = None;
@@ -194,12 +196,12 @@ fn procedure_in_items(procedures: &Names, items: &[Item]) -> Option<ConfFault>
     first
 }
 
-fn procedure_in_item(procedures: &Names, item: &Item) -> Option<ConfFault>
+fn procedure_in_item(procedures: &Names, item: &ItemTree) -> Option<ConfFault>
     ensures { result ≡ first_fault (procedures_of_item (holds procedures.now) item.now) }
 {
     match item {
-        Item::Rule { rule, .. } => applied_procedure(procedures, &rule.apply),
-        Item::Ruleset { .. } => None,
+        ItemTree::Rule { rule, .. } => applied_procedure(procedures, &rule.apply),
+        ItemTree::Ruleset { .. } => None,
     }
 }
 

@@ -11,15 +11,15 @@ use std::collections::HashMap;
 
 /// The variables so far, and whether each is a table.
 #[derive(Drop)]
-pub(crate) struct Variables<'a> {
+pub(crate) struct TableVariables<'a> {
     tables: HashMap<&'a [u8], bool>,
 }
 
-impl<'a> Variables<'a> {
-    pub(crate) fn new(alloc: Global) -> Variables<'a>
+impl<'a> TableVariables<'a> {
+    pub(crate) fn new(alloc: Global) -> TableVariables<'a>
         ensures { (name : List ℕ) → stands_for_table result name ≡ no_text name }
     {
-        Variables {
+        TableVariables {
             tables: HashMap::new(alloc),
         }
     }

@@ -2,7 +2,7 @@
 ghost use Rattle.std.specs.Prelude.{◌≡◌, ◌++◌, [], ◌∷◌, List, MatchOption, Option, None};
 ghost use Rattle.std.specs.List.{flat_map};
 ghost use Rattle.npf_syntax.specs.declared.filter.Filter.{Filter as Written};
-ghost use Rattle.npf_syntax.specs.declared.group.Item.{Item as WrittenItem};
+ghost use Rattle.npf_syntax.specs.declared.group.ItemTree.{ItemTree as WrittenItem};
 ghost use Rattle.npf_faults.specs.First.{first_fault};
 ghost use Rattle.npf_check.specs.Pair.{first_beside};
 ghost use Rattle.npf_check.specs.WrittenRule.{faults_of_filter, faults_of_group, faults_of_item, faults_of_pass, faults_of_rule, faults_of_rules, items_in, pass_of_map};
@@ -11,7 +11,7 @@ use crate::family::family_fault;
 use crate::port::port_fault;
 use npf_faults::{ConfFault, earlier};
 use npf_model::{Group, Item as Meant, Map, Model, Rule};
-use npf_syntax::{Boxed, Filter, GroupHead, Item, Stmt, Tree};
+use npf_syntax::{Boxed, Filter, GroupHead, ItemTree, Stmt, Tree};
 use npf_types::Span;
 
 /// Groups with names, which stand in a model in the order of the text, and the default group, which stands last.
@@ -53,7 +53,7 @@ fn in_groups<'a>(kind: GroupKind, stmts: &[Stmt], groups: &'a [Group]) -> Groups
     left
 }
 
-fn items_in(kind: GroupKind, stmt: &Stmt) -> Option<&[Item]>
+fn items_in(kind: GroupKind, stmt: &Stmt) -> Option<&[ItemTree]>
     ensures { MatchOption result (items_in kind stmt.now ≡ []) (λ items. items_in kind stmt.now ≡ items.now ∷ []) }
 {
     let Stmt::Group { head, items, .. } = stmt else {
@@ -82,7 +82,7 @@ impl GroupsLeft<'_> {
     }
 }
 
-fn items_fault(items: &[Item], meant: &[Meant]) -> Option<ConfFault>
+fn items_fault(items: &[ItemTree], meant: &[Meant]) -> Option<ConfFault>
     ensures { result ≡ first_beside faults_of_item None items.now meant.now }
 {
     let mut first = None;
@@ -92,11 +92,11 @@ fn items_fault(items: &[Item], meant: &[Meant]) -> Option<ConfFault>
     first
 }
 
-fn item_fault(item: &Item, meant: &Meant) -> Option<ConfFault>
+fn item_fault(item: &ItemTree, meant: &Meant) -> Option<ConfFault>
     ensures { result ≡ first_fault (faults_of_item (item.now, meant.now)) }
 {
     match (item, meant) {
-        (Item::Rule { rule, .. }, Meant::One(meant)) => rule_fault(rule.span, meant),
+        (ItemTree::Rule { rule, .. }, Meant::One(meant)) => rule_fault(rule.span, meant),
         _ => None,
     }
 }

@@ -1,33 +1,18 @@
 -- What a text means can be built: it has few rules, maps, tables and procedures, and each rule can be compiled.
-use Rattle.std.proofs.Common.{◌≡◌, ◌≤◌, ℕ, List, [], ◌++◌, All, length, refl, sym, ap, subst, ◌∙◌, arith}
-use Rattle.std.specs.List.{flat_map}
+use Rattle.std.{proofs.Common.{◌≡◌, ◌≤◌, ℕ, List, [], ◌++◌, All, length, refl, sym, ap, subst, ◌∙◌, arith}, specs.List.flat_map}
 use Rattle.npf_types.specs.declared.limits.TheConstants.{MAX_MAPS, MAX_PROCEDURES, MAX_RULES, MAX_TABLES}
 use Rattle.npf_faults.specs.declared.fault.ConfFault.{ConfFault}
 use Rattle.npf_faults.specs.declared.fault.Excess.TheVariants as Of
-use Rattle.npf_syntax.specs.declared.stmt.Stmt.{Stmt}
-use Rattle.npf_syntax.specs.declared.stmt.Tree.{Tree}
-use Rattle.npf_model.specs.declared.iface.Iface.{Iface}
-use Rattle.npf_model.specs.declared.model.Model.{Model}
-use Rattle.npf_model.specs.Verdict.{all_rules}
+use Rattle.npf_syntax.specs.declared.stmt.{Stmt.Stmt, Tree.Tree}
+use Rattle.npf_model.specs.{declared.{iface.Iface.Iface, model.Model.Model}, Verdict.all_rules}
 use Rattle.npf_expand_values.specs.Declarations.{declared_in, table_names}
-use Rattle.npf_expand.specs.Elaborates.{model_of}
-use Rattle.npf_expand.specs.Table.{tables_of}
-use Rattle.npf_check.specs.Default.{default_faults}
-use Rattle.npf_check.specs.Duplicate.{duplicate_faults}
-use Rattle.npf_check.specs.Fault.{check_faults}
-use Rattle.npf_check.specs.Limit.{limit_faults, past_faults}
-use Rattle.npf_check.specs.Map.{bad_map_faults}
-use Rattle.npf_check.specs.Unbuilt.{unbuilt_faults}
-use Rattle.npf_check.specs.Undefined.{undefined_procedure_faults, undefined_table_faults}
-use Rattle.npf_check.specs.WrittenRule.{faults_of_rules}
+use Rattle.npf_expand.specs.{Elaborates.model_of, Table.tables_of}
+use Rattle.npf_check.specs.{Default.default_faults, Duplicate.duplicate_faults, Fault.check_faults, Limit.{limit_faults, past_faults}, Map.bad_map_faults}
+use Rattle.npf_check.specs.{Unbuilt.unbuilt_faults, Undefined.{undefined_procedure_faults, undefined_table_faults}, WrittenRule.faults_of_rules}
 use Rattle.npf_ruleset.specs.Refusal.{IsBuildable}
-use Rattle.npf_config.specs.RulePlaces.{inspected_places}
-use Rattle.npf_config.specs.Tables.{HasTextName}
-use Rattle.npf_config.specs.Text.{Means}
+use Rattle.npf_config.specs.{RulePlaces.inspected_places, Tables.HasTextName, Text.Means}
 use Rattle.npf_config.proofs.CountLemmas.{inspected_limited, maps_placed, procedures_limited, rules_placed, tables_limited, within_places}
-use Rattle.npf_config.proofs.ModelLemmas.{groups_compilable}
-use Rattle.npf_config.proofs.NoneLemmas.{back, front}
-use Rattle.npf_config.proofs.TextNameLemmas.{tree_text}
+use Rattle.npf_config.proofs.{ModelLemmas.groups_compilable, NoneLemmas.{back, front}, TextNameLemmas.tree_text}
 
 module _ (tree : Tree) (model : Model) (none : check_faults tree model ≡ []) where
   -- the faults in front of the last kinds, one kind after another

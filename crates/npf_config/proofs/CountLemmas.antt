@@ -1,26 +1,16 @@
 -- How many rules, maps and tables a tree's model has, and where its rules stand.
-use Rattle.std.proofs.Common.{◌≡◌, ◌≤◌, ◌<◌, ◌+◌, ℕ, Option, Some, None, List, [], ◌∷◌, ◌++◌, length, get_or, map, refl, sym, ap, ◌∙◌, append-nil, arith, inl, inr, ◌⊎◌}
-use Rattle.std.specs.Prelude.{slice_get}
-use Rattle.std.specs.List.{flat_map}
-use Rattle.std.proofs.lemmas.Grind.{flat_map-append}
-use Rattle.std.proofs.lemmas.List.{length-append}
-use Rattle.std.proofs.lemmas.Option.{slice_get_cases}
+use Rattle.std.{proofs.Common.{◌≡◌, ◌≤◌, ◌+◌, ℕ, Option, List, [], ◌∷◌, ◌++◌, length, map, refl, ap, ◌∙◌, append-nil, arith}, specs.List.flat_map}
+use Rattle.std.proofs.lemmas.{Grind.flat_map-append, List.length-append, Option.slice_get_cases}
 use Rattle.npf_types.specs.declared.span.Span.{Span}
 use Rattle.npf_faults.specs.declared.fault.Excess.{Excess}
 use Rattle.npf_faults.specs.declared.fault.Excess.TheVariants as Of
 use Rattle.npf_syntax.specs.declared.group.GroupHead.TheVariants as Head
-use Rattle.npf_syntax.specs.declared.group.Item.{Item as WrittenItem}
-use Rattle.npf_syntax.specs.declared.group.Item.TheVariants as ItemIs
-use Rattle.npf_syntax.specs.declared.stmt.Stmt.{Stmt}
-use Rattle.npf_model.specs.declared.group.Group.{Group}
-use Rattle.npf_model.specs.declared.iface.Iface.{Iface}
-use Rattle.npf_model.specs.Verdict.{all_rules, rules_at, rules_of}
-use Rattle.npf_expand_values.specs.Atom.{Env}
-use Rattle.npf_expand_values.specs.Declarations.{Declared, table_name, table_names}
-use Rattle.npf_expand_values.specs.Variable.{Definition, env_of}
-use Rattle.npf_expand.specs.Elaborates.{behind, default_group, gathered, maps_of, named_group, procedures_of}
-use Rattle.npf_expand.specs.Group.{item_of_tree}
-use Rattle.npf_check.specs.Limit.{limited_places, past_faults, past_limit, rule_place}
+use Rattle.npf_syntax.specs.declared.{group.ItemTree.ItemTree as WrittenItem, stmt.Stmt.Stmt}
+use Rattle.npf_syntax.specs.declared.group.ItemTree.TheVariants as ItemIs
+use Rattle.npf_model.specs.{declared.{group.Group.Group, iface.Iface.Iface}, Verdict.{all_rules, rules_at, rules_of}}
+use Rattle.npf_expand_values.specs.{Atom.Env, Declarations.{Declared, table_name, table_names}, Variable.{Definition, env_of}}
+use Rattle.npf_expand.specs.{Elaborates.{behind, default_group, gathered, maps_of, named_group, procedures_of}, Group.item_of_tree}
+use Rattle.npf_check.{specs.Limit.{limited_places, past_faults, rule_place}, proofs.LimitLemmas.within_by}
 use Rattle.npf_config.specs.RulePlaces.{default_rule_places, inspected_places, named_rule_places}
 
 module _ (ifaces : List Iface) (declared : Declared) where
@@ -154,12 +144,6 @@ procedures_limited (stmt ∷ stmts) =
     let procedures = length-append (procedures_of stmt) (flat_map procedures_of stmts) in
     let spans = length-append (limited_places Of.Procedures stmt) (flat_map (limited_places Of.Procedures) stmts) in
     omega (arith, here, rest, procedures, spans)
-
-within_by : (quantity : Excess) (most : ℕ) (spans : List Span) → past_limit quantity most (slice_get spans most) ≡ []
-    → ((span : Span) × (most < length spans) × (slice_get spans most ≡ Some span) × (get_or spans most span ≡ span)) ⊎ ((length spans ≤ most) × (slice_get spans most ≡ None))
-    → length spans ≤ most
-within_by quantity most spans none (inl inside) = absurd (let past : past_limit quantity most (Some inside.0) ≡ [] = ap (past_limit quantity most) (sym inside.2) ∙ none in cc)
-within_by quantity most spans none (inr outside) = outside.0
 
 -- a kind of which none is past the limit has no more than it
 pub within_places : (quantity : Excess) (most : ℕ) (stmts : List Stmt) → past_faults quantity most stmts ≡ [] → length (flat_map (limited_places quantity) stmts) ≤ most

@@ -1,12 +1,10 @@
 -- The lists of a rule are as short as its compilation asks, where the elements that are counted of its filter keep the limit.
 use Rattle.std.proofs.Common.{◌≤◌, ℕ, Option, Some, None, List, arith}
 use Rattle.npf_types.specs.declared.limits.TheConstants.{MAX_LIST_ELEMENTS}
-use Rattle.npf_syntax.specs.declared.filter.Ends.{Ends as WrittenEnds}
-use Rattle.npf_syntax.specs.declared.filter.Ends.TheVariants as EndsAre
-use Rattle.npf_syntax.specs.declared.rule.RuleTree.{RuleTree}
+use Rattle.npf_syntax.specs.declared.{filter.EndsTree.EndsTree as WrittenEnds, rule.RuleTree.RuleTree}
+use Rattle.npf_syntax.specs.declared.filter.EndsTree.TheVariants as EndsAre
 use Rattle.npf_model.specs.declared.iface.Iface.{Iface}
-use Rattle.npf_expand_values.specs.Atom.{Env}
-use Rattle.npf_expand_values.specs.Declarations.{Declared}
+use Rattle.npf_expand_values.specs.{Atom.Env, Declarations.Declared}
 use Rattle.npf_expand.specs.Rule.{ends_count, ends_of_written, filter_count, rule_of_tree, source_ends, destination_ends}
 use Rattle.npf_expand.proofs.CountedLemmas.{addresses_few, part_few, ports_few}
 use Rattle.npf_bpfgen.specs.RuleWeight.{HasShortEnds, HasShortLists}

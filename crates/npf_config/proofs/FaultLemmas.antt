@@ -1,21 +1,14 @@
 -- Each stage that refuses a text refuses the configuration.
 use Rattle.std.proofs.Common.{◌≡◌, ℕ, Ok, Err, List, sym, subst}
 use Rattle.npf_types.specs.Reading.{IsOnly}
-use Rattle.npf_faults.specs.declared.fault.ConfFault.{ConfFault}
-use Rattle.npf_faults.specs.declared.fault.Fault.{Fault}
-use Rattle.npf_faults.specs.declared.fault.Fault.TheVariants.{Expected}
-use Rattle.npf_faults.specs.declared.fault.Refused.{Refused}
-use Rattle.npf_lexer.specs.declared.token.Token.{Token}
-use Rattle.npf_lexer.specs.Lexer.{IfFault, IsLexed}
+use Rattle.npf_faults.specs.declared.fault.{ConfFault.ConfFault, Fault.{Fault, TheVariants.Expected}, Refused.Refused}
+use Rattle.npf_lexer.specs.{declared.token.Token.Token, Lexer.{IfFault, IsLexed}}
 use Rattle.npf_syntax.specs.declared.stmt.Tree.{Tree}
-use Rattle.npf_parser.specs.Parse.{OnFault, HaltsAt}
-use Rattle.npf_parser.specs.Stmt.{file}
-use Rattle.npf_model.specs.declared.iface.Iface.{Iface}
-use Rattle.npf_model.specs.declared.model.Model.{Model}
+use Rattle.npf_parser.specs.{Parse.{OnFault, HaltsAt}, Stmt.file}
+use Rattle.npf_model.specs.declared.{iface.Iface.Iface, model.Model.Model}
 use Rattle.npf_expand.specs.Elaborates.{Elaborates, RefusesTree}
 use Rattle.npf_check.specs.Fault.{RefusedByFirst, check_faults}
-use Rattle.npf_config.specs.Stage.{IfConf, told_by}
-use Rattle.npf_config.specs.Text.{IsTreeOf, RefusesText, in_tokens, in_grammar, in_meaning, in_checks}
+use Rattle.npf_config.specs.{Stage.{IfConf, told_by}, Text.{IsTreeOf, RefusesText, in_tokens, in_grammar, in_meaning, in_checks}}
 
 module _ (ifaces : List Iface) (text : List ℕ) where
   pub tokens_refused : (refused : Refused) → IfFault (λ fault. IsOnly IsLexed text (Err fault)) refused → IfConf (RefusesText ifaces text) (told_by refused)

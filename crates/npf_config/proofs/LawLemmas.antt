@@ -2,13 +2,10 @@
 use Rattle.std.proofs.Common.{◌≡◌, ◌<◌, ℕ, Ok, Err, List, [], Contains, length, sym, ap, subst, ◌∙◌, arith}
 use Rattle.npf_types.specs.Reading.{IsOnly}
 use Rattle.npf_faults.specs.declared.fault.ConfFault.{ConfFault}
-use Rattle.npf_lexer.specs.declared.token.Token.{Token}
-use Rattle.npf_lexer.specs.Lexer.{IsLexed, Lexed}
+use Rattle.npf_lexer.specs.{declared.token.Token.Token, Lexer.{IsLexed, Lexed}}
 use Rattle.npf_syntax.specs.declared.stmt.Tree.{Tree}
-use Rattle.npf_parser.specs.Parse.{Parses}
-use Rattle.npf_parser.specs.Law.{OneTree, TreeOrHalt}
-use Rattle.npf_model.specs.declared.iface.Iface.{Iface}
-use Rattle.npf_model.specs.declared.model.Model.{Model}
+use Rattle.npf_parser.specs.{Parse.Parses, Law.{OneTree, TreeOrHalt}}
+use Rattle.npf_model.specs.declared.{iface.Iface.Iface, model.Model.Model}
 use Rattle.npf_expand.specs.Elaborates.{Elaborates, model_of, tree_faults}
 use Rattle.npf_check.specs.Fault.{check_faults}
 use Rattle.npf_config.specs.Text.{IsTreeOf, Means, RefusesText, in_tokens, in_grammar, in_meaning, in_checks}

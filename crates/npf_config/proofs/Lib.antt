@@ -7,6 +7,6 @@ mod LoadLemmas
 pub mod LoadedLemmas
 mod ModelLemmas
 mod NoneLemmas
-mod TableLemmas
+pub mod TableLemmas
 pub mod TableNameLemmas
 mod TextNameLemmas

@@ -1,19 +1,11 @@
 -- Each part of loading that stops refuses the configuration.
-use Rattle.std.proofs.Common.{◌≡◌, ℕ, Result, Ok, Err, List, refl, subst, sym}
-use Rattle.std.specs.Result.{IfErr}
+use Rattle.std.{proofs.Common.{◌≡◌, ℕ, Result, Ok, Err, List, refl, subst, sym}, specs.Result.IfErr}
 use Rattle.npf_syntax.specs.declared.stmt.Tree.{Tree}
-use Rattle.npf_model.specs.declared.iface.Iface.{Iface}
-use Rattle.npf_model.specs.declared.model.Model.{Model}
-use Rattle.npf_model.specs.declared.table.TableDecl.{TableDecl}
-use Rattle.npf_model.specs.Describes.{Tables}
+use Rattle.npf_model.specs.{declared.{iface.Iface.Iface, model.Model.Model, table.TableDecl.TableDecl}, Describes.Tables}
 use Rattle.npf_outside.specs.Files.{FilesMoment, SameReadFaults}
-use Rattle.npf_config.specs.declared.fault.LoadFault.{LoadFault}
+use Rattle.npf_config.specs.{declared.fault.LoadFault.LoadFault, Refusal.{RefusesLoad, RefusesRules, by_rules, by_tables, by_text}, Stage.IfConf}
 use Rattle.npf_config.specs.declared.fault.LoadFault.TheVariants as Load
-use Rattle.npf_config.specs.Refusal.{RefusesLoad, RefusesRules, by_rules, by_tables, by_text}
-use Rattle.npf_config.specs.Stage.{IfConf}
-use Rattle.npf_config.specs.TableSteps.{StopsAtTables}
-use Rattle.npf_config.specs.Tables.{AreFirstTables}
-use Rattle.npf_config.specs.Text.{Means, RefusesText}
+use Rattle.npf_config.specs.{TableSteps.StopsAtTables, Tables.AreFirstTables, Text.{Means, RefusesText}}
 
 module _ (ifaces : List Iface) (text : List ℕ) (before now : FilesMoment) where
   pub text_stops : SameReadFaults before now → (fault : LoadFault) → IfConf (RefusesText ifaces text) fault → RefusesLoad ifaces text before now fault

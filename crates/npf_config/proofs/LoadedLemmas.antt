@@ -1,38 +1,19 @@
 -- What is loaded can be changed: it has few tables, and each of its rulesets gives the number 1 next.
 use Rattle.std.proofs.Common.{◌≡◌, ◌≤◌, ℕ, Option, List, [], ◌∷◌, ◌++◌, All, get_or, length, map, refl, sym, ap, subst, ◌∙◌, arith}
-use Rattle.std.specs.Global.{Global, Vec}
-use Rattle.std.specs.List.{flat_map}
-use Rattle.std.specs.Arc.{arc_value}
-use Rattle.std.specs.declared.sync.Arc.{Arc}
-use Rattle.std.proofs.lemmas.List.{length-append, length-map}
+use Rattle.std.{specs.{Global.{Global, Vec}, List.flat_map, Arc.arc_value, declared.sync.Arc.Arc}, proofs.lemmas.List.{length-append, length-map}}
 use Rattle.std.proofs.lemmas.List.Elements.{All-append, All-cons, All-map, All-nil, All-weaker}
 use Rattle.npf_types.specs.declared.limits.TheConstants.{MAX_TABLES, MAX_TABLE_ENTRIES}
 use Rattle.npf_syntax.specs.declared.group.GroupHead.TheVariants as Head
-use Rattle.npf_syntax.specs.declared.group.Item.{Item as WrittenItem}
-use Rattle.npf_syntax.specs.declared.group.Item.TheVariants as ItemIs
-use Rattle.npf_syntax.specs.declared.stmt.Stmt.{Stmt}
-use Rattle.npf_syntax.specs.declared.stmt.Tree.{Tree}
-use Rattle.npf_model.specs.declared.group.Group.{Group}
-use Rattle.npf_model.specs.declared.group.Item.{Item}
-use Rattle.npf_model.specs.declared.group.Item.TheVariants.{One, Dynamic}
-use Rattle.npf_model.specs.declared.iface.Iface.{Iface}
-use Rattle.npf_model.specs.declared.model.Model.{Model}
+use Rattle.npf_syntax.specs.declared.{group.ItemTree.ItemTree as WrittenItem, stmt.{Stmt.Stmt, Tree.Tree}}
+use Rattle.npf_syntax.specs.declared.group.ItemTree.TheVariants as ItemIs
+use Rattle.npf_model.specs.declared.{group.{Group.Group, Item.{Item, TheVariants.{One, Dynamic}}}, iface.Iface.Iface, model.Model.Model}
 use Rattle.npf_model.specs.declared.table.TableDecl.{TableDecl}
-use Rattle.npf_expand_values.specs.Atom.{Env}
-use Rattle.npf_expand_values.specs.Declarations.{Declared, declared_in, table_name, table_names}
-use Rattle.npf_expand_values.specs.Variable.{Definition, env_of}
-use Rattle.npf_expand.specs.Elaborates.{behind, default_group, gathered, model_of, named_group}
-use Rattle.npf_expand.specs.Group.{group_of_tree, item_of_tree}
-use Rattle.npf_expand.specs.Table.{tables_of}
-use Rattle.npf_ruleset.specs.declared.config.Config.{Config}
-use Rattle.npf_ruleset.specs.Refusal.{HasTables}
-use Rattle.npf_ruleset.specs.Tables.{entries}
-use Rattle.npf_table.specs.declared.table.Table.{Table}
-use Rattle.npf_table.specs.Table.{kind_of}
+use Rattle.npf_expand_values.specs.{Atom.Env, Declarations.{Declared, declared_in, table_name, table_names}, Variable.{Definition, env_of}}
+use Rattle.npf_expand.specs.{Elaborates.{behind, default_group, gathered, model_of, named_group}, Group.{group_of_tree, item_of_tree}, Table.tables_of}
+use Rattle.npf_ruleset.specs.{declared.config.Config.Config, Refusal.HasTables, Tables.entries}
+use Rattle.npf_table.specs.{declared.table.Table.Table, Table.kind_of}
 use Rattle.npf_outside.specs.Files.{Tree as FileTree}
-use Rattle.npf_config.specs.Loaded.{HasNextIds, IsLoaded, IsNextWithin}
-use Rattle.npf_config.specs.Tables.{AreFirstTables, HaveKinds, entry_count}
-use Rattle.npf_config.specs.Text.{Means}
+use Rattle.npf_config.specs.{Loaded.{HasNextIds, IsLoaded, IsNextWithin}, Tables.{AreFirstTables, HaveKinds, entry_count}, Text.Means}
 use Rattle.npf_config.proofs.BuildableLemmas.{few_tables, limits_kept}
 
 abbrev GroupWithin : ℕ → Group → Type 0
@@ -50,7 +31,8 @@ module _ (ifaces : List Iface) (declared : Declared) where
   items_first env items = All-map (IsNextWithin 1) (item_of_tree ifaces env declared) items (λ k d below. item_first env (get_or items k d))
 
   named_first : (env : Env) (stmt : Stmt) → HaveFirstIds (named_group ifaces declared env stmt)
-  named_first env (Stmt.Group (Head.Named name dir on head) items span) = All-cons (GroupWithin 1) (group_of_tree ifaces env declared (Head.Named name dir on head) items) [] (items_first env items) (All-nil (GroupWithin 1))
+  named_first env (Stmt.Group (Head.Named name dir on head) items span) =
+      All-cons (GroupWithin 1) (group_of_tree ifaces env declared (Head.Named name dir on head) items) [] (items_first env items) (All-nil (GroupWithin 1))
   named_first env (Stmt.Group (Head.Default head) items span) = All-nil (GroupWithin 1)
   named_first env (Stmt.Define var values span) = All-nil (GroupWithin 1)
   named_first env (Stmt.Set name value span) = All-nil (GroupWithin 1)
@@ -60,7 +42,8 @@ module _ (ifaces : List Iface) (declared : Declared) where
   named_first env (Stmt.Procedure name calls span) = All-nil (GroupWithin 1)
 
   default_first : (env : Env) (stmt : Stmt) → HaveFirstIds (default_group ifaces declared env stmt)
-  default_first env (Stmt.Group (Head.Default head) items span) = All-cons (GroupWithin 1) (group_of_tree ifaces env declared (Head.Default head) items) [] (items_first env items) (All-nil (GroupWithin 1))
+  default_first env (Stmt.Group (Head.Default head) items span) =
+      All-cons (GroupWithin 1) (group_of_tree ifaces env declared (Head.Default head) items) [] (items_first env items) (All-nil (GroupWithin 1))
   default_first env (Stmt.Group (Head.Named name dir on head) items span) = All-nil (GroupWithin 1)
   default_first env (Stmt.Define var values span) = All-nil (GroupWithin 1)
   default_first env (Stmt.Set name value span) = All-nil (GroupWithin 1)
@@ -73,7 +56,8 @@ module _ (ifaces : List Iface) (declared : Declared) where
       → HaveFirstIds (gathered ifaces declared give older stmts)
   gathered_first give each older [] = All-nil (GroupWithin 1)
   gathered_first give each older (stmt ∷ stmts) =
-      All-append (GroupWithin 1) (give (env_of ifaces older) stmt) (gathered ifaces declared give (behind older stmt) stmts) (each (env_of ifaces older) stmt) (gathered_first give each (behind older stmt) stmts)
+      All-append (GroupWithin 1) (give (env_of ifaces older) stmt) (gathered ifaces declared give (behind older stmt) stmts)
+      (each (env_of ifaces older) stmt) (gathered_first give each (behind older stmt) stmts)
 
 one_declared : (stmt : Stmt) → length (tables_of stmt) ≡ length (table_name stmt)
 one_declared (Stmt.Table name kind file span) = refl
@@ -105,7 +89,8 @@ first_ids ifaces text tree model means =
 
 -- where the next numbers are at most one number they are at most a greater one
 pub more_ids : (one most : ℕ) → one ≤ most → (model : Model) → HasNextIds one model → HasNextIds most model
-more_ids one most less model within = All-weaker (GroupWithin one) (GroupWithin most) (λ (group : Group) items. All-weaker (IsNextWithin one) (IsNextWithin most) next_within group.items items) model.groups within
+more_ids one most less model within =
+    All-weaker (GroupWithin one) (GroupWithin most) (λ (group : Group) items. All-weaker (IsNextWithin one) (IsNextWithin most) next_within group.items items) model.groups within
   where
     next_within : (item : Item) → IsNextWithin one item → IsNextWithin most item
     next_within (One rule) next = tt

@@ -1,31 +1,18 @@
 -- The model of a tree without faults is one that can be compiled.
-use Rattle.std.proofs.Common.{◌≡◌, ◌≤◌, ◌<◌, ◌+◌, ℕ, Bool, Option, Some, None, List, [], ◌∷◌, ◌++◌, All, length, map, refl, arith}
-use Rattle.std.specs.List.{flat_map}
-use Rattle.std.proofs.lemmas.Grind.{flat_map-append}
-use Rattle.std.proofs.lemmas.List.Elements.{All-append, All-cons, All-nil}
-use Rattle.npf_types.specs.declared.limits.TheConstants.{MAX_LIST_ELEMENTS}
-use Rattle.npf_types.specs.declared.span.Span.{Span}
-use Rattle.npf_syntax.specs.declared.filter.Filter.{Filter}
-use Rattle.npf_syntax.specs.declared.group.GroupHead.{GroupHead}
+use Rattle.std.{proofs.Common.{◌≡◌, ◌≤◌, ◌<◌, ◌+◌, ℕ, Bool, Option, Some, None, List, [], ◌∷◌, ◌++◌, All, length, map, refl, arith}, specs.List.flat_map}
+use Rattle.std.proofs.lemmas.{Grind.flat_map-append, List.Elements.{All-append, All-cons, All-nil}}
+use Rattle.npf_types.specs.declared.{limits.TheConstants.MAX_LIST_ELEMENTS, span.Span.Span}
+use Rattle.npf_syntax.specs.declared.{filter.Filter.Filter, group.{GroupHead.GroupHead, ItemTree.ItemTree as WrittenItem}, stmt.Stmt.Stmt}
 use Rattle.npf_syntax.specs.declared.group.GroupHead.TheVariants as Head
-use Rattle.npf_syntax.specs.declared.group.Item.{Item as WrittenItem}
-use Rattle.npf_syntax.specs.declared.group.Item.TheVariants as ItemIs
-use Rattle.npf_syntax.specs.declared.stmt.Stmt.{Stmt}
-use Rattle.npf_model.specs.declared.group.Group.{Group}
-use Rattle.npf_model.specs.declared.iface.Iface.{Iface}
-use Rattle.npf_model.specs.Verdict.{PlacedRule, all_rules, rules_at, rules_of}
-use Rattle.npf_expand_values.specs.Atom.{Env}
-use Rattle.npf_expand_values.specs.Declarations.{declared_in, table_names}
-use Rattle.npf_expand_values.specs.Variable.{Definition, env_of}
+use Rattle.npf_syntax.specs.declared.group.ItemTree.TheVariants as ItemIs
+use Rattle.npf_model.specs.{declared.{group.Group.Group, iface.Iface.Iface}, Verdict.{PlacedRule, all_rules, rules_at, rules_of}}
+use Rattle.npf_expand_values.specs.{Atom.Env, Declarations.{declared_in, table_names}, Variable.{Definition, env_of}}
 use Rattle.npf_expand.specs.Elaborates.{behind, default_group, filter_elements, gathered, named_group, stmt_elements, stmt_faults, stmts_faults}
-use Rattle.npf_expand.specs.Group.{head_faults, item_elements, item_faults, item_of_tree, items_elements, items_faults}
-use Rattle.npf_expand.specs.Map.{map_faults}
-use Rattle.npf_expand.specs.Rule.{filter_count, passing_faults, rule_faults, rule_of_tree}
+use Rattle.npf_expand.specs.{Group.{head_faults, item_elements, item_faults, item_of_tree, items_elements, items_faults}, Map.map_faults}
+use Rattle.npf_expand.{specs.Rule.{filter_count, passing_faults, rule_faults, rule_of_tree}, proofs.CountedLemmas.within_limit}
 use Rattle.npf_check.specs.Undefined.{is_table_in, tables_of_item, tables_of_stmt, tables_of_where}
 use Rattle.npf_ruleset.specs.Refusal.{IsCompilable}
-use Rattle.npf_config.proofs.ElementLemmas.{rule_short}
-use Rattle.npf_expand.proofs.CountedLemmas.{within_limit}
-use Rattle.npf_config.proofs.NoneLemmas.{back, front}
+use Rattle.npf_config.proofs.{ElementLemmas.rule_short, NoneLemmas.{back, front}}
 use Rattle.npf_config.proofs.TableNameLemmas.{AreDefined, NamesDefined, env_defined, given_is_named, rule_numbers}
 
 -- `all` are the statements of the whole text, `stmts` those that are left
@@ -41,7 +28,10 @@ module _ (all : List Stmt) (few : length (table_names all) ≤ 64) (ifaces : Lis
         let passes : counted + count ≤ MAX_LIST_ELEMENTS = within_limit counted count rule.span (back (rule_faults ifaces env rule) (passing_faults counted count rule.span) none) within in
         let placed : PlacedRule = record { within_dir = None; within_on = None; rule = rule_of_tree ifaces env (declared_in all) rule } in
         All-cons IsCompilable placed []
-        (record { lists = rule_short ifaces env (declared_in all) rule (omega arith); tables = rule_numbers (table_names all) (is_table_in all) (given_is_named all) few ifaces env names (declared_in all) refl rule tables })
+        (record {
+          lists = rule_short ifaces env (declared_in all) rule (omega arith);
+          tables = rule_numbers (table_names all) (is_table_in all) (given_is_named all) few ifaces env names (declared_in all) refl rule tables;
+        })
         (All-nil IsCompilable)
     item_compilable counted (ItemIs.Ruleset name dir on span) within none tables = All-nil IsCompilable
 
@@ -52,7 +42,8 @@ module _ (all : List Stmt) (few : length (table_names all) ≤ 64) (ifaces : Lis
         within_limit counted count rule.span (back (rule_faults ifaces env rule) (passing_faults counted count rule.span) none) within
     item_within counted (ItemIs.Ruleset name dir on span) within none = omega arith
 
-    pub items_compilable : (counted : ℕ) (items : List WrittenItem) → counted ≤ MAX_LIST_ELEMENTS → items_faults ifaces env (declared_in all) counted items ≡ [] → flat_map (tables_of_item is_defined) items ≡ []
+    pub items_compilable : (counted : ℕ) (items : List WrittenItem) → counted ≤ MAX_LIST_ELEMENTS →
+        items_faults ifaces env (declared_in all) counted items ≡ [] → flat_map (tables_of_item is_defined) items ≡ []
         → All IsCompilable (flat_map rules_at (map (item_of_tree ifaces env (declared_in all)) items))
     items_compilable counted [] within none tables = All-nil IsCompilable
     items_compilable counted (item ∷ items) within none tables =
@@ -124,7 +115,8 @@ module _ (all : List Stmt) (few : length (table_names all) ≤ 64) (ifaces : Lis
     default_compilable counted (Stmt.Map iface kind proto left arrow right pass span) within none tables = All-nil IsCompilable
     default_compilable counted (Stmt.Procedure name calls span) within none tables = All-nil IsCompilable
 
-  behind_defined : (older : List Definition) (stmt : Stmt) → AreDefined (table_names all) (is_table_in all) (given_is_named all) few ifaces older → tables_of_stmt is_defined stmt ≡ [] → AreDefined (table_names all) (is_table_in all) (given_is_named all) few ifaces (behind older stmt)
+  behind_defined : (older : List Definition) (stmt : Stmt) → AreDefined (table_names all) (is_table_in all) (given_is_named all) few ifaces older →
+      tables_of_stmt is_defined stmt ≡ [] → AreDefined (table_names all) (is_table_in all) (given_is_named all) few ifaces (behind older stmt)
   behind_defined older (Stmt.Define var values span) are none = (none, are)
   behind_defined older (Stmt.Group head items span) are none = are
   behind_defined older (Stmt.Set name value span) are none = are

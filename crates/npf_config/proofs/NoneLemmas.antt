@@ -1,7 +1,5 @@
 -- Lists of faults that have none, and what holds of each of gathered items.
-use Rattle.std.proofs.Common.{◌≡◌, List, [], ◌∷◌, ◌++◌, All, refl}
-use Rattle.std.specs.List.{flat_map}
-use Rattle.std.proofs.lemmas.List.Elements.{All-append, All-head, All-nil, All-tail}
+use Rattle.std.{proofs.{Common.{◌≡◌, List, [], ◌∷◌, ◌++◌, All, refl}, lemmas.List.Elements.{All-append, All-head, All-nil, All-tail}}, specs.List.flat_map}
 
 module _ {X : Type 0} where
   pub front : (xs ys : List X) → xs ++ ys ≡ [] → xs ≡ []

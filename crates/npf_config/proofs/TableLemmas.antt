@@ -1,23 +1,16 @@
 -- What is read of tables so far, and where reading them stops.
 use Rattle.std.proofs.Common.{◌≡◌, ◌≢◌, ◌≤◌, ◌<◌, ◌+◌, ℕ, Option, Some, None, List, [], ◌∷◌, ◌++◌, length, get_or, map, take, drop, refl, sym, ap, subst, ◌∙◌, arith}
-use Rattle.std.specs.List.{AllPairs, AllZip}
-use Rattle.std.specs.declared.sync.Arc.{Arc}
-use Rattle.std.specs.Arc.{arc_value}
-use Rattle.std.proofs.lemmas.List.{drop_more, map-append, take-append-drop, take_more}
+use Rattle.std.{specs.{List.{AllPairs, AllZip}, declared.sync.Arc.Arc, Arc.arc_value}, proofs.lemmas.List.{drop_more, map-append, take-append-drop, take_more}}
 use Rattle.std.proofs.lemmas.List.Sums.{sum_by_push}
 use Rattle.npf_types.specs.declared.limits.TheConstants.{MAX_TABLE_ENTRIES, MAX_TEXT_BYTES}
+use Rattle.npf_shelf.proofs.ListLemmas.{AllZip-push_two}
 use Rattle.npf_model.specs.declared.table.TableDecl.{TableDecl}
-use Rattle.npf_table.specs.declared.table.Table.{Table}
-use Rattle.npf_table.specs.Table.{kind_of, prefixes}
-use Rattle.npf_outside.specs.declared.files.FileFault.{FileFault}
-use Rattle.npf_outside.specs.declared.files.FileFault.TheVariants.{Failed, Long, NoMemory}
+use Rattle.npf_table.specs.{declared.table.Table.Table, Table.{kind_of, prefixes}}
+use Rattle.npf_outside.specs.declared.files.FileFault.{FileFault, TheVariants.{Failed, Long, NoMemory}}
 use Rattle.npf_outside.specs.Files.{FilesMoment, IsLonger, SameReadFaults, Tree as FileTree}
 use Rattle.npf_ruleset.specs.Tables.{entries}
-use Rattle.npf_ruleset.proofs.PairLemmas.{zip_append}
-use Rattle.npf_config.specs.declared.fault.LoadFault.{LoadFault}
+use Rattle.npf_config.specs.{declared.fault.LoadFault.LoadFault, Reading.{ComesTo, IsUnread, OnlyReads}, Refusal.{IsPastLimit, bad_line, too_many}}
 use Rattle.npf_config.specs.declared.fault.LoadFault.TheVariants as Load
-use Rattle.npf_config.specs.Reading.{ComesTo, IsUnread, OnlyReads}
-use Rattle.npf_config.specs.Refusal.{IsPastLimit, bad_line, too_many}
 use Rattle.npf_config.specs.TableSteps.{IsReadTable, StopsAtLimit, StopsAtTable, StopsAtTables}
 use Rattle.npf_config.specs.Tables.{AreFirstEntries, AreFirstTables, HaveKinds, IsTableText, declared_kinds, entry_count}
 
@@ -60,9 +53,6 @@ unread_before before now last name Long reads unread =
     (subst (λ (contents : Option FileTree). IsLonger contents name MAX_TEXT_BYTES now.taken last.taken) reads.contents unread)
 unread_before before now last name NoMemory reads unread = absurd unread
 
-pub pairs_push : {X Y : Type 0} (Rel : X → Y → Type 0) (xs : List X) (ys : List Y) (x : X) (y : Y) → AllZip Rel xs ys → Rel x y → AllZip Rel (xs ++ x ∷ []) (ys ++ y ∷ [])
-pairs_push Rel xs ys x y pairs one = zip_append Rel xs (x ∷ []) ys (y ∷ []) pairs (one, tt)
-
 -- these tables were read of these declarations, with so many entries
 pub record ReadSoFar {Z : Type 0} (first now : FilesMoment) (decls : List TableDecl) (tables : List (Arc Table Z)) (count : ℕ) : Type 0 where
   pub read : AreFirstTables first.contents decls (entries tables)
@@ -101,7 +91,7 @@ module _ {Z : Type 0} (first now next : FilesMoment) (decls : List TableDecl) (d
       record {
         read = record {
           each = subst (AllZip (AreFirstEntries first.contents) (decls ++ decl ∷ [])) (sym split)
-              (pairs_push (AreFirstEntries first.contents) decls (entries tables) decl (prefixes (arc_value more)) so_far.read.each (first_entries (arc_value more) is once));
+              (AllZip-push_two (AreFirstEntries first.contents) decls (entries tables) decl (prefixes (arc_value more)) so_far.read.each (first_entries (arc_value more) is once));
           few = omega arith;
         };
         kinds = ap (map kind_of) (map-append arc_value tables (more ∷ [])) ∙ map-append kind_of (map arc_value tables) (arc_value more ∷ [])

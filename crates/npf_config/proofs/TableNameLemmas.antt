@@ -1,37 +1,21 @@
 -- The tables that rules name are defined, also where they come through variables, so their numbers are small.
-use Rattle.std.proofs.Common.{◌≡◌, ◌≤◌, ◌<◌, ◌+◌, ◌^◌, ℕ, suc, Bool, true, false, not, ◌||◌, if◌then◌else◌, min, unwrap_or, Option, Some, None, List, [], ◌∷◌, ◌++◌, All, length, map, refl, sym, ap, subst, ◌∙◌, append-nil, arith}
-use Rattle.std.specs.List.{flat_map, list_any}
-use Rattle.std.specs.Str.{bytes_eq}
-use Rattle.std.specs.Bool.{one_answer}
-use Rattle.std.proofs.lemmas.Slice.Eq.{bytes_eq-Decides}
-use Rattle.std.proofs.lemmas.List.Elements.{All-append, All-cons, All-head, All-map, All-nil, All-tail}
-use Rattle.npf_types.specs.Address.{width}
-use Rattle.npf_types.specs.Block.{block}
-use Rattle.npf_faults.specs.declared.fault.ConfFault.{ConfFault}
-use Rattle.npf_faults.specs.declared.fault.Fault.TheVariants.{UnknownTable}
-use Rattle.npf_syntax.specs.declared.filter.Addresses.{Addresses}
+use Rattle.std.proofs.Common.{◌≡◌, ◌≤◌, ◌<◌, ◌+◌, ◌^◌, ℕ, suc, Bool, true, false, not, ◌||◌, if◌then◌else◌, min, unwrap_or, Option, Some, None, List}
+use Rattle.std.{proofs.Common.{[], ◌∷◌, ◌++◌, All, length, map, refl, sym, ap, subst, ◌∙◌, append-nil, arith}, specs.{List.{flat_map, list_any}, Str.bytes_eq}}
+use Rattle.std.{specs.Bool.one_answer, proofs.lemmas.{Slice.Eq.bytes_eq-Decides, List.Elements.{All-append, All-cons, All-head, All-map, All-nil, All-tail}}}
+use Rattle.npf_types.specs.{Address.width, Block.block}
+use Rattle.npf_faults.specs.declared.fault.{ConfFault.ConfFault, Fault.TheVariants.UnknownTable}
+use Rattle.npf_syntax.specs.declared.{filter.{Addresses.Addresses, EndsTree.EndsTree as WrittenEnds, Where.Where}, rule.RuleTree.RuleTree, stmt.Stmt.Stmt}
 use Rattle.npf_syntax.specs.declared.filter.Addresses.TheVariants as Written
-use Rattle.npf_syntax.specs.declared.filter.Ends.{Ends as WrittenEnds}
-use Rattle.npf_syntax.specs.declared.filter.Ends.TheVariants as EndsAre
-use Rattle.npf_syntax.specs.declared.filter.Where.{Where}
-use Rattle.npf_syntax.specs.declared.rule.RuleTree.{RuleTree}
-use Rattle.npf_syntax.specs.declared.stmt.Stmt.{Stmt}
-use Rattle.npf_syntax.specs.declared.value.Value.{Value}
-use Rattle.npf_syntax.specs.declared.value.Values.{Values}
-use Rattle.npf_syntax.specs.declared.word.Number.{Number}
-use Rattle.npf_model.specs.declared.ends.AddrItem.TheVariants.{Net, InTable}
-use Rattle.npf_model.specs.declared.iface.Iface.{Iface}
-use Rattle.npf_model.specs.Verdict.{first_where}
+use Rattle.npf_syntax.specs.declared.filter.EndsTree.TheVariants as EndsAre
+use Rattle.npf_syntax.specs.declared.{value.{Value.Value, Values.Values}, word.Number.Number}
+use Rattle.npf_model.specs.{declared.{ends.AddrItem.TheVariants.{Net, InTable}, iface.Iface.Iface}, Verdict.first_where}
 use Rattle.npf_expand_values.specs.Address.{address_items, host_item, items_of}
 use Rattle.npf_expand_values.specs.Atom.{Atom, NumberAtom, RangeAtom, WordAtom, StringAtom, BlockAtom, TableAtom, AddressesAtom, Binding, Env}
-use Rattle.npf_expand_values.specs.Declarations.{Declared, no_number, table_names, table_number}
-use Rattle.npf_expand_values.specs.Iface.{addresses_of, iface_name}
-use Rattle.npf_expand_values.specs.Use.{atoms_of}
+use Rattle.npf_expand_values.specs.{Declarations.{Declared, no_number, table_names, table_number}, Iface.{addresses_of, iface_name}, Use.atoms_of}
 use Rattle.npf_expand_values.specs.Variable.{Definition, binding_of, defined, definition_faults, env_of, length_of_block, listed_values, number_atom, spliced, unless_refused}
-use Rattle.npf_expand.specs.Rule.{ends_of_written, rule_of_tree, source_ends, destination_ends}
+use Rattle.npf_expand.{specs.Rule.{ends_of_written, rule_of_tree, source_ends, destination_ends}, proofs.ElementLemmas.untold}
 use Rattle.npf_check.specs.Undefined.{is_table_in, table_faults, tables_of_addresses, tables_of_ends, tables_of_target, tables_of_values, tables_of_where}
 use Rattle.npf_bpfgen.specs.Condition.{HasItemNumber, HasItemNumbers, HasTableNumbers}
-use Rattle.npf_expand.proofs.ElementLemmas.{untold}
 use Rattle.npf_config.proofs.NoneLemmas.{back, front}
 
 -- a place that is found among names
@@ -46,7 +30,7 @@ found_one true there rest n len later same any find = record { place = n; is = r
 found_one false true rest n len later same any find = cc
 found_one false false rest n len later same any find = let found = find any in record { place = found.place; is = found.is; below = let below = found.below in omega arith }
 
-bytes_eq-symm : (one other : List ℕ) → bytes_eq one other ≡ bytes_eq other one
+pub bytes_eq-symm : (one other : List ℕ) → bytes_eq one other ≡ bytes_eq other one
 bytes_eq-symm one other =
     let back = bytes_eq-Decides other one in
     one_answer (bytes_eq one other) (bytes_eq other one) (bytes_eq-Decides one other) ((λ is. sym (back.0 is)), (λ same. back.1 (sym same)))

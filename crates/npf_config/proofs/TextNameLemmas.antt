@@ -1,19 +1,12 @@
 -- The name of a table's file is text.
-use Rattle.std.proofs.Common.{◌≡◌, Bool, true, false, Option, Some, None, List, [], ◌∷◌, ◌++◌, All, codes, refl, sym, ap, subst, ◌∙◌}
-use Rattle.std.specs.Bool.{⊤}
-use Rattle.std.specs.Option.{IfSome, option_map}
-use Rattle.std.specs.List.{flat_map}
-use Rattle.std.specs.Str.{IsUtf8}
-use Rattle.std.proofs.lemmas.List.Elements.{All-append, All-cons, All-nil}
+use Rattle.std.{proofs.Common.{◌≡◌, Option, Some, None, List, [], ◌∷◌, ◌++◌, All, codes, refl, sym, ap, subst, ◌∙◌}, specs.Bool.⊤}
+use Rattle.std.{specs.{Option.{IfSome, option_map}, List.flat_map, Str.IsUtf8}, proofs.lemmas.List.Elements.{All-append, All-cons, All-nil}}
 use Rattle.std.proofs.lemmas.Str.{IsUtf8-from_is_utf8}
 use Rattle.npf_lexer.specs.declared.token.Token.{Token}
-use Rattle.npf_syntax.specs.declared.stmt.Stmt.{Stmt}
-use Rattle.npf_syntax.specs.declared.stmt.Tree.{Tree}
-use Rattle.npf_syntax.specs.declared.word.Str.{Str}
-use Rattle.npf_phrase.specs.Phrase.{chosen, are_items}
-use Rattle.npf_phrase.specs.Grammar.{Grammar, meaning, making, ◌or◌, optional, preceded, unless, those_there}
-use Rattle.npf_parser.specs.Parse.{Parses}
-use Rattle.npf_parser.specs.Stmt.{define, set, alg, table, map, group, procedure, stmt, stmts, ends_stmt, file}
+use Rattle.npf_syntax.specs.declared.{stmt.{Stmt.Stmt, Tree.Tree}, word.Str.Str}
+use Rattle.npf_phrase.specs.{Phrase.are_items, Grammar.{Grammar, meaning, making, ◌or◌, optional, preceded, unless, those_there}}
+use Rattle.npf_phrase.proofs.ReadingLemmas.{by_choice}
+use Rattle.npf_parser.specs.{Parse.Parses, Stmt.{define, set, alg, table, map, group, procedure, stmt, stmts, ends_stmt, file}}
 use Rattle.npf_parser_values.specs.Token.{quoted, separator, text_string}
 use Rattle.npf_expand.specs.Table.{tables_of}
 use Rattle.npf_config.specs.Tables.{HasTextName}
@@ -25,10 +18,6 @@ HasTextNames s = All HasTextName (tables_of s)
 -- so they are of each statement that the grammar means
 abbrev MeansText : Grammar Token Stmt → Type 0
 MeansText g = (ts : List Token) (s : Stmt) (n : Option Token) → (meaning g).Is ts s n → HasTextNames s
-
-by_choice : (b : Bool) (P Q G : Type 0) → (P → G) → (Q → G) → chosen b P Q → G
-by_choice true P Q G one other is = one is
-by_choice false P Q G one other is = other is
 
 either_text : (g h : Grammar Token Stmt) → MeansText g → MeansText h → MeansText (g or h)
 either_text g h one other ts s n = by_choice _ ((meaning g).Is ts s n) ((meaning h).Is ts s n) (HasTextNames s) (one ts s n) (other ts s n)

@@ -11,11 +11,11 @@
 
 mod fault;
 pub mod laws;
-mod loading;
+mod loads;
 mod rule_places;
 mod rules;
 mod tables;
 mod text;
 
 pub use fault::LoadFault;
-pub use loading::{load, load_placed};
+pub use loads::{load, load_placed};

@@ -4,7 +4,7 @@ ghost use Rattle.std.specs.List.{flat_map};
 ghost use Rattle.npf_check.specs.Limit.{rule_place};
 ghost use Rattle.npf_config.specs.RulePlaces.{default_rule_places, inspected_places, named_rule_places};
 
-use npf_syntax::{GroupHead, Item, Stmt};
+use npf_syntax::{GroupHead, ItemTree, Stmt};
 use npf_types::{NoMemory, Span};
 use std::alloc::Global;
 
@@ -47,13 +47,13 @@ fn add_default(places: &mut Vec<Span>, stmt: &Stmt) -> Result<(), NoMemory>
     }
 }
 
-fn add_items(places: &mut Vec<Span>, items: &[Item]) -> Result<(), NoMemory>
+fn add_items(places: &mut Vec<Span>, items: &[ItemTree]) -> Result<(), NoMemory>
     ensures { OnOk result (places.new.items ≡ places.old.items ++ flat_map rule_place items.now) }
 {
     for item in items {
         match item {
-            Item::Rule { rule, .. } => places.push(rule.span)?,
-            Item::Ruleset { .. } => {}
+            ItemTree::Rule { rule, .. } => places.push(rule.span)?,
+            ItemTree::Ruleset { .. } => {}
         }
     }
     Ok(())

@@ -1,44 +1,22 @@
 -- A rule that is added: what it means can be compiled, and the limits are kept or passed.
 use Rattle.std.proofs.Common.{ap, ◌≡◌, ◌≤◌, ◌<◌, ◌+◌, ℕ, Bool, true, false, Result, Ok, Err, List, [], ◌∷◌, ◌++◌, All, length, refl, sym, subst, arith}
-use Rattle.std.specs.Prelude.{if◌then◌else◌}
-use Rattle.std.specs.Result.{IfErr, IfOk}
-use Rattle.std.proofs.lemmas.List.{length-map}
-use Rattle.std.proofs.lemmas.List.Elements.{All-map, All-weaker}
-use Rattle.npf_types.specs.declared.limits.TheConstants.{MAX_INSTRUCTIONS, MAX_LIST_ELEMENTS, MAX_RULES, MAX_RULE_WEIGHT}
-use Rattle.npf_types.specs.declared.name.Name.{Name}
-use Rattle.npf_types.specs.declared.span.Span.{Span}
-use Rattle.npf_types.specs.Name.{name_bytes}
+use Rattle.std.{specs.{Prelude.if◌then◌else◌, Result.{IfErr, IfOk}}, proofs.lemmas.List.{length-map, Elements.{All-map, All-weaker}}}
+use Rattle.npf_types.specs.declared.{limits.TheConstants.{MAX_INSTRUCTIONS, MAX_LIST_ELEMENTS, MAX_RULES, MAX_RULE_WEIGHT}, name.Name.Name, span.Span.Span}
+use Rattle.npf_types.specs.{Name.name_bytes, Stages.{goes_on, stops}}
 use Rattle.npf_faults.specs.declared.fault.Excess.TheVariants.{Rules, Elements, Weight, Instructions}
 use Rattle.npf_syntax.specs.declared.rule.RuleTree.{RuleTree}
-use Rattle.npf_model.specs.declared.group.Group.{Group}
-use Rattle.npf_model.specs.declared.group.Item.{Item}
-use Rattle.npf_model.specs.declared.group.Item.TheVariants.{One, Dynamic}
-use Rattle.npf_model.specs.declared.iface.Iface.{Iface}
-use Rattle.npf_model.specs.declared.model.Model.{Model}
-use Rattle.npf_model.specs.declared.rule.Rule.{Rule}
-use Rattle.npf_model.specs.declared.table.TableDecl.{TableDecl}
-use Rattle.npf_model.specs.Verdict.{PlacedRule, all_rules}
+use Rattle.npf_model.specs.declared.{group.{Group.Group, Item.{Item, TheVariants.{One, Dynamic}}}, iface.Iface.Iface, model.Model.Model, rule.Rule.Rule}
+use Rattle.npf_model.specs.{declared.table.TableDecl.TableDecl, Verdict.{PlacedRule, all_rules}}
 use Rattle.npf_bpf.specs.declared.insn.Insn.{Insn}
-use Rattle.npf_bpfgen.specs.Condition.{HasTableNumbers}
-use Rattle.npf_bpfgen.specs.RuleWeight.{HasShortLists, weight_of}
-use Rattle.npf_expand_values.specs.Source.{declared_of}
-use Rattle.npf_expand_values.specs.Variable.{env_of}
-use Rattle.npf_check.specs.LoneRule.{unknown_applied, unknown_in_where}
-use Rattle.npf_check.specs.WrittenRule.{faults_of_rule}
-use Rattle.npf_types.specs.Stages.{goes_on, stops}
-use Rattle.npf_ruleset.specs.declared.config.Config.{Config}
-use Rattle.npf_ruleset.specs.Flat.{IsCompiled, instructions, instructions_of}
-use Rattle.npf_ruleset.specs.Refusal.{AreProgramsOf}
+use Rattle.npf_bpfgen.specs.{Condition.HasTableNumbers, RuleWeight.{HasShortLists, weight_of}}
+use Rattle.npf_expand_values.specs.{Source.declared_of, Variable.env_of}
+use Rattle.npf_check.specs.{LoneRule.{unknown_applied, unknown_in_where}, WrittenRule.faults_of_rule}
+use Rattle.npf_ruleset.specs.{declared.config.Config.Config, Flat.{IsCompiled, instructions, instructions_of}, Refusal.AreProgramsOf}
 use Rattle.npf_ruleset.proofs.CompileLemmas.{instructions_counted}
-use Rattle.npf_config.specs.Loaded.{HasNextIds, IsNextWithin}
-use Rattle.npf_config.proofs.TableNameLemmas.{env_defined, rule_numbers}
-use Rattle.npf_config_changes.specs.declared.fault.ChangeFault.{ChangeFault}
-use Rattle.npf_config_changes.specs.Additions.{KeepsCounts, KeepsLimits, MeansRule, meant}
-use Rattle.npf_config_changes.specs.Elements.{model_elements}
-use Rattle.npf_config_changes.specs.Kept.{Serves}
-use Rattle.npf_config_changes.specs.Rulesets.{are_one_name, group_with_ruleset, item_with_ruleset, model_with_ruleset, with_rule_added}
-use Rattle.npf_config_changes.specs.Told.{EndsUnlessMemory, too_many}
-use Rattle.npf_config_changes.proofs.AskLemmas.{keeps_limit, passes_limit}
+use Rattle.npf_config.{specs.Loaded.{HasNextIds, IsNextWithin}, proofs.TableNameLemmas.{env_defined, rule_numbers}}
+use Rattle.npf_config_changes.specs.{declared.fault.ChangeFault.ChangeFault, Additions.{KeepsCounts, KeepsLimits, MeansRule, meant}, Elements.model_elements}
+use Rattle.npf_config_changes.specs.{Kept.Serves, Rulesets.{are_one_name, group_with_ruleset, item_with_ruleset, model_with_ruleset, with_rule_added}}
+use Rattle.npf_config_changes.{specs.Told.{EndsUnlessMemory, too_many}, proofs.AskLemmas.{keeps_limit, passes_limit}}
 use Rattle.npf_config_changes.proofs.LoneLemmas.{front, is_among, where_named}
 
 -- the tables of a rule without faults are the configuration's

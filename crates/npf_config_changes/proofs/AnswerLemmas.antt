@@ -1,27 +1,17 @@
 -- A rule is added in one way.
-use Rattle.std.proofs.Common.{◌≡◌, ◌<◌, ℕ, inl, inr, Result, Ok, Err, List, [], Contains, length, sym, ap, subst, ◌∙◌, arith}
-use Rattle.npf_types.specs.Reading.{IsOnly}
-use Rattle.npf_types.specs.declared.span.Span.{Span}
-use Rattle.npf_types.specs.Stages.{Stage, ◌andthen◌, gives, goes_on, stops}
-use Rattle.npf_faults.specs.declared.fault.ConfFault.{ConfFault}
-use Rattle.npf_lexer.specs.declared.token.Token.{Token}
-use Rattle.npf_lexer.specs.Lexer.{IsLexed, Lexed}
+use Rattle.std.proofs.Common.{◌≡◌, ℕ, inl, inr, Result, Ok, Err, List, sym, ap, subst, ◌∙◌, arith}
+use Rattle.npf_types.specs.{Reading.IsOnly, declared.span.Span.Span, Stages.{Stage, ◌andthen◌, gives, goes_on, stops}}
+use Rattle.npf_faults.{specs.{declared.fault.ConfFault.ConfFault, First.{IsFirstFaultOf, NotBefore}}, proofs.FirstLemmas.{not_before, no_first}}
+use Rattle.npf_lexer.specs.{declared.token.Token.Token, Lexer.{IsLexed, Lexed}}
 use Rattle.npf_syntax.specs.declared.rule.RuleTree.{RuleTree}
-use Rattle.npf_parser.specs.Parse.{Means as Parses, HaltsAt}
-use Rattle.npf_parser.specs.Stmt.{lone_rule}
-use Rattle.npf_parser.proofs.LineLemmas.{lone_rule_advances}
+use Rattle.npf_parser.{specs.{Parse.{Means as Parses, HaltsAt}, Stmt.lone_rule}, proofs.LineLemmas.lone_rule_advances}
 use Rattle.npf_parser.proofs.ParseLemmas.{not_both, one_place, one_thing}
-use Rattle.npf_faults.specs.First.{IsFirstFaultOf, NotBefore}
-use Rattle.npf_model.specs.declared.iface.Iface.{Iface}
-use Rattle.npf_model.specs.declared.model.Model.{Model}
-use Rattle.npf_model.specs.declared.rule.Rule.{Rule}
+use Rattle.npf_model.specs.declared.{iface.Iface.Iface, model.Model.Model, rule.Rule.Rule}
 use Rattle.npf_check.specs.LoneRule.{lone_faults}
-use Rattle.npf_config_changes.specs.declared.fault.ChangeFault.{ChangeFault}
-use Rattle.npf_config_changes.specs.declared.fault.ChangeFault.TheVariants.{Conf}
+use Rattle.npf_config_changes.specs.declared.fault.ChangeFault.{ChangeFault, TheVariants.Conf}
 use Rattle.npf_config_changes.specs.Additions.{KeepsLimits, MeansRule, ReadsRule, in_checks, in_grammar, in_meaning, in_tokens, meant, written}
 use Rattle.npf_config_changes.specs.ChangeLaws.{AreOneAnswer, AreToldAlike, HasOneResult, OneAddition, alike, equal}
-use Rattle.npf_config_changes.specs.Changes.{FindsRuleset, found_ruleset, with_ruleset}
-use Rattle.npf_config_changes.specs.Rulesets.{rulesets_named, with_rule_added}
+use Rattle.npf_config_changes.specs.{Changes.{FindsRuleset, found_ruleset, with_ruleset}, Rulesets.{rulesets_named, with_rule_added}}
 use Rattle.npf_config_changes.proofs.LawLemmas.{one_after, one_told}
 
 -- a text has one tree or one fault
@@ -49,16 +39,6 @@ one_reading text one two (in_grammar {tokens = ts} {span = span} is halts) (writ
 one_reading text one two (in_grammar {tokens = ts} is _) (in_tokens {fault = g} other) = let same = one_lexed text (Ok ts) (Err g) is other in cc
 one_reading text one two (in_grammar {tokens = ts} {span = p} is halts) (in_grammar {tokens = us} {span = q} other there) =
     let same = one_place lone_rule lone_rule_advances ts p q halts (along text ts us is other (λ ts. HaltsAt lone_rule ts q) there) in cc
-
--- first faults of one list stand at one place and have one number
-no_first : (faults : List ConfFault) (fault : ConfFault) → faults ≡ [] → ¬ IsFirstFaultOf faults fault
-no_first faults fault none is =
-    let below : is.listed.0 < length faults = is.listed.1 in
-    let empty = ap length none in
-    omega arith
-
-not_before : (faults : List ConfFault) (fault other : ConfFault) → IsFirstFaultOf faults fault → Contains faults other → NotBefore fault other
-not_before faults fault other is there = subst (NotBefore fault) there.2 (is.first there.0 other there.1)
 
 both_first : (fault other : ConfFault) → NotBefore fault other → NotBefore other fault → AreToldAlike (Conf fault) (Conf other)
 both_first fault other (inl before) (inl behind) = absurd (omega (arith, before, behind))

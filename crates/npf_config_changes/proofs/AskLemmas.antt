@@ -1,10 +1,7 @@
 -- A limit that is asked for.
-use Rattle.std.proofs.Common.{◌≡◌, ◌≤◌, ◌<◌, ℕ, false, Ok, Err, inl, inr, nat_le, refl, arith}
-use Rattle.std.proofs.lemmas.Bool.{le-leb}
-use Rattle.std.proofs.lemmas.Bool.Decides.{leb_tells}
+use Rattle.std.proofs.{Common.{◌≡◌, ◌≤◌, ◌<◌, ℕ, false, Ok, Err, inl, inr, nat_le, refl, arith}, lemmas.Bool.{le-leb, Decides.leb_tells}}
 use Rattle.npf_types.specs.Stages.{Stage, ◌andthen◌, asks_that, goes_on, stops}
-use Rattle.npf_config_changes.specs.declared.fault.ChangeFault.{ChangeFault}
-use Rattle.npf_config_changes.specs.Told.{EndsUnlessMemory}
+use Rattle.npf_config_changes.specs.{declared.fault.ChangeFault.ChangeFault, Told.EndsUnlessMemory}
 
 past : (count most : ℕ) → most < count → nat_le count most ≡ false
 past count most over = elim (leb_tells count most) [

@@ -1,18 +1,9 @@
 -- The elements of a model's rules, counted group by group and item by item.
-use Rattle.std.proofs.Common.{◌≡◌, ◌≤◌, ◌∙◌, ℕ, Option, None, List, [], ◌∷◌, flat_map, map, refl, ap, arith}
-use Rattle.std.specs.List.{sum_by}
-use Rattle.std.proofs.lemmas.List.Concat.{flat_map-cons}
-use Rattle.std.proofs.lemmas.List.Elements.{All-weaker}
-use Rattle.std.proofs.lemmas.List.Sums.{sum_by-append, sum_by-cons, sum_by-le}
+use Rattle.std.{proofs.Common.{◌≡◌, ◌≤◌, ◌∙◌, ℕ, Option, None, List, [], ◌∷◌, flat_map, map, refl, ap, arith}, specs.List.sum_by}
+use Rattle.std.proofs.lemmas.List.{Concat.flat_map-cons, Elements.All-weaker, Sums.{sum_by-append, sum_by-cons, sum_by-le}}
 use Rattle.npf_types.specs.declared.direction.Dir.{Dir}
-use Rattle.npf_model.specs.declared.group.Group.{Group}
-use Rattle.npf_model.specs.declared.group.Item.{Item}
-use Rattle.npf_model.specs.declared.group.Item.TheVariants.{One, Dynamic}
-use Rattle.npf_model.specs.declared.model.Model.{Model}
-use Rattle.npf_model.specs.declared.rule.OnIf.{OnIf}
-use Rattle.npf_model.specs.declared.rule.Rule.{Rule}
-use Rattle.npf_model.specs.Count.{elements_of}
-use Rattle.npf_model.specs.Verdict.{PlacedRule, all_rules, rules_at, rules_of}
+use Rattle.npf_model.specs.declared.{group.{Group.Group, Item.{Item, TheVariants.{One, Dynamic}}}, model.Model.Model, rule.{OnIf.OnIf, Rule.Rule}}
+use Rattle.npf_model.specs.{Count.elements_of, Verdict.{PlacedRule, all_rules, rules_at, rules_of}}
 use Rattle.npf_ruleset.specs.Refusal.{IsBuildable, IsCompilable}
 use Rattle.npf_config_changes.specs.Elements.{group_elements, elements_in_item}
 

@@ -1,33 +1,16 @@
 -- What a change of one table makes of a configuration.
 use Rattle.std.proofs.Common.{◌≡◌, ◌≤◌, ◌<◌, ◌+◌, ℕ, suc, Some, Ok, Err, List, [], ◌∷◌, ◌++◌, length, get_or, map, set, take, drop, slice_get, refl, sym, ap, subst, ◌∙◌, arith}
-use Rattle.std.specs.Arc.{arc_value}
-use Rattle.std.specs.Global.{Global}
-use Rattle.std.specs.Option.{option_map}
-use Rattle.std.specs.declared.sync.Arc.{Arc}
-use Rattle.std.proofs.lemmas.List.{map-set, set-get_or, set_split}
-use Rattle.std.proofs.lemmas.List.Sums.{sum_by-set}
-use Rattle.std.proofs.lemmas.Option.{get_or_from_slice_get, slice_get-map, slice_get_read, slice_get_within}
-use Rattle.npf_types.specs.declared.limits.TheConstants.{MAX_TABLE_ENTRIES}
-use Rattle.npf_types.specs.declared.name.Name.{Name}
-use Rattle.npf_types.specs.declared.prefix.Prefix.{Prefix}
-use Rattle.npf_model.specs.declared.table.Kind.{Kind}
-use Rattle.npf_model.specs.declared.model.Model.{Model}
-use Rattle.npf_model.specs.Configuration.{Configuration}
-use Rattle.npf_model.specs.Verdict.{first_where}
+use Rattle.std.{specs.{Arc.arc_value, Global.Global, Option.option_map, declared.sync.Arc.Arc}, proofs.lemmas.List.{map-set, set-get_or, set_split}}
+use Rattle.std.proofs.lemmas.{List.Sums.sum_by-set, Option.{get_or_from_slice_get, slice_get-map, slice_get_read, slice_get_within}}
+use Rattle.npf_types.specs.{declared.{limits.TheConstants.MAX_TABLE_ENTRIES, name.Name.Name, prefix.Prefix.Prefix}, Stages.{goes_on, stops}}
+use Rattle.npf_model.specs.{declared.{table.Kind.Kind, model.Model.Model}, Configuration.Configuration, Verdict.first_where}
 use Rattle.npf_faults.specs.declared.fault.Excess.TheVariants.{Entries}
-use Rattle.npf_types.specs.Stages.{goes_on, stops}
-use Rattle.npf_table.specs.declared.table.Table.{Table}
-use Rattle.npf_table.specs.declared.fault.TableFault.{TableFault}
+use Rattle.npf_table.specs.{declared.{table.Table.Table, fault.TableFault.TableFault}, Table.{MayChange, RefusesAddition, RefusesRemoval, kind_of, prefixes}}
 use Rattle.npf_table.specs.declared.fault.TableFault.TheVariants as Tables
-use Rattle.npf_table.specs.Table.{MayChange, RefusesAddition, RefusesRemoval, kind_of, prefixes}
-use Rattle.npf_ruleset.specs.declared.config.Config.{Config}
-use Rattle.npf_ruleset.specs.Configuration.{configuration}
-use Rattle.npf_ruleset.specs.Tables.{entries}
-use Rattle.npf_config.specs.Loaded.{IsLoaded}
-use Rattle.npf_config.specs.Tables.{declared_kinds, entry_count, table_kinds}
+use Rattle.npf_ruleset.specs.{declared.config.Config.Config, Configuration.configuration, Tables.entries}
+use Rattle.npf_config.specs.{Loaded.IsLoaded, Tables.{declared_kinds, entry_count, table_kinds}}
 use Rattle.npf_config_changes.specs.Entries.{AddsEntry, GainsEntry, IsTableAt, LosesEntry, RemovesEntry, TableAt, absent, allowed, beginning, found, present, read_only, with_entries, wrong_kind}
-use Rattle.npf_config_changes.specs.Rulesets.{are_one_name}
-use Rattle.npf_config_changes.proofs.AskLemmas.{keeps_limit, passes_limit}
+use Rattle.npf_config_changes.{specs.Rulesets.are_one_name, proofs.AskLemmas.{keeps_limit, passes_limit}}
 use Rattle.npf_config_changes.specs.Told.{EndsUnlessMemory, told_count, told_of_table, too_many}
 
 module _ {Z : Type 0} where

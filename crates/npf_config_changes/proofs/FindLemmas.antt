@@ -3,9 +3,7 @@ use Rattle.std.proofs.Common.{◌≡◌, ◌+◌, ℕ, suc, Bool, true, false, S
 use Rattle.std.proofs.lemmas.Option.{same_Some, slice_get_within}
 use Rattle.npf_model.specs.Verdict.{first_where}
 use Rattle.npf_ruleset.proofs.PairLemmas.{drop_here}
-use Rattle.npf_config_changes.specs.declared.fault.ChangeFault.TheVariants.{UnknownRuleset}
-use Rattle.npf_config_changes.specs.Changes.{found_ruleset}
-use Rattle.npf_config_changes.specs.Rulesets.{Ruleset}
+use Rattle.npf_config_changes.specs.{declared.fault.ChangeFault.TheVariants.UnknownRuleset, Changes.found_ruleset, Rulesets.Ruleset}
 
 none_there : (all more : List Ruleset) → Err UnknownRuleset ≡ found_ruleset all → found_ruleset (all ++ more) ≡ found_ruleset more
 none_there [] more none = refl

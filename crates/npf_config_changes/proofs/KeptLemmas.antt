@@ -1,45 +1,34 @@
 -- Programs that are kept, one part of the rules after another.
-use Rattle.std.proofs.Common.{◌≡◌, ◌≤◌, ◌+◌, ◌==◌, ℕ, zero, suc, Bool, true, false, cond, not, Option, Some, List, [], ◌∷◌, ◌++◌, length, drop, filter, flat_map, map, slice_get, take, refl, sym, ap, subst, ◌∙◌, append-nil, arith}
-use Rattle.std.proofs.lemmas.Slice.Zip.{AllZip-long}
-use Rattle.std.specs.List.{AllZip}
-use Rattle.std.specs.Prelude.{if◌then◌else◌}
-use Rattle.std.proofs.lemmas.Grind.{flat_map-append}
-use Rattle.std.proofs.lemmas.List.{append_assoc, length-append, length-map, map-append, take-map, take_more}
-use Rattle.std.proofs.lemmas.Option.{get_or_from_slice_get, slice_get_within}
+use Rattle.std.proofs.Common.{◌≡◌, ◌≤◌, ◌+◌, ◌==◌, ℕ, zero, suc, Bool, true, false, cond, not, Option, Some, List, [], ◌∷◌, ◌++◌, length, drop, filter}
+use Rattle.std.{proofs.{Common.{flat_map, map, slice_get, take, refl, sym, ap, subst, ◌∙◌, append-nil, arith}, lemmas.Slice.Zip.AllZip-long}, specs.List.AllZip}
+use Rattle.std.{specs.Prelude.if◌then◌else◌, proofs.lemmas.Grind.flat_map-append}
+use Rattle.std.proofs.lemmas.{List.{append_assoc, length-append, length-map, map-append, take-map, take_more}, Option.{get_or_from_slice_get, slice_get_within}}
 use Rattle.std.proofs.lemmas.List.Sums.{sum_by-append, sum_by-cons}
-use Rattle.npf_types.specs.declared.direction.Dir.{Dir}
-use Rattle.npf_types.specs.declared.name.Name.{Name}
-use Rattle.npf_model.specs.declared.group.Item.TheVariants.{One, Dynamic}
-use Rattle.npf_model.specs.declared.rule.OnIf.{OnIf}
-use Rattle.npf_model.specs.declared.rule.Rule.{Rule}
-use Rattle.npf_model.specs.Verdict.{PlacedRule, rules_at}
+use Rattle.npf_types.specs.declared.{direction.Dir.Dir, name.Name.Name}
+use Rattle.npf_model.specs.{declared.{group.Item.TheVariants.{One, Dynamic}, rule.{OnIf.OnIf, Rule.Rule}}, Verdict.{PlacedRule, rules_at}}
 use Rattle.npf_bpf.specs.declared.insn.Insn.{Insn}
-use Rattle.npf_ruleset.specs.declared.flat.FlatRule.{FlatRule}
-use Rattle.npf_ruleset.specs.Flat.{instructions, programs_of}
-use Rattle.npf_ruleset.proofs.PairLemmas.{zip_append, zip_behind, zip_front}
-use Rattle.npf_config_changes.specs.declared.change.Change.{Change}
-use Rattle.npf_config_changes.specs.declared.change.Change.TheVariants.{Added, Removed, Flushed}
+use Rattle.npf_ruleset.{specs.{declared.flat.FlatRule.FlatRule, Flat.{instructions, programs_of}}, proofs.PairLemmas.{zip_append, zip_behind, zip_front}}
+use Rattle.npf_config_changes.specs.declared.change.RulesChange.{RulesChange, TheVariants.{Added, Removed, Flushed}}
 use Rattle.npf_config_changes.specs.Kept.{AddsNone, IsServed, Keeps, Serves, ruleset_change, other_programs, programs_changed}
-use Rattle.npf_config_changes.specs.Rulesets.{are_one_name, item_with_ruleset}
-use Rattle.npf_config_changes.proofs.FindLemmas.{left_here}
+use Rattle.npf_config_changes.{specs.Rulesets.{are_one_name, item_with_ruleset}, proofs.FindLemmas.left_here}
 
-none_for : (change : Change) (before after : ℕ) → after ≤ before → AddsNone change before after
+none_for : (change : RulesChange) (before after : ℕ) → after ≤ before → AddsNone change before after
 none_for (Added rule program) before after fewer = tt
 none_for (Removed id) before after fewer = fewer
 none_for Flushed before after fewer = fewer
 
-none_after : (change : Change) (one two three : ℕ) → AddsNone change one two → AddsNone change two three → AddsNone change one three
+none_after : (change : RulesChange) (one two three : ℕ) → AddsNone change one two → AddsNone change two three → AddsNone change one three
 none_after (Added rule program) one two three first second = tt
 none_after (Removed id) one two three first second = omega (arith, first, second)
 none_after Flushed one two three first second = omega (arith, first, second)
 
 -- with as much more on both sides
-none_beside : (change : Change) (before after more : ℕ) → AddsNone change before after → AddsNone change (before + more) (after + more)
+none_beside : (change : RulesChange) (before after more : ℕ) → AddsNone change before after → AddsNone change (before + more) (after + more)
 none_beside (Added rule program) before after more fewer = tt
 none_beside (Removed id) before after more fewer = omega (arith, fewer)
 none_beside Flushed before after more fewer = omega (arith, fewer)
 
-module _ (change : Change) where
+module _ (change : RulesChange) where
   pub keeps_none : (flats : List FlatRule) (old : List (List Insn)) → Keeps change [] flats flats old old
   keeps_none flats old = record {
     added = [];
@@ -92,7 +81,8 @@ module _ (change : Change) where
         fewer = subst (λ n. AddsNone change n (length new + 0)) (let e : length here + length old ≡ length old + length here = omega arith in e)
             (subst (λ n. AddsNone change (length here + length old) n) (let e : length added + length old ≡ length new + 0 = omega arith in e)
             (none_beside change (length here) (length added) (length old) fewer));
-        shorter = subst (λ n. AddsNone change n (instructions new + 0)) (let e : instructions (programs_of here) + instructions old ≡ instructions old + instructions (programs_of here) = omega arith in e)
+        shorter = subst (λ n. AddsNone change n (instructions new + 0))
+            (let e : instructions (programs_of here) + instructions old ≡ instructions old + instructions (programs_of here) = omega arith in e)
             (subst (λ n. AddsNone change (instructions (programs_of here) + instructions old) n) (let e : instructions added + instructions old ≡ instructions new + 0 = omega arith in e)
             (none_beside change (instructions (programs_of here)) (instructions added) (instructions old) shorter));
       }
@@ -120,7 +110,7 @@ module _ (dir : Option Dir) (on : Option OnIf) where
   others_serve id (numbered ∷ rules) [] serve = absurd serve
   others_serve id (numbered ∷ rules) (flat ∷ flats) serve = others_step id numbered rules flat.program (other_programs id rules flats) (numbered.0 == id) serve.0 (others_serve id rules flats serve.1)
 
-  pub changed_serve : (change : Change) → IsServed change → (next_id : ℕ) (rules : List (ℕ × Rule)) (flats : List FlatRule) → AllZip Serves (map placed_in rules) (programs_of flats)
+  pub changed_serve : (change : RulesChange) → IsServed change → (next_id : ℕ) (rules : List (ℕ × Rule)) (flats : List FlatRule) → AllZip Serves (map placed_in rules) (programs_of flats)
       → AllZip Serves (map placed_in ((ruleset_change change (record { next_id = next_id; rules = rules })).rules)) (programs_changed change rules flats)
   changed_serve (Added rule program) served next_id rules flats serve =
       subst (λ all. AllZip Serves all (programs_of flats ++ program.now ∷ [])) (sym (map-append placed_in rules ((next_id, rule.now) ∷ [])))
@@ -133,7 +123,8 @@ others_fewer id [] flats = omega arith
 others_fewer id (numbered ∷ rules) [] = omega arith
 others_fewer id (numbered ∷ rules) (flat ∷ flats) = step (numbered.0 == id) (others_fewer id rules flats)
   where
-    step : (same : Bool) → length (other_programs id rules flats) ≤ length flats → length (if same then other_programs id rules flats else flat.program ∷ other_programs id rules flats) ≤ suc (length flats)
+    step : (same : Bool) → length (other_programs id rules flats) ≤ length flats →
+        length (if same then other_programs id rules flats else flat.program ∷ other_programs id rules flats) ≤ suc (length flats)
     step true rest = omega arith
     step false rest = omega arith
 
@@ -156,18 +147,18 @@ dynamic_len own dir on next_id rules here serve =
     let same = length-map here (λ (flat : FlatRule). flat.program) in
     omega arith
 
-pub changed_fewer : (change : Change) (rules : List (ℕ × Rule)) (flats : List FlatRule) → AddsNone change (length flats) (length (programs_changed change rules flats))
+pub changed_fewer : (change : RulesChange) (rules : List (ℕ × Rule)) (flats : List FlatRule) → AddsNone change (length flats) (length (programs_changed change rules flats))
 changed_fewer (Added rule program) rules flats = tt
 changed_fewer (Removed id) rules flats = others_fewer id rules flats
 changed_fewer Flushed rules flats = omega arith
 
-pub changed_shorter : (change : Change) (rules : List (ℕ × Rule)) (flats : List FlatRule) → AddsNone change (instructions (programs_of flats)) (instructions (programs_changed change rules flats))
+pub changed_shorter : (change : RulesChange) (rules : List (ℕ × Rule)) (flats : List FlatRule) → AddsNone change (instructions (programs_of flats)) (instructions (programs_changed change rules flats))
 changed_shorter (Added rule program) rules flats = tt
 changed_shorter (Removed id) rules flats = others_shorter id rules flats
 changed_shorter Flushed rules flats = omega arith
 
 -- the rules of an item, as it is changed
-module _ (change : Change) (name : Name) (here : List FlatRule) (old new : List (List Insn)) where
+module _ (change : RulesChange) (name : Name) (here : List FlatRule) (old new : List (List Insn)) where
   pub one_keeps : (rule : Rule) → AllZip Serves (rules_at (One rule)) (programs_of here) → new ≡ old ++ programs_of here
       → Keeps change (rules_at (item_with_ruleset name (ruleset_change change) (One rule))) here [] old new
   one_keeps rule serve are = keeps_all change (rules_at (One rule)) here old new are serve
@@ -190,10 +181,11 @@ rules_left rules xs i x is = ap (flat_map rules) (left_here xs i x is)
 module _ {X : Type 0} (rules : X → List PlacedRule) (changed : X → X) (xs : List X) (i : ℕ) (x : X) (is : slice_get xs i ≡ Some x) where
   pub rules_done : flat_map rules (map changed (take (i + 1) xs)) ≡ flat_map rules (map changed (take i xs)) ++ rules (changed x)
   rules_done =
-      ap (λ front. flat_map rules (map changed front)) (take_more xs i x (slice_get_within xs i x is) ∙ ap (λ (y : X). take i xs ++ y ∷ []) (get_or_from_slice_get xs i x x is)) ∙ ap (flat_map rules) (map-append changed (take i xs) (x ∷ []))
+      ap (λ front. flat_map rules (map changed front)) (take_more xs i x (slice_get_within xs i x is) ∙ ap (λ (y : X). take i xs ++ y ∷ []) (get_or_from_slice_get xs i x x is))
+      ∙ ap (flat_map rules) (map-append changed (take i xs) (x ∷ []))
       ∙ flat_map-append rules (map changed (take i xs)) (changed x ∷ []) ∙ ap (λ last. flat_map rules (map changed (take i xs)) ++ last) (append-nil (rules (changed x)))
 
-  module _ (change : Change) (flats : List FlatRule) (old now new : List (List Insn)) where
+  module _ (change : RulesChange) (flats : List FlatRule) (old now new : List (List Insn)) where
     pub keeps_next : (left behind : List FlatRule) → Keeps change (flat_map rules (map changed (take i xs))) flats left old now → Keeps change (rules (changed x)) left behind now new
         → Keeps change (flat_map rules (map changed (take (i + 1) xs))) flats behind old new
     keeps_next left behind keeps one =

@@ -1,23 +1,15 @@
 -- Changes come to one answer: what two results of stages have in common, one stage behind the other.
 use Rattle.std.proofs.Common.{◌≡◌, ℕ, Some, Result, Ok, Err, List, length, ◌+◌, nat_le, slice_get, sym, refl, ap, subst, ◌∙◌, arith, if◌then◌else◌}
 use Rattle.std.proofs.lemmas.Option.{same_Some}
-use Rattle.npf_types.specs.declared.limits.TheConstants.{MAX_TABLE_ENTRIES}
-use Rattle.npf_types.specs.declared.name.Name.{Name}
-use Rattle.npf_types.specs.declared.prefix.Prefix.{Prefix}
-use Rattle.npf_types.specs.Settled.{AreSettled}
-use Rattle.npf_types.proofs.StageLemmas.{andthen_settled}
-use Rattle.npf_types.specs.Stages.{Stage, ◌andthen◌, asks_that, gives, goes_on, stops}
+use Rattle.npf_types.specs.{declared.{limits.TheConstants.MAX_TABLE_ENTRIES, name.Name.Name, prefix.Prefix.Prefix}, Settled.AreSettled}
+use Rattle.npf_types.{proofs.StageLemmas.andthen_settled, specs.Stages.{Stage, ◌andthen◌, asks_that, gives, goes_on, stops}}
 use Rattle.npf_faults.specs.declared.fault.Excess.TheVariants.{Entries}
-use Rattle.npf_model.specs.declared.table.Kind.{Kind}
-use Rattle.npf_model.specs.declared.table.Kind.TheVariants.{Const, Ipset}
-use Rattle.npf_model.specs.Configuration.{Configuration}
-use Rattle.npf_config_changes.specs.declared.fault.ChangeFault.{ChangeFault}
-use Rattle.npf_config_changes.specs.declared.fault.ChangeFault.TheVariants.{UnknownRule}
-use Rattle.npf_config_changes.specs.ChangeLaws.{HasOneResult}
+use Rattle.npf_model.specs.{declared.table.Kind.{Kind, TheVariants.{Const, Ipset}}, Configuration.Configuration}
+use Rattle.npf_config_changes.specs.{declared.fault.ChangeFault.{ChangeFault, TheVariants.UnknownRule}, ChangeLaws.HasOneResult}
 use Rattle.npf_config_changes.specs.Changes.{FlushesRules, RemovesRule, found_ruleset, with_ruleset, FindsRuleset}
-use Rattle.npf_config_changes.specs.Entries.{AddsEntry, AllowsChange, FindsTable, beginning, GainsEntry, IsTableAt, LosesEntry, RemovesEntry, TableAt, absent, allowed, found, gained, lost, present, read_only, unknown, with_entries, wrong_kind}
-use Rattle.npf_config_changes.specs.Rulesets.{Ruleset, has_rule, rulesets_named, with_rule_removed, with_rules_flushed}
-use Rattle.npf_config_changes.specs.Told.{told_count, too_many}
+use Rattle.npf_config_changes.specs.Entries.{AddsEntry, AllowsChange, FindsTable, beginning, GainsEntry, IsTableAt, LosesEntry, RemovesEntry, TableAt, absent}
+use Rattle.npf_config_changes.specs.Entries.{allowed, found, gained, lost, present, read_only, unknown, with_entries, wrong_kind}
+use Rattle.npf_config_changes.specs.{Rulesets.{Ruleset, has_rule, rulesets_named, with_rule_removed, with_rules_flushed}, Told.{told_count, too_many}}
 use Rattle.npf_config_changes.proofs.EntryLemmas.{count_there}
 
 -- stages come to one result where the first does, and the next ones do
@@ -129,4 +121,5 @@ module _ (kinds : List Kind) (old : Configuration) (name : Name) (prefix : Prefi
       ))))
 
   pub settled_removal : AreSettled (RemovesEntry kinds old name prefix) (RemovesEntry kinds old name prefix)
-  settled_removal = changed _ (λ table _. andthen_settled (LosesEntry table.entries prefix) _ (loses_settled table.entries prefix) (λ one other _ _. given_settled (with_entries table.place one old) (with_entries table.place other old)))
+  settled_removal = changed _ (λ table _. andthen_settled (LosesEntry table.entries prefix) _ (loses_settled table.entries prefix)
+      (λ one other _ _. given_settled (with_entries table.place one old) (with_entries table.place other old)))

@@ -5,7 +5,7 @@ mod ElementLemmas
 mod EntryLemmas
 pub mod FindLemmas
 mod KeptLemmas
-mod LawLemmas
 mod LoneLemmas
+pub mod LawLemmas
 pub mod NextLemmas
 mod ReadLemmas

@@ -1,32 +1,18 @@
 -- The tables that an added rule names are the model's, where each has a number there.
 use Rattle.std.proofs.Common.{◌≡◌, ◌==◌, ◌+◌, ◌||◌, ℕ, Bool, true, false, not, if◌then◌else◌, min, unwrap_or, Option, Some, None, List, [], ◌∷◌, ◌++◌, map, refl, sym, ap, ◌∙◌}
-use Rattle.std.specs.Bool.{one_answer}
-use Rattle.std.specs.List.{flat_map, list_any, zip}
-use Rattle.std.specs.Str.{bytes_eq}
-use Rattle.std.proofs.lemmas.Slice.Eq.{bytes_eq-Decides}
+use Rattle.std.specs.{List.{flat_map, list_any, zip}, Str.bytes_eq}
 use Rattle.npf_types.specs.declared.address.Addr.{Addr}
-use Rattle.npf_types.specs.declared.span.Span.{Span}
-use Rattle.npf_faults.specs.declared.fault.Fault.{Fault}
-use Rattle.npf_faults.specs.declared.fault.Fault.TheVariants.{UnknownTable}
-use Rattle.npf_faults.specs.First.{fault_if}
-use Rattle.npf_syntax.specs.declared.filter.Addresses.{Addresses}
+use Rattle.npf_faults.specs.{declared.fault.Fault.TheVariants.UnknownTable, First.fault_if}
+use Rattle.npf_syntax.specs.declared.{filter.{Addresses.Addresses, EndsTree.EndsTree as WrittenEnds, Where.Where}, value.Value.Value}
 use Rattle.npf_syntax.specs.declared.filter.Addresses.TheVariants as Written
-use Rattle.npf_syntax.specs.declared.filter.Ends.{Ends as WrittenEnds}
-use Rattle.npf_syntax.specs.declared.filter.Ends.TheVariants as EndsAre
-use Rattle.npf_syntax.specs.declared.filter.Where.{Where}
-use Rattle.npf_syntax.specs.declared.value.Value.{Value}
-use Rattle.npf_model.specs.declared.ends.AddrItem.{AddrItem}
-use Rattle.npf_model.specs.declared.iface.Iface.{Iface}
-use Rattle.npf_model.specs.declared.rule.Rule.{Rule}
-use Rattle.npf_model.specs.Verdict.{first_where}
-use Rattle.npf_expand_values.specs.Address.{address_items, host_item, items_of}
-use Rattle.npf_expand_values.specs.Atom.{Env}
-use Rattle.npf_expand_values.specs.Declarations.{no_number, table_number}
-use Rattle.npf_expand_values.specs.Iface.{addresses_of, iface_name}
-use Rattle.npf_expand_values.specs.Variable.{env_of, spliced}
-use Rattle.npf_expand.specs.Rule.{destination_ends, ends_of_written, source_ends}
+use Rattle.npf_syntax.specs.declared.filter.EndsTree.TheVariants as EndsAre
+use Rattle.npf_model.specs.{declared.{ends.AddrItem.AddrItem, iface.Iface.Iface, rule.Rule.Rule}, Verdict.first_where}
+use Rattle.npf_expand_values.specs.{Address.{address_items, host_item, items_of}, Atom.Env, Declarations.{no_number, table_number}}
+use Rattle.npf_expand_values.specs.{Iface.{addresses_of, iface_name}, Variable.{env_of, spliced}}
+use Rattle.npf_expand.{specs.Rule.{destination_ends, ends_of_written, source_ends}, proofs.ElementLemmas.untold}
 use Rattle.npf_check.specs.LoneRule.{number_of_none, table_numbers, table_places, unknown_among, unknown_in_addresses, unknown_in_ends, unknown_in_target, unknown_in_where, unknown_table}
 use Rattle.npf_check.specs.Undefined.{table_faults, tables_of_addresses, tables_of_target, tables_of_where}
+use Rattle.npf_config.proofs.TableNameLemmas.{bytes_eq-symm}
 
 module _ {X : Type 0} where
   pub front : (xs ys : List X) → xs ++ ys ≡ [] → xs ≡ []
@@ -37,10 +23,6 @@ module _ {X : Type 0} where
   back [] ys none = none
   back (x ∷ xs) ys none = cc
 
-untold : (test : Bool) (span : Span) (fault : Fault) → fault_if test span fault ≡ [] → test ≡ false
-untold true span fault none = cc
-untold false span fault none = refl
-
 -- one of these names
 abbrev pub is_among : List (List ℕ) → List ℕ → Bool
 is_among names text = list_any (λ name. bytes_eq name text) names
@@ -50,11 +32,6 @@ passed true true rest n later same none find = cc
 passed true false rest n later same none find = cc
 passed false true rest n later same none find = cc
 passed false false rest n later same none find = find none
-
-bytes_eq-symm : (one other : List ℕ) → bytes_eq one other ≡ bytes_eq other one
-bytes_eq-symm one other =
-    let back = bytes_eq-Decides other one in
-    one_answer (bytes_eq one other) (bytes_eq other one) (bytes_eq-Decides one other) ((λ is. sym (back.0 is)), (λ same. back.1 (sym same)))
 
 nowhere_among : (names : List (List ℕ)) (text : List ℕ) (n : ℕ) → is_among names text ≡ false → first_where (bytes_eq text) n names ≡ None
 nowhere_among [] text n none = refl

@@ -1,51 +1,33 @@
 -- The next configuration: the programs that serve its rules, what it keeps, and what of the last one stays.
 use Rattle.std.proofs.Common.{◌≡◌, ◌≤◌, ℕ, suc, Bool, true, false, Result, Ok, Err, List, [], ◌∷◌, All, length, map, refl, sym, ap, subst, ◌∙◌, arith}
-use Rattle.std.proofs.lemmas.Slice.Zip.{AllZip-long}
-use Rattle.std.specs.List.{AllZip}
-use Rattle.std.specs.Prelude.{if◌then◌else◌}
-use Rattle.std.specs.Arc.{arc_value}
-use Rattle.std.specs.Global.{Global, Vec}
-use Rattle.std.specs.Result.{IfOk}
-use Rattle.std.specs.declared.sync.Arc.{Arc}
-use Rattle.std.proofs.lemmas.List.Elements.{All-cons, All-map, All-weaker}
-use Rattle.npf_types.specs.declared.limits.TheConstants.{MAX_INSTRUCTIONS, MAX_MAPS, MAX_RULES}
-use Rattle.npf_types.specs.declared.name.Name.{Name}
-use Rattle.npf_model.specs.declared.group.Group.{Group}
-use Rattle.npf_model.specs.declared.group.Item.{Item}
-use Rattle.npf_model.specs.declared.group.Item.TheVariants.{One, Dynamic}
-use Rattle.npf_model.specs.declared.model.Model.{Model}
-use Rattle.npf_model.specs.Verdict.{PlacedRule, all_rules}
-use Rattle.npf_table.specs.declared.table.Table.{Table}
-use Rattle.npf_table.specs.Table.{kind_of, prefixes}
+use Rattle.std.{proofs.lemmas.Slice.Zip.AllZip-long, specs.{List.AllZip, Prelude.if◌then◌else◌, Arc.arc_value, Global.{Global, Vec}, Result.IfOk}}
+use Rattle.std.{specs.declared.sync.Arc.Arc, proofs.lemmas.List.Elements.{All-cons, All-map, All-weaker}}
+use Rattle.npf_types.specs.declared.{limits.TheConstants.{MAX_INSTRUCTIONS, MAX_MAPS, MAX_RULES}, name.Name.Name}
+use Rattle.npf_model.specs.{declared.{group.{Group.Group, Item.{Item, TheVariants.{One, Dynamic}}}, model.Model.Model}, Verdict.{PlacedRule, all_rules}}
+use Rattle.npf_table.specs.{declared.table.Table.Table, Table.{kind_of, prefixes}}
 use Rattle.npf_bpf.specs.declared.insn.Insn.{Insn}
-use Rattle.npf_ruleset.specs.declared.config.Config.{Config}
-use Rattle.npf_ruleset.specs.Configuration.{configuration}
-use Rattle.npf_ruleset.specs.Flat.{IsCompiled, instructions, programs_of}
-use Rattle.npf_ruleset.specs.Refusal.{AreProgramsOf, IsBuildable, IsCompilable, IsLight, IsWithinLimits}
-use Rattle.npf_ruleset.specs.Tables.{entries}
-use Rattle.npf_config.specs.Loaded.{HasNextIds, IsLoaded, IsNextWithin}
-use Rattle.npf_config.specs.Tables.{declared_kinds}
-use Rattle.npf_config_changes.specs.declared.change.Change.{Change}
-use Rattle.npf_config_changes.specs.declared.change.Change.TheVariants.{Added, Removed, Flushed}
+use Rattle.npf_ruleset.specs.{declared.config.Config.Config, Configuration.configuration, Flat.{IsCompiled, instructions, programs_of}}
+use Rattle.npf_ruleset.specs.{Refusal.{AreProgramsOf, IsBuildable, IsCompilable, IsLight, IsWithinLimits}, Tables.entries}
+use Rattle.npf_config.specs.{Loaded.{HasNextIds, IsLoaded, IsNextWithin}, Tables.declared_kinds}
+use Rattle.npf_config_changes.specs.declared.change.RulesChange.{RulesChange, TheVariants.{Added, Removed, Flushed}}
 use Rattle.npf_config_changes.specs.Kept.{AddsNone, HasNumbersLeft, IsServed, Keeps, Serves, TakesOut, ruleset_change}
-use Rattle.npf_config_changes.specs.Rulesets.{are_one_name, group_with_ruleset, item_with_ruleset, model_with_ruleset}
-use Rattle.npf_config_changes.proofs.EntryLemmas.{entries_of_values}
+use Rattle.npf_config_changes.{specs.Rulesets.{are_one_name, group_with_ruleset, item_with_ruleset, model_with_ruleset}, proofs.EntryLemmas.entries_of_values}
 
-pub no_more : (change : Change) → TakesOut change → (before after : ℕ) → AddsNone change before after → after ≤ before
+pub no_more : (change : RulesChange) → TakesOut change → (before after : ℕ) → AddsNone change before after → after ≤ before
 no_more (Added rule program) takes before after fewer = absurd takes
 no_more (Removed id) takes before after fewer = fewer
 no_more Flushed takes before after fewer = fewer
 
-room : (change : Change) → TakesOut change → (item : Item) → HasNumbersLeft change item
+room : (change : RulesChange) → TakesOut change → (item : Item) → HasNumbersLeft change item
 room (Added rule program) takes item = absurd takes
 room (Removed id) takes item = tt
 room Flushed takes item = tt
 
 -- what takes rules out needs no room for numbers
-pub all_room : (change : Change) → TakesOut change → (groups : List Group) → All (λ (group : Group). All (HasNumbersLeft change) group.items) groups
+pub all_room : (change : RulesChange) → TakesOut change → (groups : List Group) → All (λ (group : Group). All (HasNumbersLeft change) group.items) groups
 all_room change takes groups = λ k d lt. λ n e below. room change takes _
 
-pub served_none : (change : Change) → TakesOut change → IsServed change
+pub served_none : (change : RulesChange) → TakesOut change → IsServed change
 served_none (Added rule program) takes = absurd takes
 served_none (Removed id) takes = tt
 served_none Flushed takes = tt
@@ -88,13 +70,14 @@ module _ (rules : List PlacedRule) (programs : List (List Insn)) where
   all_serve are compilable = each_serves rules programs are.each are.light compilable
 
 -- the numbers of the next rules stay
-module _ (change : Change) (takes : TakesOut change) (name : Name) (most : ℕ) where
+module _ (change : RulesChange) (takes : TakesOut change) (name : Name) (most : ℕ) where
   same_next : (item : Item) → IsNextWithin most item → IsNextWithin most (item_with_ruleset name (ruleset_change change) item)
   same_next (One rule) within = tt
   same_next (Dynamic own dir on next_id rules) within = chosen change takes (are_one_name own name)
     where
-      chosen : (change : Change) → TakesOut change → (same : Bool)
-          → IsNextWithin most (if same then Dynamic own dir on (ruleset_change change (record { next_id = next_id; rules = rules })).next_id (ruleset_change change (record { next_id = next_id; rules = rules })).rules
+      chosen : (change : RulesChange) → TakesOut change → (same : Bool)
+          → IsNextWithin most (if same then Dynamic own dir on (ruleset_change change (record { next_id = next_id; rules = rules })).next_id
+          (ruleset_change change (record { next_id = next_id; rules = rules })).rules
           else Dynamic own dir on next_id rules)
       chosen (Added rule program) takes same = absurd takes
       chosen (Removed id) takes true = within
@@ -138,7 +121,7 @@ module _ (model : Model) (kept : List (List Insn)) (serve : AllZip Serves (all_r
   pub next_limits : instructions kept ≤ MAX_INSTRUCTIONS → IsWithinLimits model kept
   next_limits few = record { compiled = are_programs (all_rules model.groups) kept serve; few = few }
 
-module _ (config : Config) (change : Change) (rules : List PlacedRule) (kept : List (List Insn)) (keeps : Keeps change rules config.rules [] [] kept) where
+module _ (config : Config) (change : RulesChange) (rules : List PlacedRule) (kept : List (List Insn)) (keeps : Keeps change rules config.rules [] [] kept) where
   pub kept_serve : AllZip Serves rules kept
   kept_serve = subst (AllZip Serves rules) (sym keeps.are) keeps.each
 

@@ -1,25 +1,16 @@
 -- Each stage that refuses a rule's text refuses the change.
 use Rattle.std.proofs.Common.{◌≡◌, ℕ, Ok, Err, List, refl, subst, sym}
 use Rattle.npf_types.specs.Reading.{IsOnly}
-use Rattle.npf_faults.specs.declared.fault.ConfFault.{ConfFault}
-use Rattle.npf_faults.specs.First.{IsFirstFaultOf}
-use Rattle.npf_faults.specs.declared.fault.Fault.{Fault}
-use Rattle.npf_faults.specs.declared.fault.Fault.TheVariants.{Expected}
-use Rattle.npf_faults.specs.declared.fault.Refused.{Refused}
-use Rattle.npf_lexer.specs.declared.token.Token.{Token}
-use Rattle.npf_lexer.specs.Lexer.{IfFault, IsLexed}
+use Rattle.npf_faults.specs.{declared.fault.{ConfFault.ConfFault, Fault.{Fault, TheVariants.Expected}, Refused.Refused}, First.IsFirstFaultOf}
+use Rattle.npf_lexer.specs.{declared.token.Token.Token, Lexer.{IfFault, IsLexed}}
 use Rattle.npf_syntax.specs.declared.rule.RuleTree.{RuleTree}
-use Rattle.npf_parser.specs.Parse.{OnFault, HaltsAt}
-use Rattle.npf_parser.specs.Stmt.{lone_rule}
-use Rattle.npf_model.specs.declared.iface.Iface.{Iface}
-use Rattle.npf_model.specs.declared.model.Model.{Model}
-use Rattle.npf_model.specs.declared.rule.Rule.{Rule}
+use Rattle.npf_parser.specs.{Parse.{OnFault, HaltsAt}, Stmt.lone_rule}
+use Rattle.npf_model.specs.declared.{iface.Iface.Iface, model.Model.Model, rule.Rule.Rule}
 use Rattle.npf_expand_values.specs.Source.{declared_of}
 use Rattle.npf_expand.specs.LoneRule.{ElaboratesRule, RefusesRule}
 use Rattle.npf_check.specs.LoneRule.{lone_faults}
 use Rattle.npf_config_changes.specs.declared.fault.ChangeFault.TheVariants.{Conf}
-use Rattle.npf_config_changes.specs.Additions.{MeansRule, ReadsRule, in_checks, in_grammar, in_meaning, in_tokens}
-use Rattle.npf_config_changes.specs.Told.{EndsUnlessMemory, told_of_text}
+use Rattle.npf_config_changes.specs.{Additions.{MeansRule, ReadsRule, in_checks, in_grammar, in_meaning, in_tokens}, Told.{EndsUnlessMemory, told_of_text}}
 
 module _ (text : List ℕ) where
   pub tokens_refused : (refused : Refused) → IfFault (λ fault. IsOnly IsLexed text (Err fault)) refused → EndsUnlessMemory (ReadsRule text) (told_of_text refused)

@@ -9,21 +9,21 @@ use Rattle.npf_ruleset.specs.declared.flat.FlatRule.{FlatRule}
 use Rattle.npf_ruleset.specs.Flat.{IsCompiled, instructions, programs_of}
 use Rattle.npf_ruleset.specs.Refusal.{IsCompilable, IsLight}
 use Rattle.npf_config.specs.Loaded.{IsNextWithin}
-use Rattle.npf_config_changes.specs.declared.change.Change.{Change}
-use Rattle.npf_config_changes.specs.declared.change.Change.TheVariants.{Added, Removed, Flushed}
+use Rattle.npf_config_changes.specs.declared.change.RulesChange.{RulesChange}
+use Rattle.npf_config_changes.specs.declared.change.RulesChange.TheVariants.{Added, Removed, Flushed}
 use Rattle.npf_config_changes.specs.Rulesets.{Ruleset, with_rule_added, with_rule_removed, with_rules_flushed}
 
-abbrev pub ruleset_change : Change → Ruleset → Ruleset
+abbrev pub ruleset_change : RulesChange → Ruleset → Ruleset
 ruleset_change (Added rule program) = with_rule_added rule.now
 ruleset_change (Removed id) = with_rule_removed id
 ruleset_change Flushed = with_rules_flushed
 
 -- the numbers of a ruleset go on behind this one
-abbrev pub HasNumberLeft : Change → ℕ → Type 0
+abbrev pub HasNumberLeft : RulesChange → ℕ → Type 0
 HasNumberLeft (Added rule program) next_id = next_id ≤ 4294967294
 HasNumberLeft _ next_id = ⊤
 
-abbrev pub HasNumbersLeft : Change → Item → Type 0
+abbrev pub HasNumbersLeft : RulesChange → Item → Type 0
 HasNumbersLeft (Added rule program) item = IsNextWithin 4294967294 item
 HasNumbersLeft _ item = ⊤
 
@@ -34,17 +34,17 @@ pub record Serves (placed : PlacedRule) (program : List Insn) : Type 0 where
   pub compilable : IsCompilable placed
 
 -- and so it is of a rule that is added, wherever it stands
-abbrev pub IsServed : Change → Type 0
+abbrev pub IsServed : RulesChange → Type 0
 IsServed (Added rule program) = (placed : PlacedRule) → placed.rule ≡ rule.now → Serves placed program.now
 IsServed _ = ⊤
 
 -- nothing is added
-abbrev pub TakesOut : Change → Type 0
+abbrev pub TakesOut : RulesChange → Type 0
 TakesOut (Added rule program) = ⊥
 TakesOut _ = ⊤
 
 -- what is taken out makes nothing more
-abbrev pub AddsNone : Change → ℕ → ℕ → Type 0
+abbrev pub AddsNone : RulesChange → ℕ → ℕ → Type 0
 AddsNone (Added rule program) before after = ⊤
 AddsNone _ before after = after ≤ before
 
@@ -56,13 +56,13 @@ other_programs id (numbered ∷ rules) (flat ∷ flats) =
     if numbered.0 == id then other_programs id rules flats else flat.program ∷ other_programs id rules flats
 
 -- the programs of a ruleset's rules as they are changed
-abbrev pub programs_changed : Change → List (ℕ × Rule) → List FlatRule → List (List Insn)
+abbrev pub programs_changed : RulesChange → List (ℕ × Rule) → List FlatRule → List (List Insn)
 programs_changed (Added rule program) rules flats = programs_of flats ++ program.now ∷ []
 programs_changed (Removed id) rules flats = other_programs id rules flats
 programs_changed Flushed rules flats = []
 
 -- of the flat rules these are left; the programs of the rules, as they are now, were added for those in front of them
-pub record Keeps (change : Change) (rules : List PlacedRule) (flats left : List FlatRule) (old new : List (List Insn)) : Type 0 where
+pub record Keeps (change : RulesChange) (rules : List PlacedRule) (flats left : List FlatRule) (old new : List (List Insn)) : Type 0 where
   pub added : List (List Insn)
   pub are : new ≡ old ++ added
   pub each : AllZip Serves rules added

@@ -12,12 +12,12 @@ ghost use Rattle.npf_config_changes.specs.Rulesets.{with_rule_added};
 ghost use Rattle.npf_config_changes.specs.Kept.{IsServed, Serves};
 ghost use Rattle.npf_config_changes.specs.Told.{EndsUnlessMemory, too_many};
 
-use crate::change::Change;
+use crate::change::RulesChange;
 use crate::fault::ChangeFault;
-use crate::finding::find_ruleset;
 use crate::limit::{has_short_lists, model_elements};
 use crate::next::{changed, with_model};
-use crate::reading::{mean_rule, read_rule};
+use crate::ruleset::find_ruleset;
+use crate::text::{mean_rule, read_rule};
 use npf_bpf::Program;
 use npf_bpfgen::{GenFault, compile, weight};
 use npf_faults::{Excess, Fault};
@@ -98,14 +98,14 @@ fn with_program(
     program: &Program,
 ) -> Result<Config, ChangeFault>
     requires ids { HasNextIds 4294967294 config.now.model }
-    requires served { IsServed (Change.Added rule program) }
+    requires served { IsServed (RulesChange.Added rule program) }
     ensures is { IfOk result (λ next. configuration next ≡ with_ruleset name.now (with_rule_added rule.now) (configuration config.now)) }
     ensures limits { IfOk result (λ next. KeepsCounts span next.model (Ok tt)) }
     ensures err { IfErr result (EndsUnlessMemory (KeepsCounts span (with_ruleset name.now (with_rule_added rule.now) (configuration config.now)).model)) }
     ensures loaded { IsLoaded config.now → IfOk result IsLoaded }
     ensures ids { (most : ℕ) → HasNextIds most config.now.model → IfOk result (λ next. HasNextIds (most + 1) next.model) }
 {
-    let change = Change::Added { rule, program };
+    let change = RulesChange::Added { rule, program };
     let (model, programs) = changed(alloc, config, name, change)?;
     keep_counts(span, &model, &programs)?;
     Ok(with_model(alloc, config, model, programs)?)

@@ -3,7 +3,7 @@ ghost use Rattle.std.specs.Prelude.{◌≡◌, All, IfOk, filter, map, not, ◌=
 ghost use Rattle.npf_config_changes.specs.Kept.{HasNumberLeft, HasNumbersLeft, ruleset_change};
 ghost use Rattle.npf_config_changes.specs.Rulesets.{group_with_ruleset, item_with_ruleset, model_with_ruleset};
 
-use crate::finding::is_name;
+use crate::ruleset::is_name;
 use npf_bpf::Program;
 use npf_model::{Group, Item, Model, Rule};
 use npf_types::{List, Name, NoMemory, Text};
@@ -11,7 +11,7 @@ use std::alloc::Global;
 
 /// What becomes of a ruleset's rules.
 #[derive(Clone, Copy)]
-pub(crate) enum Change<'a> {
+pub(crate) enum RulesChange<'a> {
     /// This rule, with its program, is put behind the others.
     Added {
         rule: &'a Rule,
@@ -28,7 +28,7 @@ pub(crate) fn changed_model(
     alloc: Global,
     model: &Model,
     name: &Name,
-    change: Change<'_>,
+    change: RulesChange<'_>,
 ) -> Result<Model, NoMemory>
     requires { All (λ group. All (HasNumbersLeft change) group.items) model.now.groups }
     ensures { IfOk result (λ next. next ≡ model_with_ruleset name.now (ruleset_change change.entry) model.now) }
@@ -41,7 +41,7 @@ fn changed_groups(
     alloc: Global,
     groups: &[Group],
     name: &Name,
-    change: Change<'_>,
+    change: RulesChange<'_>,
 ) -> Result<List<Group>, NoMemory>
     requires { All (λ group. All (HasNumbersLeft change) group.items) groups.now }
     ensures { IfOk result (λ next. next ≡ map (group_with_ruleset name.now (ruleset_change change.entry)) groups.now) }
@@ -69,7 +69,7 @@ fn changed_items(
     alloc: Global,
     items: &[Item],
     name: &Name,
-    change: Change<'_>,
+    change: RulesChange<'_>,
 ) -> Result<List<Item>, NoMemory>
     requires { All (HasNumbersLeft change) items.now }
     ensures { IfOk result (λ next. next ≡ map (item_with_ruleset name.now (ruleset_change change.entry)) items.now) }
@@ -85,7 +85,7 @@ fn changed_item(
     alloc: Global,
     item: &Item,
     name: &Name,
-    change: Change<'_>,
+    change: RulesChange<'_>,
 ) -> Result<Item, NoMemory>
     requires { HasNumbersLeft change item.now }
     ensures { IfOk result (λ next. next ≡ item_with_ruleset name.now (ruleset_change change.entry) item.now) }
@@ -121,19 +121,19 @@ fn changed_rules(
     alloc: Global,
     next_id: u32,
     rules: &[(u32, Rule)],
-    change: Change<'_>,
+    change: RulesChange<'_>,
 ) -> Result<(u32, Vec<(u32, Rule)>), NoMemory>
     requires { HasNumberLeft change next_id }
     ensures { IfOk result (λ next. record { next_id = next.0; rules = next.1.items } ≡ ruleset_change change.entry (record { next_id = next_id; rules = rules.now })) }
 {
     match change {
-        Change::Added { rule, .. } => {
+        RulesChange::Added { rule, .. } => {
             let mut next = copies(alloc, rules)?;
             next.push((next_id, rule.copy(alloc)?))?;
             Ok((next_id + 1, next))
         }
-        Change::Removed(id) => Ok((next_id, others(alloc, rules, id)?)),
-        Change::Flushed => Ok((next_id, Vec::new(alloc))),
+        RulesChange::Removed(id) => Ok((next_id, others(alloc, rules, id)?)),
+        RulesChange::Flushed => Ok((next_id, Vec::new(alloc))),
     }
 }
 

@@ -11,7 +11,7 @@ ghost use Rattle.npf_config_changes.specs.Entries.{AddsEntry, RemovesEntry, begi
 ghost use Rattle.npf_config_changes.specs.Told.{EndsUnlessMemory, told_count};
 
 use crate::fault::ChangeFault;
-use crate::finding::table_place;
+use crate::ruleset::table_place;
 use crate::shared::shared;
 use npf_faults::{Excess, Fault};
 use npf_ruleset::Config;

@@ -1,3 +1,4 @@
+// Why a configuration can't be changed.
 ghost use Rattle.std.specs.Prelude.{◌≡◌};
 
 use npf_faults::{ConfFault, Fault, Refused};

@@ -8,7 +8,7 @@ ghost use Rattle.npf_config.specs.Loaded.{IsLoaded};
 ghost use Rattle.npf_config_changes.specs.Kept.{HasNumbersLeft, IsServed, Keeps, ruleset_change};
 ghost use Rattle.npf_config_changes.specs.Rulesets.{model_with_ruleset};
 
-use crate::change::{Change, changed_model};
+use crate::change::{RulesChange, changed_model};
 use crate::programs::changed_programs;
 use crate::shared::shared;
 use npf_bpf::Program;
@@ -22,7 +22,7 @@ pub(crate) fn changed(
     alloc: Global,
     config: &Config,
     name: &Name,
-    change: Change<'_>,
+    change: RulesChange<'_>,
 ) -> Result<(Model, Vec<Program>), NoMemory>
     requires served { IsServed change }
     requires room { All (λ group. All (HasNumbersLeft change) group.items) config.now.model.groups }

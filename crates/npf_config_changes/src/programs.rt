@@ -6,8 +6,8 @@ ghost use Rattle.npf_ruleset.specs.Flat.{programs_of};
 ghost use Rattle.npf_config_changes.specs.Kept.{BeginsWithServed, IsServed, Keeps, LeavesBehind, Serves, ruleset_change, other_programs, programs_changed};
 ghost use Rattle.npf_config_changes.specs.Rulesets.{group_with_ruleset, item_with_ruleset};
 
-use crate::change::Change;
-use crate::finding::is_name;
+use crate::change::RulesChange;
+use crate::ruleset::is_name;
 use npf_bpf::Program;
 use npf_model::{Group, Item, Rule};
 use npf_ruleset::{FlatRule, count_of};
@@ -21,7 +21,7 @@ pub(crate) fn changed_programs(
     groups: &[Group],
     flats: &[FlatRule],
     name: &Name,
-    change: Change<'_>,
+    change: RulesChange<'_>,
 ) -> Result<Vec<Program>, NoMemory>
     requires served { IsServed change }
     requires serve { AllZip Serves (all_rules groups.now) (programs_of flats.now) }
@@ -42,7 +42,7 @@ fn add_group<'a>(
     group: &Group,
     flats: &'a [FlatRule],
     name: &Name,
-    change: Change<'_>,
+    change: RulesChange<'_>,
 ) -> Result<&'a [FlatRule], NoMemory>
     requires served { IsServed change }
     requires begins { BeginsWithServed (rules_of group.now) flats.now }
@@ -65,7 +65,7 @@ fn add_item(
     item: &Item,
     here: &[FlatRule],
     name: &Name,
-    change: Change<'_>,
+    change: RulesChange<'_>,
 ) -> Result<(), NoMemory>
     requires served { IsServed change }
     requires serve { AllZip Serves (rules_at item.now) (programs_of here.now) }
@@ -91,18 +91,18 @@ fn add_changed(
     alloc: Global,
     rules: &[(u32, Rule)],
     here: &[FlatRule],
-    change: Change<'_>,
+    change: RulesChange<'_>,
 ) -> Result<(), NoMemory>
     requires { length rules.now ≡ length here.now }
     ensures { OnOk result (programs.new.items ≡ programs.old.items ++ programs_changed change.entry rules.now here.now) }
 {
     match change {
-        Change::Added { program, .. } => {
+        RulesChange::Added { program, .. } => {
             add(programs, alloc, here)?;
             Ok(programs.push(program.copy(alloc)?)?)
         }
-        Change::Removed(id) => add_others(programs, alloc, rules, here, id),
-        Change::Flushed => Ok(()),
+        RulesChange::Removed(id) => add_others(programs, alloc, rules, here, id),
+        RulesChange::Flushed => Ok(()),
     }
 }
 

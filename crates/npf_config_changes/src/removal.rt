@@ -6,10 +6,10 @@ ghost use Rattle.npf_config_changes.specs.Changes.{FlushesRules, RemovesRule, wi
 ghost use Rattle.npf_config_changes.specs.Kept.{TakesOut, ruleset_change};
 ghost use Rattle.npf_config_changes.specs.Told.{EndsUnlessMemory};
 
-use crate::change::Change;
+use crate::change::RulesChange;
 use crate::fault::ChangeFault;
-use crate::finding::find_ruleset;
 use crate::next::{changed, with_model};
+use crate::ruleset::find_ruleset;
 use npf_ruleset::Config;
 use npf_types::{Name, NoMemory};
 use std::alloc::Global;
@@ -28,7 +28,7 @@ pub fn rule_rem(alloc: Global, config: &Config, name: Name, id: u32) -> Result<C
     if !found.has_rule(id) {
         return Err(ChangeFault::UnknownRule);
     }
-    Ok(without(alloc, config, &name, Change::Removed(id))?)
+    Ok(without(alloc, config, &name, RulesChange::Removed(id))?)
 }
 
 /// The configuration in which the ruleset of this name has no rules; its next number stays. Refused with `UnknownRuleset`, or
@@ -42,7 +42,7 @@ pub fn rule_flush(alloc: Global, config: &Config, name: Name) -> Result<Config, 
     let Some(_) = find_ruleset(config.model().groups.as_slice(), &name) else {
         return Err(ChangeFault::UnknownRuleset);
     };
-    Ok(without(alloc, config, &name, Change::Flushed)?)
+    Ok(without(alloc, config, &name, RulesChange::Flushed)?)
 }
 
 /// The configuration in which rules are taken out of each ruleset of this name.
@@ -50,7 +50,7 @@ fn without(
     alloc: Global,
     config: &Config,
     name: &Name,
-    change: Change<'_>,
+    change: RulesChange<'_>,
 ) -> Result<Config, NoMemory>
     requires { TakesOut change }
     ensures is { IfOk result (λ next. configuration next ≡ with_ruleset name.now (ruleset_change change.entry) (configuration config.now)) }

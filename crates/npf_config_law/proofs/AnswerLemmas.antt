@@ -1,7 +1,6 @@
 -- Stages whose answers are one, put one behind the other.
-use Rattle.std.proofs.Common.{◌≡◌, Result, Ok, Err, sym, subst, ◌∙◌}
+use Rattle.std.proofs.Common.{Result, Ok, Err}
 use Rattle.npf_types.specs.Stages.{Stage, ◌andthen◌, stops, goes_on, ◌told_by◌, told, done}
-use Rattle.npf_config_changes.specs.ChangeLaws.{HasOneResult}
 use Rattle.npf_config_law.specs.Answers.{AreOne}
 
 -- the next stages answer alike on all that the first ones may come to
@@ -25,16 +24,3 @@ one_told Same Alike Told stage other tell alike answers _ _ (told {fault = f} is
 one_told Same Alike Told stage other tell alike answers _ _ (told {fault = f} is) (done {a = b} there) = answers (Err f) (Ok b) is there
 one_told Same Alike Told stage other tell alike answers _ _ (done {a = a} is) (told {fault = g} there) = answers (Ok a) (Err g) is there
 one_told Same Alike Told stage other tell alike answers _ _ (done {a = a} is) (done {a = b} there) = answers (Ok a) (Ok b) is there
-
--- stages that come to one result
-pub once_told : {A F : Type 0} (result : Result A F) → HasOneResult (λ other. other ≡ result)
-once_told result one two is there = is ∙ sym there
-
-pub once_behind : {A B F : Type 0} (first : Stage A F) (next : A → Stage B F) → HasOneResult first → ((a : A) → HasOneResult (next a)) → HasOneResult (first andthen next)
-once_behind first next once nexts _ _ (stops {fault = f} is) (stops {fault = g} there) = let same = once (Err f) (Err g) is there in cc
-once_behind first next once nexts _ two (stops {fault = f} is) (goes_on {a = b} there _) = let same = once (Err f) (Ok b) is there in cc
-once_behind first next once nexts one _ (goes_on {a = a} is _) (stops {fault = g} there) = let same = once (Ok a) (Err g) is there in cc
-once_behind {A} first next once nexts one two (goes_on {a = a} is more) (goes_on {a = b} there also) =
-    let firsts = once (Ok a) (Ok b) is there in
-    let same : a ≡ b = cc in
-    nexts b one two (subst (λ (x : A). next x one) same more) also

@@ -1,31 +1,20 @@
 -- What changes make of configurations that are one is one.
 use Rattle.std.proofs.Common.{◌≡◌, ◌+◌, ℕ, Some, Result, Ok, Err, List, ◌∷◌, ◌++◌, nat_le, take, drop, slice_get, refl, sym, ap, subst, ◌∙◌}
-use Rattle.std.specs.List.{AllZip}
-use Rattle.std.proofs.lemmas.Option.{same_Some}
-use Rattle.npf_types.specs.declared.limits.TheConstants.{MAX_TABLE_ENTRIES}
-use Rattle.npf_types.specs.declared.name.Name.{Name}
-use Rattle.npf_types.specs.declared.prefix.Prefix.{Prefix}
+use Rattle.std.{specs.List.AllZip, proofs.lemmas.Option.same_Some}
+use Rattle.npf_types.specs.declared.{limits.TheConstants.MAX_TABLE_ENTRIES, name.Name.Name, prefix.Prefix.Prefix}
 use Rattle.npf_types.specs.Stages.{Stage, ◌andthen◌, asks_that, gives, goes_on, stops}
 use Rattle.npf_faults.specs.declared.fault.Excess.TheVariants.{Entries}
-use Rattle.npf_model.specs.declared.iface.Iface.{Iface}
-use Rattle.npf_model.specs.declared.model.Model.{Model}
-use Rattle.npf_model.specs.declared.table.Kind.{Kind}
-use Rattle.npf_model.specs.declared.table.Kind.TheVariants.{Const, Ipset}
-use Rattle.npf_model.specs.Configuration.{Configuration}
-use Rattle.npf_model.specs.Describes.{Tables}
-use Rattle.npf_model.specs.Verdict.{first_where}
+use Rattle.npf_model.specs.{declared.{iface.Iface.Iface, model.Model.Model, table.Kind.{Kind, TheVariants.{Const, Ipset}}}, Configuration.Configuration}
+use Rattle.npf_model.specs.{Describes.Tables, Verdict.first_where}
 use Rattle.npf_ruleset.proofs.PairLemmas.{zip_each}
 use Rattle.npf_config.specs.Tables.{entry_count}
-use Rattle.npf_config_changes.specs.declared.fault.ChangeFault.{ChangeFault}
-use Rattle.npf_config_changes.specs.Additions.{AddsRule}
+use Rattle.npf_config_changes.specs.{declared.fault.ChangeFault.ChangeFault, Additions.AddsRule}
 use Rattle.npf_config_changes.specs.ChangeLaws.{AreOneAnswer, AreToldAlike, HasOneResult, OneAddition, OneFlush, OneRemoval, equal}
 use Rattle.npf_config_changes.specs.Changes.{FlushesRules, RemovesRule}
-use Rattle.npf_config_changes.specs.Entries.{AddsEntry, AllowsChange, FindsTable, GainsEntry, LosesEntry, RemovesEntry, TableAt, absent, allowed, beginning, found, gained, lost, present, read_only, unknown, with_entries, wrong_kind}
-use Rattle.npf_config_changes.specs.Rulesets.{are_one_name}
+use Rattle.npf_config_changes.specs.Entries.{AddsEntry, AllowsChange, FindsTable, GainsEntry, LosesEntry, RemovesEntry, TableAt, absent, allowed, beginning}
+use Rattle.npf_config_changes.specs.{Entries.{found, gained, lost, present, read_only, unknown, with_entries, wrong_kind}, Rulesets.are_one_name}
 use Rattle.npf_config_changes.specs.Told.{told_count, too_many}
-use Rattle.npf_config_law.specs.Answers.{AreOne}
-use Rattle.npf_config_law.specs.Entries.{AreOneConfiguration, AreSameEntries}
-use Rattle.npf_config_law.proofs.AnswerLemmas.{one_behind}
+use Rattle.npf_config_law.{specs.{Answers.AreOne, Entries.{AreOneConfiguration, AreSameEntries}}, proofs.AnswerLemmas.one_behind}
 use Rattle.npf_config_law.proofs.EntryLemmas.{same_at, same_count, same_gained, same_lost}
 
 -- both changes make one configuration, or are refused for faults that are told alike
@@ -212,7 +201,8 @@ module _ (kinds : List Kind) (name : Name) (prefix : Prefix) (old last : Configu
       (λ _ _ _ _ _. one_behind AreSameEntries AreOneConfiguration AreToldAlike (GainsEntry a.entries prefix) (GainsEntry b.entries prefix) _ _
       (one_gain prefix a.entries b.entries table.entries)
       (λ ps qs _ _ entries. let configs = one_entries a b table ps qs entries in
-      one_kept (entry_count (with_entries a.place ps old).tables) (entry_count (with_entries b.place qs last).tables) (with_entries a.place ps old) (with_entries b.place qs last) (same_count _ _ configs.tables) configs)))
+      one_kept (entry_count (with_entries a.place ps old).tables) (entry_count (with_entries b.place qs last).tables)
+      (with_entries a.place ps old) (with_entries b.place qs last) (same_count _ _ configs.tables) configs)))
 
   pub entries_agree_removed : (one two : Result Configuration ChangeFault) → RemovesEntry kinds old name prefix one → RemovesEntry kinds last name prefix two → AreOneChange one two
   entries_agree_removed = one_behind IsSameTable AreOneConfiguration AreToldAlike (FindsTable name kinds old) (FindsTable name kinds last) _ _ one_table

@@ -1,9 +1,6 @@
 -- How many elements lists have of which one has those of the other.
 use Rattle.std.proofs.Common.{◌≡◌, ◌≢◌, ◌<◌, ◌≤◌, ◌+◌, ◌-◌, ℕ, inl, inr, List, [], ◌∷◌, length, get_or, refl, sym, ap, ◌∙◌, arith, Contains}
-use Rattle.std.specs.Prelude.{suc, ◌⊎◌}
-use Rattle.std.specs.List.{AllPairs, remove}
-use Rattle.std.proofs.lemmas.Bool.{cases_order}
-use Rattle.std.proofs.lemmas.List.{get_or_default}
+use Rattle.std.{specs.{Prelude.{suc, ◌⊎◌}, List.{AllPairs, remove}}, proofs.lemmas.{Bool.cases_order, List.get_or_default}}
 use Rattle.std.proofs.lemmas.List.Edits.{length-remove, get_or-remove_below, get_or-remove_above}
 
 module _ {X : Type 0} where

@@ -1,17 +1,12 @@
 -- Lists of entries that are the same: those that are read of one text, and what a change makes of them.
 use Rattle.std.proofs.Common.{◌≡◌, ◌≢◌, ◌+◌, ◌↔◌, ℕ, Bool, true, false, inl, inr, List, [], ◌∷◌, ◌++◌, length, take, drop, refl, sym, subst, arith, Contains}
-use Rattle.std.specs.Prelude.{◌⊎◌, zero, suc}
-use Rattle.std.specs.List.{AllPairs, AllZip, sum_by}
-use Rattle.std.proofs.lemmas.List.Sums.{sum_by-cons}
-use Rattle.npf_types.specs.declared.prefix.Prefix.{Prefix}
-use Rattle.npf_types.proofs.PrefixLemmas.{same_prefix, same_prefix_laws, same_prefix_tells}
-use Rattle.npf_model.specs.declared.table.Kind.{Kind}
-use Rattle.npf_model.specs.Describes.{Tables}
+use Rattle.std.{specs.{Prelude.{◌⊎◌, zero, suc}, List.{AllPairs, AllZip, sum_by}}, proofs.lemmas.List.Sums.sum_by-cons}
+use Rattle.npf_types.{specs.declared.prefix.Prefix.Prefix, proofs.PrefixLemmas.{same_prefix, same_prefix_laws, same_prefix_tells}}
+use Rattle.npf_model.specs.{declared.table.Kind.Kind, Describes.Tables}
 use Rattle.npf_lpm.specs.Lpm.{Gains, Loses}
 use Rattle.npf_table.specs.TableFile.{AreEntries}
 use Rattle.npf_ruleset.proofs.PairLemmas.{zip_append}
-use Rattle.npf_config_law.specs.Entries.{AreSameEntries}
-use Rattle.npf_config_law.proofs.CountLemmas.{no_more}
+use Rattle.npf_config_law.{specs.Entries.AreSameEntries, proofs.CountLemmas.no_more}
 
 -- two prefixes are one or they aren't
 pub prefix_cases : (p q : Prefix) → (p ≡ q) ⊎ (p ≢ q)

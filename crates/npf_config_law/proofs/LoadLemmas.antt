@@ -1,55 +1,28 @@
 -- A text is loaded in one way: it means one configuration, or it is refused for faults that are alike.
 use Rattle.std.proofs.Common.{◌≡◌, ◌≤◌, ◌<◌, ℕ, Some, inl, inr, Result, Ok, Err, List, [], ◌∷◌, ◌++◌, All, Contains, length, refl, sym, ap, subst, ◌∙◌, arith, slice_get}
-use Rattle.std.proofs.lemmas.List.Elements.{All-contains, Contains-append_right}
-use Rattle.std.proofs.lemmas.Option.{same_Some}
-use Rattle.npf_types.specs.declared.limits.TheConstants.{MAX_RULE_WEIGHT}
-use Rattle.npf_types.specs.declared.span.Span.{Span}
-use Rattle.npf_types.specs.Reading.{IsOnly}
-use Rattle.npf_faults.specs.declared.fault.ConfFault.{ConfFault}
-use Rattle.npf_faults.specs.declared.fault.Excess.TheVariants.{Weight, Instructions}
-use Rattle.npf_faults.specs.declared.fault.Fault.TheVariants.{TooMany}
-use Rattle.npf_faults.specs.First.{IsFirstFaultOf, NotBefore}
-use Rattle.npf_lexer.specs.declared.token.Token.{Token}
-use Rattle.npf_lexer.specs.Lexer.{IsLexed}
+use Rattle.std.proofs.lemmas.{List.Elements.{All-contains, Contains-append_right}, Option.same_Some}
+use Rattle.npf_types.specs.{declared.{limits.TheConstants.MAX_RULE_WEIGHT, span.Span.Span}, Reading.IsOnly}
+use Rattle.npf_faults.specs.declared.fault.{ConfFault.ConfFault, Excess.TheVariants.{Weight, Instructions}, Fault.TheVariants.TooMany}
+use Rattle.npf_faults.{specs.First.{IsFirstFaultOf, NotBefore}, proofs.FirstLemmas.{no_first, not_before}}
+use Rattle.npf_lexer.specs.{declared.token.Token.Token, Lexer.IsLexed}
 use Rattle.npf_syntax.specs.declared.stmt.Tree.{Tree}
-use Rattle.npf_parser.specs.Law.{OnePlace, OneTree, TreeOrHalt}
-use Rattle.npf_parser.specs.Parse.{HaltsAt, Parses}
-use Rattle.npf_parser.specs.Stmt.{file}
-use Rattle.npf_model.specs.declared.iface.Iface.{Iface}
-use Rattle.npf_model.specs.declared.model.Model.{Model}
-use Rattle.npf_model.specs.declared.table.TableDecl.{TableDecl}
-use Rattle.npf_model.specs.Configuration.{Configuration}
-use Rattle.npf_model.specs.Describes.{Tables}
+use Rattle.npf_parser.specs.{Law.{OnePlace, OneTree, TreeOrHalt}, Parse.{HaltsAt, Parses}, Stmt.file}
+use Rattle.npf_model.specs.{declared.{iface.Iface.Iface, model.Model.Model, table.TableDecl.TableDecl}, Configuration.Configuration, Describes.Tables}
 use Rattle.npf_model.specs.Verdict.{PlacedRule, all_rules}
 use Rattle.npf_bpf.specs.declared.insn.Insn.{Insn}
 use Rattle.npf_expand.specs.Elaborates.{model_of, tree_faults}
 use Rattle.npf_check.specs.Fault.{check_faults}
 use Rattle.npf_outside.specs.declared.files.FileFault.TheVariants as IsFile
-use Rattle.npf_outside.specs.Counts.{Rose, StoodStill}
-use Rattle.npf_outside.specs.Files.{FilesMoment, Tree as FileTree}
+use Rattle.npf_outside.specs.{Counts.{Rose, StoodStill}, Files.{FilesMoment, Tree as FileTree}}
 use Rattle.npf_bpfgen.specs.RuleWeight.{weight_of}
-use Rattle.npf_ruleset.specs.Refusal.{IsFirstHeavy, IsLight, IsWithinLimits}
-use Rattle.npf_ruleset.proofs.CompileLemmas.{instructions_counted}
-use Rattle.npf_config.specs.declared.fault.LoadFault.{LoadFault}
-use Rattle.npf_config.specs.declared.fault.LoadFault.TheVariants.{Conf, File, NoMemory}
-use Rattle.npf_config.specs.Laws.{NeverBoth, OneMeaning}
+use Rattle.npf_ruleset.{specs.Refusal.{IsFirstHeavy, IsLight, IsWithinLimits}, proofs.CompileLemmas.instructions_counted}
+use Rattle.npf_config.specs.{declared.fault.LoadFault.{LoadFault, TheVariants.{Conf, File, NoMemory}}, Laws.{NeverBoth, OneMeaning}}
 use Rattle.npf_config.specs.Refusal.{RefusesConfiguration, RefusesRules, RefusesTables, bad_line, by_rules, by_tables, by_text, too_heavy, too_many, too_much}
-use Rattle.npf_config.specs.RulePlaces.{inspected_places}
-use Rattle.npf_config.specs.Tables.{AreFirstTables}
+use Rattle.npf_config.specs.{RulePlaces.inspected_places, Tables.AreFirstTables}
 use Rattle.npf_config.specs.Text.{IsTreeOf, Means, RefusesText, in_checks, in_grammar, in_meaning, in_tokens}
 use Rattle.npf_config_law.specs.Readings.{AreAlike, AreOneLoad, LoadsOrEnds, StandAlike, alike, equal}
 use Rattle.npf_config_law.proofs.PartLemmas.{Parted, after, before as in_front, here, parted}
 use Rattle.npf_config_law.proofs.TableLemmas.{StopsAmong, bad, long, many, one_stops, read_or_stops, tables_same}
-
--- first faults of one list stand alike
-no_fault : (faults : List ConfFault) (fault : ConfFault) → faults ≡ [] → ¬ IsFirstFaultOf faults fault
-no_fault faults fault none is =
-    let below : is.listed.0 < length faults = is.listed.1 in
-    let empty = ap length none in
-    omega arith
-
-not_before : (faults : List ConfFault) (fault other : ConfFault) → IsFirstFaultOf faults fault → Contains faults other → NotBefore fault other
-not_before faults fault other is there = All-contains (NotBefore fault) faults other is.first there
 
 both_first : (fault other : ConfFault) → NotBefore fault other → NotBefore other fault → StandAlike fault other
 both_first fault other (inl before) (inl behind) = absurd (omega (arith, before, behind))
@@ -128,7 +101,7 @@ module _ (one_tree : OneTree) (tree_or_halt : TreeOrHalt) (one_place : OnePlace)
       ((tree, subst (λ (all : List Token). Parses all tree) (same_tokens tokens is.tokens spelled is.spelled) is.parsed), (span, halts))
 
   no_meaning : (tree other : Tree) (fault : ConfFault) → IsTreeOf text tree → IsTreeOf text other → tree_faults tree ifaces ≡ [] → ¬ IsFirstFaultOf (tree_faults other ifaces) fault
-  no_meaning tree other fault is there clean = no_fault (tree_faults other ifaces) fault (ap (λ (t : Tree). tree_faults t ifaces) (same_tree other tree there is) ∙ clean)
+  no_meaning tree other fault is there clean = no_first (tree_faults other ifaces) fault (ap (λ (t : Tree). tree_faults t ifaces) (same_tree other tree there is) ∙ clean)
 
   -- a text is refused for faults that stand alike
   one_refusal : (one two : ConfFault) → RefusesText ifaces text one → RefusesText ifaces text two → StandAlike one two

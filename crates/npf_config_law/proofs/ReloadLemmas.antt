@@ -4,25 +4,17 @@ use Rattle.npf_types.specs.declared.span.Span.{Span}
 use Rattle.npf_faults.specs.declared.fault.ConfFault.{ConfFault}
 use Rattle.npf_syntax.specs.declared.stmt.Tree.{Tree}
 use Rattle.npf_parser.specs.Law.{OnePlace, OneTree, TreeOrHalt}
-use Rattle.npf_model.specs.declared.iface.Iface.{Iface}
-use Rattle.npf_model.specs.declared.model.Model.{Model}
-use Rattle.npf_model.specs.Configuration.{Configuration}
-use Rattle.npf_outside.specs.Counts.{StoodStill}
-use Rattle.npf_outside.specs.Files.{FilesMoment, Tree as FileTree}
+use Rattle.npf_model.specs.{declared.{iface.Iface.Iface, model.Model.Model}, Configuration.Configuration}
+use Rattle.npf_outside.specs.{Counts.StoodStill, Files.{FilesMoment, Tree as FileTree}}
 use Rattle.npf_config.specs.Laws.{NeverBoth, OneMeaning}
-use Rattle.npf_config_changes.specs.declared.fault.ChangeFault.{ChangeFault}
+use Rattle.npf_config_changes.specs.{declared.fault.ChangeFault.ChangeFault, Additions.KeepsCounts, ChangeLaws.HasOneResult}
 use Rattle.npf_config_changes.specs.declared.fault.ChangeFault.TheVariants as Change
-use Rattle.npf_config_changes.specs.Additions.{KeepsCounts}
-use Rattle.npf_config_changes.specs.ChangeLaws.{HasOneResult}
-use Rattle.npf_config_reload.specs.Reload.{IsLoadedAlone, TakesOver, passed, taken}
-use Rattle.npf_config_reload.specs.Taken.{model_taken, taken_over}
-use Rattle.npf_config_law.specs.Answers.{AreOne}
-use Rattle.npf_config_law.specs.Entries.{AreOneConfiguration}
-use Rattle.npf_config_law.proofs.AnswerLemmas.{once_behind, once_told}
-use Rattle.npf_config_law.proofs.LoadLemmas.{one_load}
+use Rattle.npf_config_changes.proofs.LawLemmas.{one_after, one_told}
+use Rattle.npf_config_reload.specs.{Reloads.{IsLoadedAlone, TakesOver, passed, taken}, Taken.{model_taken, taken_over}}
+use Rattle.npf_config_law.{specs.{Answers.AreOne, Entries.AreOneConfiguration}, proofs.LoadLemmas.one_load}
 
 once_kept : (span : Span) (model : Model) → HasOneResult (KeepsCounts span model)
-once_kept span model = once_behind _ _ (once_told _) (λ _. once_behind _ _ (once_told _) (λ _. once_told _))
+once_kept span model = one_after _ _ (one_told _) (λ _. one_after _ _ (one_told _) (λ _. one_told _))
 
 module _ (one_tree : OneTree) (tree_or_halt : TreeOrHalt) (one_place : OnePlace) (one_meaning : OneMeaning) (never_both : NeverBoth)
     (files : FileTree) (before now : FilesMoment) (told : before.contents ≡ Some files) (well : StoodStill before.read_faults now.read_faults)

@@ -1,30 +1,15 @@
 -- The tables of a configuration are read in one way, and stop at one fault.
 use Rattle.std.proofs.Common.{◌≡◌, ◌≤◌, ◌<◌, ◌+◌, ℕ, Option, Some, None, inl, inr, List, [], ◌∷◌, ◌++◌, length, sym, ap, subst, ◌∙◌, arith}
-use Rattle.std.specs.Prelude.{IsSomeAnd, ◌⊎◌}
-use Rattle.std.specs.List.{AllZip}
-use Rattle.std.proofs.lemmas.Bool.{cases_order}
-use Rattle.std.proofs.lemmas.List.Sums.{sum_by-cons}
+use Rattle.std.{specs.{Prelude.{IsSomeAnd, ◌⊎◌}, List.AllZip}, proofs.lemmas.{Bool.cases_order, List.Sums.sum_by-cons}}
 use Rattle.std.proofs.lemmas.Option.{get_or_from_slice_get, same_Some, slice_get_within}
-use Rattle.npf_types.specs.declared.limits.TheConstants.{MAX_TABLE_ENTRIES, MAX_TEXT_BYTES}
-use Rattle.npf_types.specs.declared.prefix.Prefix.{Prefix}
-use Rattle.npf_types.specs.declared.span.Span.{Span}
-use Rattle.npf_faults.specs.declared.fault.ConfFault.{ConfFault}
-use Rattle.npf_faults.specs.declared.fault.Excess.TheVariants.{Entries}
-use Rattle.npf_faults.specs.declared.fault.Fault.TheVariants.{BadTableFile, TooMany}
-use Rattle.npf_model.specs.declared.table.Kind.{Kind}
-use Rattle.npf_model.specs.declared.table.TableDecl.{TableDecl}
-use Rattle.npf_model.specs.Describes.{Tables}
+use Rattle.npf_types.specs.declared.{limits.TheConstants.{MAX_TABLE_ENTRIES, MAX_TEXT_BYTES}, prefix.Prefix.Prefix, span.Span.Span}
+use Rattle.npf_faults.specs.declared.fault.{ConfFault.ConfFault, Excess.TheVariants.Entries, Fault.TheVariants.{BadTableFile, TooMany}}
+use Rattle.npf_model.specs.{declared.table.{Kind.Kind, TableDecl.TableDecl}, Describes.Tables}
 use Rattle.npf_table.specs.TableFile.{AreEntries, IsFirstBadLine, lines}
-use Rattle.npf_outside.specs.declared.files.FileFault.TheVariants.{Long}
-use Rattle.npf_outside.specs.Counts.{count_after}
-use Rattle.npf_outside.specs.Files.{FilesMoment, Has, IsLonger, Tree as FileTree}
-use Rattle.npf_config.specs.declared.fault.LoadFault.{LoadFault}
-use Rattle.npf_config.specs.declared.fault.LoadFault.TheVariants.{Conf, File}
-use Rattle.npf_config.specs.Reading.{ComesTo, HasUnreadFile}
-use Rattle.npf_config.specs.Refusal.{HasBadLine, IsPastLimit}
-use Rattle.npf_config.specs.Tables.{AreFirstEntries, AreFirstTables, IsTableText, entry_count, file_place}
-use Rattle.npf_config_law.specs.Entries.{AreSameEntries}
-use Rattle.npf_config_law.proofs.EntryLemmas.{same_count, same_read}
+use Rattle.npf_outside.specs.{declared.files.FileFault.TheVariants.Long, Counts.count_after, Files.{FilesMoment, Has, IsLonger, Tree as FileTree}}
+use Rattle.npf_config.specs.{declared.fault.LoadFault.{LoadFault, TheVariants.{Conf, File}}, Reading.{ComesTo, HasUnreadFile}}
+use Rattle.npf_config.specs.{Refusal.{HasBadLine, IsPastLimit}, Tables.{AreFirstEntries, AreFirstTables, IsTableText, entry_count, file_place}}
+use Rattle.npf_config_law.{specs.Entries.AreSameEntries, proofs.EntryLemmas.{same_count, same_read}}
 use Rattle.npf_config_law.proofs.PartLemmas.{Parted, after, before as in_front, here, parted}
 
 -- the first bad line is one

@@ -1,33 +1,17 @@
 -- A rule that is taken over can be compiled as it could before.
-use Rattle.std.proofs.Common.{◌≡◌, ◌≤◌, ◌<◌, ◌+◌, ℕ, suc, Bool, true, false, Option, Some, None, List, [], ◌∷◌, All, IfSome, if◌then◌else◌, length, map, option_map, slice_get, unwrap_or, refl, sym, subst, arith}
-use Rattle.std.specs.List.{sum_by}
-use Rattle.std.proofs.lemmas.List.{length-map}
-use Rattle.std.proofs.lemmas.List.Elements.{All-map, All-weaker}
-use Rattle.std.proofs.lemmas.List.Sums.{sum_by-cons}
-use Rattle.std.proofs.lemmas.Option.{slice_get-map}
-use Rattle.npf_types.specs.declared.direction.Dir.{Dir}
-use Rattle.npf_types.specs.declared.limits.TheConstants.{MAX_RULE_WEIGHT, MAX_TABLES}
-use Rattle.npf_types.specs.declared.name.Name.{Name}
-use Rattle.npf_model.specs.declared.ends.AddrItem.{AddrItem}
-use Rattle.npf_model.specs.declared.ends.AddrItem.TheVariants.{Net, InTable}
-use Rattle.npf_model.specs.declared.ends.Ends.{Ends}
-use Rattle.npf_model.specs.declared.group.Group.{Group}
-use Rattle.npf_model.specs.declared.group.Item.{Item}
-use Rattle.npf_model.specs.declared.group.Item.TheVariants.{Dynamic}
-use Rattle.npf_model.specs.declared.model.Model.{Model}
-use Rattle.npf_model.specs.declared.rule.OnIf.{OnIf}
-use Rattle.npf_model.specs.declared.rule.Rule.{Rule}
-use Rattle.npf_model.specs.declared.table.TableDecl.{TableDecl}
-use Rattle.npf_model.specs.Count.{listed}
+use Rattle.std.proofs.Common.{◌≡◌, ◌≤◌, ◌<◌, ◌+◌, ℕ, suc, Bool, true, false, Option, Some, None, List, [], ◌∷◌, All, IfSome, if◌then◌else◌}
+use Rattle.std.{proofs.{Common.{length, map, option_map, slice_get, unwrap_or, refl, sym, subst, arith}, lemmas.List.length-map}, specs.List.sum_by}
+use Rattle.std.proofs.lemmas.{List.{Elements.{All-map, All-weaker}, Sums.sum_by-cons}, Option.slice_get-map}
+use Rattle.npf_types.specs.declared.{direction.Dir.Dir, limits.TheConstants.{MAX_RULE_WEIGHT, MAX_TABLES}, name.Name.Name}
+use Rattle.npf_model.specs.declared.{ends.{AddrItem.{AddrItem, TheVariants.{Net, InTable}}, Ends.Ends}, group.{Group.Group, Item.{Item, TheVariants.Dynamic}}}
+use Rattle.npf_model.specs.{declared.{model.Model.Model, rule.{OnIf.OnIf, Rule.Rule}, table.TableDecl.TableDecl}, Count.listed}
 use Rattle.npf_model.specs.Verdict.{PlacedRule, all_rules, first_where, rules_at, rules_of}
 use Rattle.npf_bpfgen.specs.Condition.{HasItemNumber, HasItemNumbers, HasTableNumbers}
 use Rattle.npf_bpfgen.specs.RuleWeight.{HasShortEnds, HasShortLists, item_weight, items_weight, weight_of}
-use Rattle.npf_ruleset.specs.declared.config.Config.{Config}
-use Rattle.npf_ruleset.specs.Refusal.{IsCompilable, IsLight}
+use Rattle.npf_ruleset.specs.{declared.config.Config.Config, Refusal.{IsCompilable, IsLight}}
 use Rattle.npf_config_changes.specs.Rulesets.{Ruleset, are_one_name}
 use Rattle.npf_config_reload.specs.Taken.{Again, again_in, ends_again, group_taken, has_named, item_again, model_taken, place_again, rule_again, ruleset_again, ruleset_in, table_in}
-use Rattle.npf_config_reload.proofs.EachLemmas.{all_filter, all_in, each_in, each_of_map}
-use Rattle.npf_config_reload.proofs.TakenLemmas.{groups_are}
+use Rattle.npf_config_reload.proofs.{EachLemmas.{all_filter, all_in, each_in, each_of_map}, TakenLemmas.groups_are}
 
 -- the place of what passes a test is one of the list's
 first_within : {X : Type 0} (test : X → Bool) (n : ℕ) (xs : List X) → IfSome (first_where test n xs) (λ place. place < n + length xs)
@@ -57,7 +41,8 @@ AreSmall again = (place : ℕ) → IfSome (place_again again.tables place) (λ f
 
 pub small_places : (old file : Model) → length file.tables ≤ MAX_TABLES → AreSmall (again_in old file)
 small_places old file few place =
-    found_holds (λ found. found < 2147483648) (table_in file) (λ decl. within (table_in file decl) (first_within (λ (other : TableDecl). are_one_name other.name decl.name) 0 file.tables)) old.tables place
+    found_holds (λ found. found < 2147483648) (table_in file)
+    (λ decl. within (table_in file decl) (first_within (λ (other : TableDecl). are_one_name other.name decl.name) 0 file.tables)) old.tables place
   where
     within : (found : Option ℕ) → IfSome found (λ place. place < 0 + length file.tables) → IfSome found (λ place. place < 2147483648)
     within None is = tt

@@ -1,8 +1,6 @@
 -- What holds of each part of a list.
 use Rattle.std.proofs.Common.{◌≡◌, ◌+◌, ◌<◌, ℕ, Bool, true, false, List, [], ◌∷◌, ◌++◌, All, cond, filter, flat_map, get_or, length, map, take, sym, ap, subst, ◌∙◌, append-nil}
-use Rattle.std.proofs.lemmas.List.{take_more}
-use Rattle.std.proofs.lemmas.List.Concat.{flat_map-append, flat_map-cons}
-use Rattle.std.proofs.lemmas.List.Elements.{All-append, All-cons, All-head, All-nil, All-tail}
+use Rattle.std.proofs.lemmas.List.{take_more, Concat.{flat_map-append, flat_map-cons}, Elements.{All-append, All-cons, All-head, All-nil, All-tail}}
 
 module _ {Y : Type 0} (P : Y → Type 0) where
   front : (xs ys : List Y) → All P (xs ++ ys) → All P xs

@@ -1,22 +1,13 @@
 -- What is laid out is within the limits of all rules together, or passes one.
-use Rattle.std.proofs.Common.{◌≡◌, ◌≤◌, ◌<◌, ◌+◌, ℕ, Err, List, ◌∷◌, All, get_or, length, map, refl, sym, ap, subst, ◌∙◌, arith}
-use Rattle.std.specs.Arc.{arc_value}
-use Rattle.std.specs.Global.{Global}
-use Rattle.std.specs.declared.sync.Arc.{Arc}
-use Rattle.std.proofs.lemmas.List.{get_or_at, length-append, length-map}
-use Rattle.npf_types.specs.declared.limits.TheConstants.{MAX_INSTRUCTIONS, MAX_LIST_ELEMENTS, MAX_RULES, MAX_TABLES}
-use Rattle.npf_types.specs.declared.span.Span.{Span}
+use Rattle.std.{proofs.Common.{◌≡◌, ◌≤◌, ◌<◌, ◌+◌, ℕ, Err, List, ◌∷◌, All, get_or, length, map, refl, sym, ap, subst, ◌∙◌, arith}, specs.Arc.arc_value}
+use Rattle.std.{specs.{Global.Global, declared.sync.Arc.Arc}, proofs.lemmas.List.{get_or_at, length-append, length-map}}
+use Rattle.npf_types.specs.declared.{limits.TheConstants.{MAX_INSTRUCTIONS, MAX_LIST_ELEMENTS, MAX_RULES, MAX_TABLES}, span.Span.Span}
 use Rattle.npf_types.specs.Stages.{goes_on, stops}
-use Rattle.npf_faults.specs.declared.fault.Excess.TheVariants.{Rules, Elements, Instructions}
-use Rattle.npf_faults.specs.declared.fault.Fault.TheVariants.{TooMany}
-use Rattle.npf_model.specs.declared.model.Model.{Model}
-use Rattle.npf_model.specs.Verdict.{PlacedRule, all_rules}
+use Rattle.npf_faults.specs.declared.fault.{Excess.TheVariants.{Rules, Elements, Instructions}, Fault.TheVariants.TooMany}
+use Rattle.npf_model.specs.{declared.model.Model.Model, Verdict.{PlacedRule, all_rules}}
 use Rattle.npf_table.specs.declared.table.Table.{Table}
-use Rattle.npf_ruleset.specs.declared.config.Config.{Config}
-use Rattle.npf_ruleset.specs.Refusal.{HasTables, IsFirstHeavy, IsLight, IsTooMuch}
-use Rattle.npf_config_changes.specs.declared.fault.ChangeFault.TheVariants.{Conf}
-use Rattle.npf_config_changes.specs.Additions.{KeepsCounts}
-use Rattle.npf_config_changes.specs.Elements.{model_elements}
+use Rattle.npf_ruleset.specs.{declared.config.Config.Config, Refusal.{HasTables, IsFirstHeavy, IsLight, IsTooMuch}}
+use Rattle.npf_config_changes.specs.{declared.fault.ChangeFault.TheVariants.Conf, Additions.KeepsCounts, Elements.model_elements}
 use Rattle.npf_config_changes.proofs.AskLemmas.{keeps_limit, passes_limit}
 
 module _ (end : Span) (next : Model) where
@@ -46,7 +37,8 @@ none_heavy rules place weight light first =
     let wrong : ⊥ = omega arith in wrong
 
 -- tables that are shared are as many
-pub shares_tables : (own : Config) (model : Model) → model.tables ≡ own.model.tables → (tables : List (Arc Table Global)) → map arc_value tables ≡ map arc_value own.tables.items → HasTables model tables
+pub shares_tables : (own : Config) (model : Model) → model.tables ≡ own.model.tables → (tables : List (Arc Table Global)) →
+    map arc_value tables ≡ map arc_value own.tables.items → HasTables model tables
 shares_tables own model same tables shared =
     record {
       declared = sym (length-map tables arc_value) ∙ ap length shared ∙ length-map own.tables.items arc_value ∙ own.declared.declared ∙ ap length (sym same);

@@ -1,25 +1,14 @@
 -- How a configuration that takes over ends: loaded, refused alone, or past a limit.
-use Rattle.std.proofs.Common.{◌≡◌, ◌≤◌, ℕ, Result, Ok, Err, List, inl, inr, sym, ap, subst, ◌∙◌}
-use Rattle.std.specs.Result.{IfErr, IfOk, OnOk}
+use Rattle.std.{proofs.Common.{◌≡◌, ◌≤◌, ℕ, Result, Ok, Err, List, inl, inr, sym, ap, subst, ◌∙◌}, specs.Result.{IfErr, IfOk, OnOk}}
 use Rattle.npf_types.specs.declared.span.Span.{Span}
-use Rattle.npf_model.specs.declared.iface.Iface.{Iface}
-use Rattle.npf_model.specs.declared.model.Model.{Model}
-use Rattle.npf_model.specs.Configuration.{Configuration}
+use Rattle.npf_model.specs.{declared.{iface.Iface.Iface, model.Model.Model}, Configuration.Configuration}
 use Rattle.npf_outside.specs.Files.{FilesMoment, SameReadFaults}
-use Rattle.npf_ruleset.specs.declared.config.Config.{Config}
-use Rattle.npf_ruleset.specs.Configuration.{configuration, programs}
-use Rattle.npf_config.specs.FirstConfiguration.{IsFirstConfigurationTo}
-use Rattle.npf_config.specs.declared.fault.LoadFault.{LoadFault}
+use Rattle.npf_ruleset.specs.{declared.config.Config.Config, Configuration.{configuration, programs}}
+use Rattle.npf_config.specs.{FirstConfiguration.IsFirstConfigurationTo, declared.fault.LoadFault.LoadFault, Loaded.HasNextIds, Refusal.RefusesLoad}
 use Rattle.npf_config.specs.declared.fault.LoadFault.TheVariants as Load
-use Rattle.npf_config.specs.Loaded.{HasNextIds}
-use Rattle.npf_config.specs.Refusal.{RefusesLoad}
-use Rattle.npf_config.specs.Stage.{IfConf}
-use Rattle.npf_config.proofs.LoadedLemmas.{more_ids}
-use Rattle.npf_config_changes.specs.declared.fault.ChangeFault.{ChangeFault}
-use Rattle.npf_config_changes.specs.declared.fault.ChangeFault.TheVariants.{Conf}
-use Rattle.npf_config_changes.specs.Additions.{KeepsCounts}
-use Rattle.npf_config_reload.specs.Reload.{IsLoadedAlone, RefusesReload, TakesOver, passed, taken}
-use Rattle.npf_config_reload.specs.Taken.{model_taken, taken_over}
+use Rattle.npf_config.{specs.Stage.IfConf, proofs.LoadedLemmas.more_ids}
+use Rattle.npf_config_changes.specs.{declared.fault.ChangeFault.{ChangeFault, TheVariants.Conf}, Additions.KeepsCounts}
+use Rattle.npf_config_reload.specs.{Reloads.{IsLoadedAlone, RefusesReload, TakesOver, passed, taken}, Taken.{model_taken, taken_over}}
 use Rattle.npf_config_reload.proofs.TakenLemmas.{ids_taken}
 
 module _ (ifaces : List Iface) (text : List ℕ) (old : Configuration) (before now : FilesMoment) where

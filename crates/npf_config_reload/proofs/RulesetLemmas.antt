@@ -1,9 +1,7 @@
 -- The first ruleset of each name, with one more.
 use Rattle.std.proofs.Common.{◌≡◌, Bool, true, false, ℕ, Option, Some, None, List, [], ◌∷◌, ◌++◌, is_some, if◌then◌else◌, option_map, refl, sym, ap, subst, ◌∙◌, append-nil}
-use Rattle.std.specs.Str.{bytes_eq}
-use Rattle.std.proofs.lemmas.Slice.Eq.{bytes_eq-Decides}
-use Rattle.npf_types.specs.declared.name.Name.{Name}
-use Rattle.npf_types.specs.Name.{name_bytes}
+use Rattle.std.{specs.Str.bytes_eq, proofs.lemmas.Slice.Eq.bytes_eq-Decides}
+use Rattle.npf_types.specs.{declared.name.Name.Name, Name.name_bytes}
 use Rattle.npf_config_changes.specs.Rulesets.{Ruleset}
 use Rattle.npf_config_reload.specs.Taken.{first_of}
 

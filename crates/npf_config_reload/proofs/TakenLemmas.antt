@@ -1,14 +1,8 @@
 -- What holds of the items of two configurations holds of those of the one that takes over.
 use Rattle.std.proofs.Common.{◌≡◌, ◌≤◌, ◌∙◌, ℕ, Bool, true, false, Option, Some, None, List, [], ◌∷◌, All, IfSome, if◌then◌else◌, map, refl, ap}
 use Rattle.std.proofs.lemmas.List.Elements.{All-cons, All-head, All-map, All-nil, All-weaker}
-use Rattle.npf_types.specs.declared.direction.Dir.{Dir}
-use Rattle.npf_types.specs.declared.name.Name.{Name}
-use Rattle.npf_model.specs.declared.group.Group.{Group}
-use Rattle.npf_model.specs.declared.group.Item.{Item}
-use Rattle.npf_model.specs.declared.group.Item.TheVariants.{One, Dynamic}
-use Rattle.npf_model.specs.declared.model.Model.{Model}
-use Rattle.npf_model.specs.declared.rule.OnIf.{OnIf}
-use Rattle.npf_model.specs.declared.rule.Rule.{Rule}
+use Rattle.npf_types.specs.declared.{direction.Dir.Dir, name.Name.Name}
+use Rattle.npf_model.specs.declared.{group.{Group.Group, Item.{Item, TheVariants.{One, Dynamic}}}, model.Model.Model, rule.{OnIf.OnIf, Rule.Rule}}
 use Rattle.npf_config.specs.Loaded.{HasNextIds, IsNextWithin}
 use Rattle.npf_config_changes.specs.Rulesets.{Ruleset, are_one_name, rulesets_at, rulesets_in, rulesets_named}
 use Rattle.npf_config_reload.specs.Taken.{Again, again_in, first_of, group_taken, item_taken, model_taken, ruleset_again, ruleset_in, taken_ruleset}

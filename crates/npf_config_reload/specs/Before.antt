@@ -7,12 +7,12 @@ use Rattle.std.specs.Str.{bytes_eq}
 use Rattle.npf_types.specs.declared.name.Name.{Name}
 use Rattle.npf_types.specs.Name.{name_bytes}
 use Rattle.npf_config_changes.specs.Rulesets.{Ruleset}
-use Rattle.npf_config_reload.specs.declared.again.Places.{Places}
+use Rattle.npf_config_reload.specs.declared.again.FilePlaces.{FilePlaces}
 use Rattle.npf_config_reload.specs.declared.rulesets.Dynamic.{Dynamic}
 use Rattle.npf_config_reload.specs.declared.rulesets.Rulesets.{Rulesets}
 use Rattle.npf_config_reload.specs.Taken.{Again, first_of}
 
-abbrev pub again_of : Places → Again
+abbrev pub again_of : FilePlaces → Again
 again_of places = record { tables = places.tables.items; procedures = places.procedures.items }
 
 abbrev pub ruleset_before : Dynamic → Ruleset

@@ -1,3 +1,3 @@
 pub mod Before
-pub mod Reload
+pub mod Reloads
 pub mod Taken

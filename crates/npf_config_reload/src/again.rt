@@ -14,18 +14,18 @@ use std::alloc::Global;
 
 /// The place in the file of each table and each procedure of the configuration before, where the file has one of its name.
 #[derive(Drop)]
-pub(crate) struct Places {
+pub(crate) struct FilePlaces {
     tables: Vec<Option<u32>>,
     procedures: Vec<Option<u32>>,
 }
 
-impl Places {
-    pub(crate) fn of(alloc: Global, old: &Model, file: &Model) -> Result<Places, NoMemory>
+impl FilePlaces {
+    pub(crate) fn of(alloc: Global, old: &Model, file: &Model) -> Result<FilePlaces, NoMemory>
         requires tables { length file.now.tables ≤ MAX_TABLES }
         requires procedures { length file.now.procedures ≤ MAX_PROCEDURES }
         ensures { IfOk result (λ places. again_of places ≡ again_in old.now file.now) }
     {
-        Ok(Places {
+        Ok(FilePlaces {
             tables: tables_in(alloc, old.tables.as_slice(), file)?,
             procedures: procedures_in(alloc, old.procedures.as_slice(), file)?,
         })

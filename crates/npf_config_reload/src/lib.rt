@@ -11,10 +11,10 @@
 #![tactic(auto)]
 
 mod again;
+mod kept_rules;
 mod limit;
 mod model;
-mod reloading;
-mod rule;
+mod reloads;
 mod rulesets;
 
-pub use reloading::reload;
+pub use reloads::reload;

@@ -3,8 +3,8 @@ ghost use Rattle.std.specs.Prelude.{◌≡◌, ◌≤◌, IfOk, length, map};
 ghost use Rattle.npf_config_reload.specs.Before.{again_of, found_by};
 ghost use Rattle.npf_config_reload.specs.Taken.{group_taken, item_taken, model_taken, taken_ruleset};
 
-use crate::again::Places;
-use crate::rule::rules_again;
+use crate::again::FilePlaces;
+use crate::kept_rules::rules_again;
 use crate::rulesets::Rulesets;
 use npf_model::{Group, Item, Model, Rule};
 use npf_types::limits::{MAX_PROCEDURES, MAX_TABLES};
@@ -15,7 +15,7 @@ use std::alloc::Global;
 #[derive(Drop)]
 struct Before<'a> {
     rulesets: Rulesets<'a>,
-    places: Places,
+    places: FilePlaces,
 }
 
 pub(crate) fn model_taken(alloc: Global, old: &Model, file: &Model) -> Result<Model, NoMemory>
@@ -25,7 +25,7 @@ pub(crate) fn model_taken(alloc: Global, old: &Model, file: &Model) -> Result<Mo
 {
     let before = Before {
         rulesets: Rulesets::of(alloc, old.groups.as_slice())?,
-        places: Places::of(alloc, old, file)?,
+        places: FilePlaces::of(alloc, old, file)?,
     };
     let groups = groups_taken(alloc, file.groups.as_slice(), &before)?;
     file.with_groups(alloc, groups)

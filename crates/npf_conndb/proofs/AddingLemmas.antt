@@ -1,9 +1,7 @@
 -- What further entries add to a pass's history.
 use Rattle.std.proofs.Common.{◌≡◌, List, [], ◌∷◌, ◌++◌, refl, sym, ap, ◌∙◌, subst}
 use Rattle.npf_core.specs.declared.entry.Entry.{Entry}
-use Rattle.npf_connections.specs.Adding.{Adds, AddsOwn, EndsWith}
-use Rattle.npf_connections.specs.Pass.{Pass}
-use Rattle.npf_connections.proofs.AddLemmas.{adds_more}
+use Rattle.npf_connections.{specs.{Adding.{Adds, AddsOwn, EndsWith}, Pass.Pass}, proofs.AddLemmas.adds_more}
 
 abbrev rest_of : {X : Type 0} → List X → List X
 rest_of [] = []

@@ -1,38 +1,18 @@
 -- What a collection has done of the slots that it visited.
-use Rattle.std.specs.List.{Contains}
-use Rattle.std.specs.Prelude.{is_some}
+use Rattle.std.specs.{List.Contains, Prelude.is_some}
 use Rattle.std.proofs.Common.{◌≡◌, ◌≢◌, ℕ, ◌+◌, ◌≤◌, ◌<◌, false, Option, Some, None, List, [], ◌∷◌, ◌++◌, length, append-nil, refl, sym, ap, ◌∙◌, subst, ⊎_elim, inl, inr, arith}
-use Rattle.std.proofs.lemmas.Bool.{cases_eq, cases_lt}
-use Rattle.std.proofs.lemmas.List.{map-append}
-use Rattle.std.proofs.lemmas.List.Elements.{Contains-append_left}
+use Rattle.std.proofs.lemmas.{Bool.{cases_eq, cases_lt}, List.{map-append, Elements.Contains-append_left}}
 use Rattle.atomic_table.specs.Table.{Me}
-use Rattle.npf_core.specs.declared.act.Act.TheVariants.{Free}
-use Rattle.npf_core.specs.declared.conn_id.ConnId.{ConnId}
-use Rattle.npf_core.specs.declared.entry.Entry.{Entry}
-use Rattle.npf_core.specs.declared.reply.Reply.TheVariants.{Nothing}
-use Rattle.npf_core.specs.declared.slot.Slot.{Slot}
-use Rattle.npf_core.specs.declared.stage.Stage.TheVariants.{Dead, Vacant}
-use Rattle.npf_core.specs.History.{IsPrefix, Legal, state_of}
-use Rattle.npf_core.specs.Meaning.{Meaning}
-use Rattle.npf_connections.specs.Adding.{Adds, AddsOwn}
-use Rattle.npf_connections.specs.Collecting.{FreesAlone, HasNoDead, IsClean, IsWorn}
-use Rattle.npf_connections.specs.Entries.{entry_of, free_entries}
-use Rattle.npf_connections.specs.Pass.{Pass, IsPass, all_places}
-use Rattle.npf_connections.specs.Worn.{ClaimsLast, last_epoch}
-use Rattle.npf_connections.proofs.AddLemmas.{adds_alone, adds_more}
+use Rattle.npf_core.specs.declared.{act.Act.TheVariants.Free, conn_id.ConnId.ConnId, entry.Entry.Entry, reply.Reply.TheVariants.Nothing, slot.Slot.Slot}
+use Rattle.npf_core.specs.{declared.stage.Stage.TheVariants.{Dead, Vacant}, History.{IsPrefix, Legal, state_of}, Meaning.Meaning}
+use Rattle.npf_connections.specs.{Adding.{Adds, AddsOwn}, Collecting.{FreesAlone, HasNoDead, IsClean, IsWorn}, Entries.{entry_of, free_entries}}
+use Rattle.npf_connections.{specs.{Pass.{Pass, IsPass, all_places}, Worn.{ClaimsLast, last_epoch}}, proofs.AddLemmas.{adds_alone, adds_more}}
 use Rattle.npf_cells_pins.specs.declared.pin.Pin.TheVariants.{Idle}
-use Rattle.npf_cells_lives.specs.Turns.{Running}
-use Rattle.npf_cells_lives.proofs.DeathLemmas.{dead_at}
-use Rattle.npf_cells_rule.specs.declared.view.CellView.{CellView}
-use Rattle.npf_cells_rule.specs.Passes.{cell_pass, is_pinned}
-use Rattle.npf_cells_rule.specs.Views.{with_epochs}
-use Rattle.npf_conndb.specs.Between.{IsBetweenCalls, StaysBetween}
-use Rattle.npf_pool.specs.Take.{HasSeenMore}
-use Rattle.npf_conndb.specs.Frees.{CollectsSlot, HasCollected, freed_ids}
-use Rattle.npf_conndb.proofs.AddingLemmas.{adds_one}
-use Rattle.npf_conndb.proofs.PassLemmas.{hands, goes_between, goes_further, adds_nothing, adds_none, begins}
-use Rattle.npf_conndb.proofs.SeenLemmas.{seen_stays}
-use Rattle.npf_conndb.proofs.VisitLemmas.{stays_more}
+use Rattle.npf_cells_lives.{specs.Turns.Running, proofs.DeathLemmas.dead_at}
+use Rattle.npf_cells_rule.specs.{declared.view.CellView.CellView, Passes.{cell_pass, is_pinned}, Views.with_epochs}
+use Rattle.npf_conndb.{specs.{Between.{IsBetweenCalls, StaysBetween}, Frees.{CollectsSlot, HasCollected, freed_ids}}, proofs.AddingLemmas.adds_one}
+use Rattle.npf_pool.specs.Takes.{HasSeenMore}
+use Rattle.npf_conndb.proofs.{PassLemmas.{hands, goes_between, goes_further, adds_nothing, adds_none, begins}, SeenLemmas.seen_stays, VisitLemmas.stays_more}
 use Rattle.npf_conndb.proofs.WithinLemmas.{dead_within}
 
 -- what isn't something is none
@@ -41,22 +21,34 @@ none_freed None e = refl
 none_freed (Some id) e = absurd cc
 
 -- who isn't worn now wasn't before
-was_unworn : {S A R : Type 0} (m : Meaning S A R) (old now : CellView S A R) → StaysBetween m old now → IsPrefix old.seats.history now.seats.history → ¬ IsWorn (cell_pass now) → ¬ IsWorn (cell_pass old)
+was_unworn : {S A R : Type 0} (m : Meaning S A R) (old now : CellView S A R) → StaysBetween m old now →
+    IsPrefix old.seats.history now.seats.history → ¬ IsWorn (cell_pass now) → ¬ IsWorn (cell_pass old)
 was_unworn m old now stays on unworn worn = unworn (⊎_elim
     (λ (last : old.epochs.greatest ≡ last_epoch). inl (let goes = stays.goes.epoch in let most = stays.legal.most in omega (arith, last, goes, most)))
-    (λ (claims : ClaimsLast old.seats.history). inr (record { id = claims.id; claimed = record { entry = claims.claimed.entry; stands = subst (λ h. Contains h claims.claimed.entry) (sym on.goes_on) (Contains-append_left old.seats.history on.rest claims.claimed.entry claims.claimed.stands); replied = claims.claimed.replied }; last = claims.last }))
+    (λ (claims : ClaimsLast old.seats.history). inr (record {
+      id = claims.id;
+      claimed = record {
+        entry = claims.claimed.entry;
+        stands = subst (λ h. Contains h claims.claimed.entry) (sym on.goes_on) (Contains-append_left old.seats.history on.rest claims.claimed.entry claims.claimed.stands);
+        replied = claims.claimed.replied;
+      };
+      last = claims.last;
+    }))
     worn)
 
 module _ {S A R : Type 0} (m : Meaning S A R) (epoch : ℕ) (old : Me (Running S) (CellView S A R)) where
   -- nothing yet
-  pub collected_none : (now : Me (Running S) (CellView S A R)) → IsPass m (cell_pass old.0) → IsBetweenCalls m old.0 → old.0.epochs.pin ≡ Idle → now ≡ with_epochs old now.0.epochs → now.0.epochs.pin ≡ Idle → now.0.epochs.loaded ≡ epoch → now.0.epochs.greatest ≡ epoch → old.0.epochs.greatest ≤ epoch → epoch ≤ last_epoch →
+  pub collected_none : (now : Me (Running S) (CellView S A R)) → IsPass m (cell_pass old.0) → IsBetweenCalls m old.0 → old.0.epochs.pin ≡ Idle →
+      now ≡ with_epochs old now.0.epochs → now.0.epochs.pin ≡ Idle → now.0.epochs.loaded ≡ epoch → now.0.epochs.greatest ≡ epoch → old.0.epochs.greatest ≤ epoch → epoch ≤ last_epoch →
       (length old.0.seats.readers ≡ all_places → epoch ≢ last_epoch → old.0.pools.dated + 2 ≤ epoch) → HasCollected m epoch 0 old now
   collected_none now legal between out same idle loaded greatest goes most later = record {
     ids = [];
     adds = adds_none (cell_pass old.0) now.0.seats.history (adds_nothing (cell_pass old.0) now.0.seats.history history);
     stays = record {
       goes = record { view = shows ∙ (λ i. record (cell_pass old.0) { history = sym history i; epoch = now.0.epochs.greatest }); epoch = omega (arith, goes, greatest) };
-      between = goes_between m old.0 now.0 hands_same (ap (λ (y : Me (Running S) (CellView S A R)). y.0.pools.builds) same) (ap (λ (y : Me (Running S) (CellView S A R)). y.0.pools.notes) same) legal is_pass (begins (cell_pass old.0) now.0.seats.history [] (adds_nothing (cell_pass old.0) now.0.seats.history history)) between;
+      between = goes_between m old.0 now.0 hands_same (ap (λ (y : Me (Running S) (CellView S A R)). y.0.pools.builds) same)
+          (ap (λ (y : Me (Running S) (CellView S A R)). y.0.pools.notes) same) legal is_pass
+          (begins (cell_pass old.0) now.0.seats.history [] (adds_nothing (cell_pass old.0) now.0.seats.history history)) between;
       legal = is_pass;
       pin = idle ∙ sym out;
     };
@@ -84,7 +76,18 @@ module _ {S A R : Type 0} (m : Meaning S A R) (epoch : ℕ) (old : Me (Running S
       })
 
       hands_same : hands now.0 ≡ hands old.0
-      hands_same = ap (λ (y : Me (Running S) (CellView S A R)). hands y.0) same ∙ (λ i. ((idle ∙ sym out) i, old.0.trie.locks, old.0.turn, old.0.pools.nodes, old.0.pools.unstored, old.0.pools.kills, old.0.pools.gave_up, old.0.pools.reclaims, old.0.pools.cleared, old.0.pools.unfreed))
+      hands_same = ap (λ (y : Me (Running S) (CellView S A R)). hands y.0) same ∙ (λ i. (
+        (idle ∙ sym out) i,
+        old.0.trie.locks,
+        old.0.turn,
+        old.0.pools.nodes,
+        old.0.pools.unstored,
+        old.0.pools.kills,
+        old.0.pools.gave_up,
+        old.0.pools.reclaims,
+        old.0.pools.cleared,
+        old.0.pools.unfreed,
+      ))
 
   -- the pass has seen more, while nothing was freed
   module _ (slot : ℕ) (now next : Me (Running S) (CellView S A R)) (so : HasCollected m epoch slot old now) (none : Adds (cell_pass old.0) now.0.seats.history []) (sees : HasSeenMore m now next) where
@@ -95,7 +98,8 @@ module _ {S A R : Type 0} (m : Meaning S A R) (epoch : ℕ) (old : Me (Running S
     begun = so.stays.goes.view
 
     pub sees_none : Adds (cell_pass old.0) next.0.seats.history []
-    sees_none = adds_more (cell_pass old.0) (cell_pass now.0) next.0.seats.history [] [] (ap (λ (p : Pass (Entry S A R)). p.number) begun) (ap (λ (p : Pass (Entry S A R)). p.joined) begun) none sees.adds
+    sees_none = adds_more (cell_pass old.0) (cell_pass now.0) next.0.seats.history [] []
+        (ap (λ (p : Pass (Entry S A R)). p.number) begun) (ap (λ (p : Pass (Entry S A R)). p.joined) begun) none sees.adds
 
     before : ¬ IsWorn (cell_pass next.0) → ¬ IsWorn (cell_pass now.0)
     before = was_unworn m now.0 next.0 seen (begins (cell_pass now.0) next.0.seats.history [] sees.adds)
@@ -118,7 +122,8 @@ module _ {S A R : Type 0} (m : Meaning S A R) (epoch : ℕ) (old : Me (Running S
     }
 
   -- more slots, in which nobody stands
-  pub collected_vacant : (i j : ℕ) (now : Me (Running S) (CellView S A R)) → HasCollected m epoch i old now → ((p : ℕ) → i ≤ p → p < j → ((state_of m now.0.seats.history).slot p).stage ≡ Vacant) → HasCollected m epoch j old now
+  pub collected_vacant : (i j : ℕ) (now : Me (Running S) (CellView S A R)) → HasCollected m epoch i old now →
+      ((p : ℕ) → i ≤ p → p < j → ((state_of m now.0.seats.history).slot p).stage ≡ Vacant) → HasCollected m epoch j old now
   collected_vacant i j now so vacant = record {
     ids = so.ids;
     adds = so.adds;
@@ -150,13 +155,15 @@ module _ {S A R : Type 0} (m : Meaning S A R) (epoch : ℕ) (old : Me (Running S
     entries_same : (ids : List ConnId) → free_entries (cell_pass now.0) ids ≡ free_entries (cell_pass old.0) ids
     entries_same ids = ap (λ (p : Pass (Entry S A R)). free_entries p ids) shown
 
-    adds_both : (freed : Option ConnId) → AddsOwn (cell_pass now.0) next.0.seats.history (free_entries (cell_pass now.0) (freed_ids freed)) → (freed ≡ None → next.0.seats.history ≡ now.0.seats.history) →
+    adds_both : (freed : Option ConnId) → AddsOwn (cell_pass now.0) next.0.seats.history (free_entries (cell_pass now.0) (freed_ids freed)) →
+        (freed ≡ None → next.0.seats.history ≡ now.0.seats.history) →
         (ids : List ConnId) × AddsOwn (cell_pass old.0) next.0.seats.history (free_entries (cell_pass old.0) ids)
     adds_both None adds same = (so.ids, subst (λ h. AddsOwn (cell_pass old.0) h (free_entries (cell_pass old.0) so.ids)) (sym (same refl)) so.adds)
     adds_both (Some id) adds same = (
       so.ids ++ id ∷ [],
       subst (AddsOwn (cell_pass old.0) next.0.seats.history) (sym (map-append (λ (i : ConnId). entry_of (cell_pass old.0) (Free i) Nothing) so.ids (id ∷ [])))
-          (adds_one (cell_pass old.0) (cell_pass now.0) next.0.seats.history (free_entries (cell_pass old.0) so.ids) (entry_of (cell_pass old.0) (Free id) Nothing) (ap (λ (p : Pass (Entry S A R)). p.number) shown) (ap (λ (p : Pass (Entry S A R)). p.joined) shown) so.adds.adds
+          (adds_one (cell_pass old.0) (cell_pass now.0) next.0.seats.history (free_entries (cell_pass old.0) so.ids) (entry_of (cell_pass old.0) (Free id) Nothing)
+          (ap (λ (p : Pass (Entry S A R)). p.number) shown) (ap (λ (p : Pass (Entry S A R)). p.joined) shown) so.adds.adds
           (subst (AddsOwn (cell_pass now.0) next.0.seats.history) (entries_same (id ∷ [])) adds)),
     )
 
@@ -166,7 +173,12 @@ module _ {S A R : Type 0} (m : Meaning S A R) (epoch : ℕ) (old : Me (Running S
         record {
           ids = both.0;
           adds = both.1;
-          stays = record { goes = goes_further (cell_pass old.0) (cell_pass now.0) (cell_pass next.0) so.stays.goes more.stays.goes; between = more.stays.between; legal = more.stays.legal; pin = more.stays.pin ∙ so.stays.pin };
+          stays = record {
+            goes = goes_further (cell_pass old.0) (cell_pass now.0) (cell_pass next.0) so.stays.goes more.stays.goes;
+            between = more.stays.between;
+            legal = more.stays.legal;
+            pin = more.stays.pin ∙ so.stays.pin;
+          };
           loaded = more.loaded ∙ so.loaded;
           dated = more.dated ∙ so.dated;
           later = λ all unworn. so.later all (still unworn);
@@ -174,19 +186,29 @@ module _ {S A R : Type 0} (m : Meaning S A R) (epoch : ℕ) (old : Me (Running S
         }
 
   -- nothing was freed in it either
-  pub collected_still : (slot : ℕ) (freed : Option ConnId) (now next : Me (Running S) (CellView S A R)) → CollectsSlot m slot freed now next → freed ≡ None → Adds (cell_pass old.0) now.0.seats.history [] → Adds (cell_pass old.0) next.0.seats.history []
+  pub collected_still : (slot : ℕ) (freed : Option ConnId) (now next : Me (Running S) (CellView S A R)) → CollectsSlot m slot freed now next →
+      freed ≡ None → Adds (cell_pass old.0) now.0.seats.history [] → Adds (cell_pass old.0) next.0.seats.history []
   collected_still slot freed now next more is none = subst (λ h. Adds (cell_pass old.0) h []) (sym (more.same is)) none
 
   -- of more slots, and so of fewer
   pub collected_below : (i j : ℕ) (now : Me (Running S) (CellView S A R)) → j ≤ i → HasCollected m epoch i old now → HasCollected m epoch j old now
-  collected_below i j now fewer so = record { ids = so.ids; adds = so.adds; stays = so.stays; loaded = so.loaded; dated = so.dated; later = so.later; clean = λ all unworn p h. so.clean all unworn p (omega (arith, h, fewer)) }
+  collected_below i j now fewer so = record {
+    ids = so.ids;
+    adds = so.adds;
+    stays = so.stays;
+    loaded = so.loaded;
+    dated = so.dated;
+    later = so.later;
+    clean = λ all unworn p h. so.clean all unworn p (omega (arith, h, fewer));
+  }
 
   -- each slot: no connection is Dead
   pub collected_all : (slots i : ℕ) (now : Me (Running S) (CellView S A R)) → HasCollected m epoch i old now → now.0.seats.about ≡ slots → slots ≤ i → IsClean m (cell_pass now.0)
   collected_all slots i now so sized past all unworn id dead =
       let legal = subst (λ n. Legal m n now.0.seats.history) sized so.stays.legal.legal in
       let within = dead_within m slots now.0.seats.history id legal dead in
-      so.clean (ap (λ (p : Pass (Entry S A R)). p.places) (sym so.stays.goes.view) ∙ all) unworn id.slot (omega (arith, within, past)) (dead_at ((state_of m now.0.seats.history).slot id.slot) id.inc dead).1
+      so.clean (ap (λ (p : Pass (Entry S A R)). p.places) (sym so.stays.goes.view) ∙ all) unworn id.slot
+      (omega (arith, within, past)) (dead_at ((state_of m now.0.seats.history).slot id.slot) id.inc dead).1
 
 -- Once the slots are done the pass sees no more: what was clean stays so.
 module _ {S A R : Type 0} (m : Meaning S A R) (old now : CellView S A R) (stays : StaysBetween m old now) (seats : now.seats ≡ old.seats) where

@@ -1,42 +1,21 @@
 -- A pass that owns all reader places copies a slot's connection as the machine has it.
 use Rattle.std.proofs.Common.{◌≡◌, ◌≢◌, ◌⊎◌, ℕ, true, Option, Some, None, List, [], ◌∷◌, length, slice_index, append-nil, refl, sym, ap, ◌∙◌, subst, ⊎_elim, arith}
 use Rattle.atomic_table.specs.Table.{Me}
-use Rattle.npf_types.specs.declared.key.Key.{Key}
-use Rattle.npf_types.specs.declared.key.Way.{Way}
-use Rattle.npf_types.specs.declared.key.Way.TheVariants.{Forward, Backward, Port}
-use Rattle.npf_core.specs.declared.conn_id.ConnId.{ConnId}
-use Rattle.npf_core.specs.declared.entry.Entry.{Entry}
-use Rattle.npf_core.specs.declared.kept.Kept.{Kept}
-use Rattle.npf_core.specs.declared.slot.Slot.{Slot}
-use Rattle.npf_core.specs.declared.stage.Stage.{Stage}
-use Rattle.npf_core.specs.declared.stage.Stage.TheVariants.{Vacant, Building, Live, Dead}
-use Rattle.npf_core.specs.Copying.{Copies, HoldsIf, IsKept}
-use Rattle.npf_core.specs.History.{state_of}
-use Rattle.npf_core.specs.Machine.{Machine, stage_of, IsLive, Holds, HoldsNone, HoldsSome}
-use Rattle.npf_core.specs.Meaning.{Meaning}
-use Rattle.npf_connections.specs.Pass.{IsPass, all_places}
-use Rattle.npf_connections.proofs.AddLemmas.{adds_alone}
+use Rattle.npf_types.specs.declared.key.{Key.Key, Way.{Way, TheVariants.{Forward, Backward, Port}}}
+use Rattle.npf_core.specs.declared.{conn_id.ConnId.ConnId, entry.Entry.Entry, kept.Kept.Kept, slot.Slot.Slot, stage.Stage.Stage}
+use Rattle.npf_core.specs.{declared.stage.Stage.TheVariants.{Vacant, Building, Live, Dead}, Copying.{Copies, HoldsIf, IsKept}, History.state_of}
+use Rattle.npf_core.specs.{Machine.{Machine, stage_of, IsLive, Holds, HoldsNone, HoldsSome}, Meaning.Meaning}
+use Rattle.npf_connections.{specs.Pass.{IsPass, all_places}, proofs.AddLemmas.adds_alone}
 use Rattle.npf_seats.specs.declared.side.SeatSide.{SeatSide}
-use Rattle.npf_cells_words.specs.declared.layout.Layout.{Layout}
-use Rattle.npf_cells_words.specs.declared.layout.Pool.TheVariants.{Slots}
-use Rattle.npf_cells_words.specs.Layout.{note_field}
-use Rattle.npf_cells_lives.specs.Deaths.{last_id}
-use Rattle.npf_cells_lives.specs.Turns.{Running, running, stage_phase}
-use Rattle.npf_cells_lives.proofs.DeathLemmas.{last_stage}
-use Rattle.npf_cells_rule.specs.declared.view.CellView.{CellView}
-use Rattle.npf_cells_rule.specs.Passes.{cell_pass}
-use Rattle.npf_cells_rule.specs.Views.{with_trie}
+use Rattle.npf_cells_words.specs.{declared.layout.{Layout.Layout, Pool.TheVariants.Slots}, Layout.note_field}
+use Rattle.npf_cells_lives.{specs.{Deaths.last_id, Turns.{Running, running, stage_phase}}, proofs.DeathLemmas.last_stage}
+use Rattle.npf_cells_rule.specs.{declared.view.CellView.CellView, Passes.cell_pass, Views.with_trie}
 use Rattle.npf_cells_holds.specs.LookKinds.{HasLiveTurn, TellsHeldKey, reading}
 use Rattle.npf_cells_takes.specs.PrivateKinds.{HasTurnIn, ShowsTurnInc}
-use Rattle.npf_cells_turns.specs.declared.act.TurnAct.TheVariants.{Nothing}
-use Rattle.npf_cells_turns.specs.EndKinds.{MayEndBy}
-use Rattle.npf_cells_turns.specs.SightKinds.{HasSeen, StaysByTurn, seeing}
-use Rattle.npf_cells_turns.specs.TurnKinds.{HasTaken, turn_at}
-use Rattle.npf_cells_turns.specs.WordKinds.{ShowsByTurn}
+use Rattle.npf_cells_turns.specs.{declared.act.TurnAct.TheVariants.Nothing, EndKinds.MayEndBy, SightKinds.{HasSeen, StaysByTurn, seeing}}
+use Rattle.npf_cells_turns.specs.{TurnKinds.{HasTaken, turn_at}, WordKinds.ShowsByTurn}
 use Rattle.npf_turn.proofs.WorkLemmas.{Works, is_live, may_end}
-use Rattle.npf_conndb.specs.Copying.{CopiesKey, FoundInSlot, HasLiveOne, having_read}
-use Rattle.npf_conndb.proofs.HeldLemmas.{some_or_none}
-use Rattle.npf_conndb.proofs.SoleLemmas.{sole_log}
+use Rattle.npf_conndb.{specs.Copy.{CopiesKey, FoundInSlot, HasLiveOne, having_read}, proofs.{HeldLemmas.some_or_none, SoleLemmas.sole_log}}
 
 -- a list of five numbers is that of its items
 five_items : (xs : List ℕ) → length xs ≡ 5 → xs ≡ slice_index xs 0 ∷ slice_index xs 1 ∷ slice_index xs 2 ∷ slice_index xs 3 ∷ slice_index xs 4 ∷ []
@@ -75,7 +54,8 @@ module _ {S A R : Type 0} where
   pub live_still : (old now : Me (Running S) (CellView S A R)) (slot : ℕ) → HasRead old now → HasLiveOne slot old.0 → HasLiveTurn now.0.turn slot
   live_still old now slot read one = (turn_at slot one.was, ap (λ (y : Me (Running S) (CellView S A R)). y.0.turn) read ∙ one.turn, refl, one.live)
 
-module _ {S A R : Type 0} (m : Meaning S A R) (digest : Key → ℕ) (layout : Layout) (slot : ℕ) (way : Way) (v : CellView S A R) (lives : v.seats.lives ≡ true) (settled : v.seats.theirs ≡ []) (all : length v.seats.readers ≡ all_places) where
+module _ {S A R : Type 0} (m : Meaning S A R) (digest : Key → ℕ) (layout : Layout) (slot : ℕ) (way : Way) (v : CellView S A R)
+    (lives : v.seats.lives ≡ true) (settled : v.seats.theirs ≡ []) (all : length v.seats.readers ≡ all_places) where
   abbrev HoldsNoneBy : List (Entry S A R) → Type 0
   HoldsNoneBy h = HoldsNone (state_of m h) (last_id (state_of m h) slot) way
 
@@ -89,7 +69,8 @@ module _ {S A R : Type 0} (m : Meaning S A R) (digest : Key → ℕ) (layout : L
       subst HoldsNoneBy (sole_log m digest layout v told.state told.rule told.seated lives settled all) (told.zero.0 zero)
 
   -- and any other that one is
-  pub some_held : (live : HasLiveOne slot v) (field found : ℕ) → field ≡ note_field way → ShowsByTurn m digest layout v Slots slot field found → found ≢ 0 → HoldsSome (state_of m v.seats.history) (last_id (state_of m v.seats.history) slot) way
+  pub some_held : (live : HasLiveOne slot v) (field found : ℕ) → field ≡ note_field way → ShowsByTurn m digest layout v Slots slot field found →
+      found ≢ 0 → HoldsSome (state_of m v.seats.history) (last_id (state_of m v.seats.history) slot) way
   some_held live field found is shows other =
       let told = shows (turn_at slot live.was) way live.turn refl refl live.live is in
       let log = sole_log m digest layout v told.state told.rule told.seated lives settled all in
@@ -102,11 +83,13 @@ module _ {S A R : Type 0} (m : Meaning S A R) (digest : Key → ℕ) (layout : L
   module _ (key : Key) (held : HoldsBy key v.seats.history) where
     pub word_is : (u : CellView S A R) (word found : ℕ) → u.seats ≡ v.seats → TellsHeldKey m digest layout u slot way word found → (length key.0 ≡ 5) × (found ≡ slice_index key.0 word)
     word_is u word found same told =
-        let log = sole_log m digest layout u told.state told.rule told.seated (ap (λ (s : SeatSide ℕ (Entry S A R)). s.lives) same ∙ lives) (ap (λ (s : SeatSide ℕ (Entry S A R)). s.theirs) same ∙ settled) (ap (λ (s : SeatSide ℕ (Entry S A R)). length s.readers) same ∙ all)
+        let log = sole_log m digest layout u told.state told.rule told.seated (ap (λ (s : SeatSide ℕ (Entry S A R)). s.lives) same ∙ lives)
+        (ap (λ (s : SeatSide ℕ (Entry S A R)). s.theirs) same ∙ settled) (ap (λ (s : SeatSide ℕ (Entry S A R)). length s.readers) same ∙ all)
         ∙ ap (λ (s : SeatSide ℕ (Entry S A R)). s.history) same in
         told.held key (subst (HoldsBy key) (sym log) held)
 
-    pub key_is : (a b c d e : ℕ) → length key.0 ≡ 5 → a ≡ slice_index key.0 0 → b ≡ slice_index key.0 1 → c ≡ slice_index key.0 2 → d ≡ slice_index key.0 3 → e ≡ slice_index key.0 4 → HoldsBy (record { 0 = a ∷ b ∷ c ∷ d ∷ e ∷ [] }) v.seats.history
+    pub key_is : (a b c d e : ℕ) → length key.0 ≡ 5 → a ≡ slice_index key.0 0 → b ≡ slice_index key.0 1 → c ≡ slice_index key.0 2 →
+        d ≡ slice_index key.0 3 → e ≡ slice_index key.0 4 → HoldsBy (record { 0 = a ∷ b ∷ c ∷ d ∷ e ∷ [] }) v.seats.history
     key_is a b c d e five first second third fourth fifth =
         let same : key.0 ≡ a ∷ b ∷ c ∷ d ∷ e ∷ [] = five_items key.0 five ∙ (λ i. sym first i ∷ sym second i ∷ sym third i ∷ sym fourth i ∷ sym fifth i ∷ []) in
         subst (λ (words : List ℕ). HoldsBy (record { 0 = words }) v.seats.history) same held
@@ -161,7 +144,8 @@ module _ {S A R : Type 0} (m : Meaning S A R) (slot : ℕ) (v : CellView S A R) 
     live_there = last_stage k slot ∙ (ap (λ (x : Slot S). x.stage) at_was ∙ live)
 
     -- with its keys it makes the copy
-    pub kept_so : (inc : ℕ) (forward port backward : Option Key) → ShowsTurnInc v.turn slot inc → HoldsIf k (last_id k slot) Forward forward → HoldsIf k (last_id k slot) Port port → HoldsIf k (last_id k slot) Backward backward →
+    pub kept_so : (inc : ℕ) (forward port backward : Option Key) → ShowsTurnInc v.turn slot inc → HoldsIf k (last_id k slot) Forward forward →
+        HoldsIf k (last_id k slot) Port port → HoldsIf k (last_id k slot) Backward backward →
         IsKept k slot (record { id = record { slot = slot; inc = inc }; forward = forward; port = port; backward = backward; state = flow })
     kept_so inc forward port backward shows by_forward by_port by_backward =
         let id = id_is inc shows in
@@ -174,11 +158,13 @@ module _ {S A R : Type 0} (m : Meaning S A R) (slot : ℕ) (v : CellView S A R) 
         }
 
 -- a key that was copied later is as what the pass had seen before has it
-pub key_so : {S A R : Type 0} (m : Meaning S A R) (slot : ℕ) (way : Way) (key : Option Key) (old mid now : Me (Running S) (CellView S A R)) → HasRead old mid → CopiesKey m slot way key mid now → HoldsIf (state_of m old.0.seats.history) (last_id (state_of m old.0.seats.history) slot) way key
+pub key_so : {S A R : Type 0} (m : Meaning S A R) (slot : ℕ) (way : Way) (key : Option Key) (old mid now : Me (Running S) (CellView S A R)) →
+    HasRead old mid → CopiesKey m slot way key mid now → HoldsIf (state_of m old.0.seats.history) (last_id (state_of m old.0.seats.history) slot) way key
 key_so {S} {A} {R} m slot way key old mid now read copies =
     subst (λ (s : SeatSide ℕ (Entry S A R)). HoldsIf (state_of m s.history) (last_id (state_of m s.history) slot) way key) (same_seats old mid read) copies.held
 
-module _ {S A R : Type 0} (m : Meaning S A R) (slot : ℕ) (old taken seen : Me (Running S) (CellView S A R)) (got : HasTaken slot old taken) (sees : HasSeen m taken seen) (legal : IsPass m (cell_pass old.0)) (all : length old.0.seats.readers ≡ all_places) where
+module _ {S A R : Type 0} (m : Meaning S A R) (slot : ℕ) (old taken seen : Me (Running S) (CellView S A R)) (got : HasTaken slot old taken)
+    (sees : HasSeen m taken seen) (legal : IsPass m (cell_pass old.0)) (all : length old.0.seats.readers ≡ all_places) where
   -- who owns all reader places sees no more
   nothing_new : seen ≡ taken
   nothing_new =
@@ -192,17 +178,20 @@ module _ {S A R : Type 0} (m : Meaning S A R) (slot : ℕ) (old taken seen : Me 
   works_seen = record { is = nothing_new ∙ got.is }
 
   -- what it found in the slot stands still
-  pub found_still : (now : Me (Running S) (CellView S A R)) (found : Running S) → running got.was.stage ≡ found → Works old slot got.was (stage_phase got.was.stage) found now → FoundInSlot m slot found now.0
+  pub found_still : (now : Me (Running S) (CellView S A R)) (found : Running S) → running got.was.stage ≡ found →
+      Works old slot got.was (stage_phase got.was.stage) found now → FoundInSlot m slot found now.0
   found_still now found is works = record {
     was = got.was;
     turn = ap (λ (y : Me (Running S) (CellView S A R)). y.0.turn) works.is;
     held = sym is;
-    stays = subst (λ (v : CellView S A R). StaysByTurn (state_of m v.seats.history) v.turn) (ap (λ (y : Me (Running S) (CellView S A R)). y.0) (sym works.is)) (subst (λ (v : CellView S A R). StaysByTurn (state_of m v.seats.history) v.turn) (ap (λ (y : Me (Running S) (CellView S A R)). y.0) (nothing_new ∙ got.is))
+    stays = subst (λ (v : CellView S A R). StaysByTurn (state_of m v.seats.history) v.turn) (ap (λ (y : Me (Running S) (CellView S A R)). y.0) (sym works.is))
+        (subst (λ (v : CellView S A R). StaysByTurn (state_of m v.seats.history) v.turn) (ap (λ (y : Me (Running S) (CellView S A R)). y.0) (nothing_new ∙ got.is))
         (subst (λ t. StaysByTurn (state_of m seen.0.seats.history) t) (ap (λ (y : Me (Running S) (CellView S A R)). y.0.turn) (sym nothing_new)) sees.turn));
   }
 
   -- and when all was copied it ends the turn
-  module _ (now read last : Me (Running S) (CellView S A R)) (found : Running S) (is : running got.was.stage ≡ found) (works : Works old slot got.was (stage_phase got.was.stage) found now) (reads : HasRead now read) where
+  module _ (now read last : Me (Running S) (CellView S A R)) (found : Running S) (is : running got.was.stage ≡ found)
+      (works : Works old slot got.was (stage_phase got.was.stage) found now) (reads : HasRead now read) where
     works_read : Works (having_read old.0 read.0, old.1) slot got.was (stage_phase got.was.stage) found read
     works_read = record { is = reads ∙ (λ i. (having_read (works.is i).0 read.0, (works.is i).1)) }
 

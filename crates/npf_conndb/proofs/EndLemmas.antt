@@ -1,22 +1,10 @@
 -- The keys of a killed connection, given up one after the other.
 use Rattle.std.proofs.Common.{◌≡◌, ◌↔◌, Bool, true, false, List, [], ◌∷◌, ◌++◌, cond, refl, sym, ◌∙◌, subst, append-nil}
-use Rattle.npf_types.specs.declared.key.Key.{Key}
-use Rattle.npf_types.specs.declared.key.Way.{Way}
-use Rattle.npf_types.specs.declared.key.Way.TheVariants.{Forward, Backward, Port}
-use Rattle.npf_core.specs.declared.act.Act.TheVariants.{Kill, Unhold}
-use Rattle.npf_core.specs.declared.act.Why.{Why}
-use Rattle.npf_core.specs.declared.conn_id.ConnId.{ConnId}
-use Rattle.npf_core.specs.declared.entry.Entry.{Entry}
-use Rattle.npf_core.specs.declared.reply.Reply.TheVariants.{Nothing}
-use Rattle.npf_core.specs.History.{state_of}
-use Rattle.npf_core.specs.Machine.{Machine, Holds, HoldsNone, HoldsSome}
-use Rattle.npf_core.specs.Meaning.{Meaning}
-use Rattle.npf_connections.specs.Adding.{AddsOwn}
-use Rattle.npf_connections.specs.Entries.{entry_of, end_entries}
-use Rattle.npf_connections.specs.Pass.{Pass}
-use Rattle.npf_connections.specs.Ways.{HoldsThese}
-use Rattle.npf_conndb.specs.Ends.{AddsIf, GaveUpKey}
-use Rattle.npf_conndb.proofs.AddingLemmas.{adds_one}
+use Rattle.npf_types.specs.declared.key.{Key.Key, Way.{Way, TheVariants.{Forward, Backward, Port}}}
+use Rattle.npf_core.specs.declared.{act.{Act.TheVariants.{Kill, Unhold}, Why.Why}, conn_id.ConnId.ConnId, entry.Entry.Entry, reply.Reply.TheVariants.Nothing}
+use Rattle.npf_core.specs.{History.state_of, Machine.{Machine, Holds, HoldsNone, HoldsSome}, Meaning.Meaning}
+use Rattle.npf_connections.specs.{Adding.AddsOwn, Entries.{entry_of, end_entries}, Pass.Pass, Ways.HoldsThese}
+use Rattle.npf_conndb.{specs.Ends.{AddsIf, GaveUpKey}, proofs.AddingLemmas.adds_one}
 
 -- the ways of which it held a key
 abbrev pub held_ways : Bool → Bool → Bool → Way → Bool
@@ -31,7 +19,8 @@ module _ {S A R : Type 0} (old : Pass (Entry S A R)) (id : ConnId) where
   abbrev gives_up_if : Bool → Way → List (Entry S A R)
   gives_up_if held way = cond held (gives_up way ∷ []) []
 
-  in_order : (why : Why) (forward backward port : Bool) → ((entry_of old (Kill id why) Nothing ∷ [] ++ gives_up_if forward Forward) ++ gives_up_if backward Backward) ++ gives_up_if port Port ≡ end_entries old id why (held_ways forward backward port)
+  in_order : (why : Why) (forward backward port : Bool) → ((entry_of old (Kill id why) Nothing ∷ [] ++ gives_up_if forward Forward) ++ gives_up_if backward Backward) ++
+      gives_up_if port Port ≡ end_entries old id why (held_ways forward backward port)
   in_order why true true true = refl
   in_order why true true false = refl
   in_order why true false true = refl
@@ -42,10 +31,12 @@ module _ {S A R : Type 0} (old : Pass (Entry S A R)) (id : ConnId) where
   in_order why false false false = refl
 
   -- what was added goes on by what was given up
-  adds_if : (mid : Pass (Entry S A R)) (new mine : List (Entry S A R)) (held : Bool) (way : Way) → mid.number ≡ old.number → mid.joined ≡ old.joined → AddsOwn old mid.history mine → AddsIf held mid new (entry_of mid (Unhold id way) Nothing) →
+  adds_if : (mid : Pass (Entry S A R)) (new mine : List (Entry S A R)) (held : Bool) (way : Way) → mid.number ≡ old.number →
+      mid.joined ≡ old.joined → AddsOwn old mid.history mine → AddsIf held mid new (entry_of mid (Unhold id way) Nothing) →
       AddsOwn old new (mine ++ gives_up_if held way)
   adds_if mid new mine true way number joined first then =
-      subst (λ n. AddsOwn old new (mine ++ (record { seat = n; act = Unhold id way; reply = Nothing }) ∷ [])) number (adds_one old mid new mine (entry_of mid (Unhold id way) Nothing) number joined first.adds then)
+      subst (λ n. AddsOwn old new (mine ++ (record { seat = n; act = Unhold id way; reply = Nothing }) ∷ [])) number
+      (adds_one old mid new mine (entry_of mid (Unhold id way) Nothing) number joined first.adds then)
   adds_if mid new mine false way number joined first then = subst (λ h. AddsOwn old h (mine ++ [])) (sym then) (subst (AddsOwn old mid.history) (sym (append-nil mine)) first)
 
 -- what two lists of keys agree on
@@ -58,7 +49,8 @@ same_none k next id way same none key held = none key ((same key).1 held)
 both : {P Q T : Type 0} → (P ↔ Q) → (Q ↔ T) → (P ↔ T)
 both a b = (λ p. b.0 (a.0 p), λ t. a.1 (b.1 t))
 
-module _ {S A R : Type 0} (m : Meaning S A R) (id : ConnId) (killed one two three : Pass (Entry S A R)) (forward : GaveUpKey m id Forward killed one) (backward : GaveUpKey m id Backward one two) (port : GaveUpKey m id Port two three) where
+module _ {S A R : Type 0} (m : Meaning S A R) (id : ConnId) (killed one two three : Pass (Entry S A R)) (forward : GaveUpKey m id Forward killed one)
+    (backward : GaveUpKey m id Backward one two) (port : GaveUpKey m id Port two three) where
   abbrev pub held : Way → Bool
   held = held_ways forward.held backward.held port.held
 
@@ -87,8 +79,10 @@ module _ {S A R : Type 0} (m : Meaning S A R) (id : ConnId) (killed one two thre
   holds_none Port = port.none
 
   -- behind the kill the entries are those of the connection's end
-  pub ends : (old : Pass (Entry S A R)) (why : Why) → killed.number ≡ old.number → killed.joined ≡ old.joined → AddsOwn old killed.history (entry_of old (Kill id why) Nothing ∷ []) → AddsOwn old three.history (end_entries old id why held)
+  pub ends : (old : Pass (Entry S A R)) (why : Why) → killed.number ≡ old.number → killed.joined ≡ old.joined →
+      AddsOwn old killed.history (entry_of old (Kill id why) Nothing ∷ []) → AddsOwn old three.history (end_entries old id why held)
   ends old why number joined kill = subst (AddsOwn old three.history) (in_order old id why forward.held backward.held port.held)
       (adds_if old id two three.history _ port.held Port (backward.number ∙ (forward.number ∙ number)) (backward.joined ∙ (forward.joined ∙ joined))
-      (adds_if old id one two.history _ backward.held Backward (forward.number ∙ number) (forward.joined ∙ joined) (adds_if old id killed one.history _ forward.held Forward number joined kill forward.adds) backward.adds)
+      (adds_if old id one two.history _ backward.held Backward (forward.number ∙ number) (forward.joined ∙ joined)
+      (adds_if old id killed one.history _ forward.held Forward number joined kill forward.adds) backward.adds)
       port.adds)

@@ -1,41 +1,19 @@
 -- A connection is killed, gives its keys up, and is let go: the pass is between calls again.
-use Rattle.std.proofs.Common.{◌≡◌, ◌↔◌, ℕ, Bool, true, List, [], ◌∷◌, refl, sym, ap, ◌∙◌, subst, arith}
-use Rattle.std.specs.List.{Contains}
+use Rattle.std.{proofs.Common.{◌≡◌, ◌↔◌, ℕ, Bool, true, List, [], ◌∷◌, refl, sym, ap, ◌∙◌, subst, arith}, specs.List.Contains}
 use Rattle.atomic_table.specs.Table.{Me}
-use Rattle.npf_types.specs.declared.key.Key.{Key}
-use Rattle.npf_types.specs.declared.key.Way.{Way}
-use Rattle.npf_core.specs.declared.act.Act.TheVariants.{Kill}
-use Rattle.npf_core.specs.declared.act.Why.{Why}
-use Rattle.npf_core.specs.declared.act.Why.TheVariants.{Abandoned, Expired}
-use Rattle.npf_core.specs.declared.conn_id.ConnId.{ConnId}
-use Rattle.npf_core.specs.declared.entry.Entry.{Entry}
-use Rattle.npf_core.specs.declared.found.Found.{Found}
-use Rattle.npf_core.specs.declared.reply.Reply.TheVariants.{Nothing}
-use Rattle.npf_core.specs.declared.stage.Stage.TheVariants.{Dead}
-use Rattle.npf_core.specs.History.{state_of, IsPrefix}
-use Rattle.npf_core.specs.Machine.{stage_of, Holds, HoldsSome}
-use Rattle.npf_core.specs.Meaning.{Meaning}
-use Rattle.npf_connections.specs.Abandoning.{Abandons}
-use Rattle.npf_connections.specs.Adding.{AddsOwn}
-use Rattle.npf_connections.specs.Answered.{without}
-use Rattle.npf_connections.specs.Entries.{entry_of, end_entries}
-use Rattle.npf_connections.specs.Pass.{Pass, IsPass}
-use Rattle.npf_connections.specs.Stay.{GoesOn}
+use Rattle.npf_types.specs.declared.key.{Key.Key, Way.Way}
+use Rattle.npf_core.specs.declared.{act.{Act.TheVariants.Kill, Why.{Why, TheVariants.{Abandoned, Expired}}}, conn_id.ConnId.ConnId, entry.Entry.Entry}
+use Rattle.npf_core.specs.{declared.{found.Found.Found, reply.Reply.TheVariants.Nothing, stage.Stage.TheVariants.Dead}, History.{state_of, IsPrefix}}
+use Rattle.npf_core.specs.{Machine.{stage_of, Holds, HoldsSome}, Meaning.Meaning}
+use Rattle.npf_connections.specs.{Abandoning.Abandons, Adding.AddsOwn, Answered.without, Entries.{entry_of, end_entries}, Pass.{Pass, IsPass}, Stay.GoesOn}
 use Rattle.npf_connections.proofs.AddLemmas.{AddsLast, adds_last}
-use Rattle.npf_cells_lives.specs.declared.pools.PoolSide.{PoolSide}
-use Rattle.npf_cells_lives.specs.Turns.{Running}
+use Rattle.npf_cells_lives.specs.{declared.pools.PoolSide.PoolSide, Turns.Running}
 use Rattle.npf_cells_pins.specs.declared.pin.Pin.{Pin}
-use Rattle.npf_cells_rule.specs.declared.view.CellView.{CellView}
-use Rattle.npf_cells_rule.specs.Passes.{IsProtected, cell_pass, is_pinned}
-use Rattle.npf_cells_rule.specs.Views.{unloaded}
+use Rattle.npf_cells_rule.specs.{declared.view.CellView.CellView, Passes.{IsProtected, cell_pass, is_pinned}, Views.unloaded}
 use Rattle.npf_cells_turns.specs.EndKinds.{HasBareNotes, with_kill, without_build}
 use Rattle.npf_turn.specs.Done.{HasDone, HasKilled, LeavesIdle}
-use Rattle.npf_conndb.specs.Between.{IsBetweenCalls, StaysBetween}
-use Rattle.npf_conndb.specs.Ends.{HasKilledOne, EndsKilled, letting_one_go}
-use Rattle.npf_conndb.specs.Expiries.{ExpiresIn}
-use Rattle.npf_conndb.proofs.BuildLemmas.{noted_less}
-use Rattle.npf_conndb.proofs.ExpiryLemmas.{expires_idle, expires_one}
-use Rattle.npf_conndb.proofs.KillLemmas.{killed_dead, killed_keys}
+use Rattle.npf_conndb.specs.{Between.{IsBetweenCalls, StaysBetween}, Ends.{HasKilledOne, EndsKilled, letting_one_go}, Expiries.ExpiresIn}
+use Rattle.npf_conndb.proofs.{BuildLemmas.noted_less, ExpiryLemmas.{expires_idle, expires_one}, KillLemmas.{killed_dead, killed_keys}}
 use Rattle.npf_conndb.proofs.PassLemmas.{hands, goes_between, goes_on, begins, noted_on}
 
 -- what a pass has of the pools but for what it builds and knows of slots
@@ -49,7 +27,8 @@ abbrev rest_with : ConnId → PoolSide → Rest
 rest_with id side = (side.nodes, side.unstored, id ∷ side.kills, side.gave_up, side.reclaims, side.cleared, side.sweeps, side.unfreed)
 
 -- a pass that killed a connection, and what it has of the pools besides
-module _ {S A R : Type 0} (m : Meaning S A R) (id : ConnId) (why : Why) (side : PoolSide) (old killed : Me (Running S) (CellView S A R)) (pass : IsPass m (cell_pass old.0)) (between : IsBetweenCalls m old.0)
+module _ {S A R : Type 0} (m : Meaning S A R) (id : ConnId) (why : Why) (side : PoolSide) (old killed : Me (Running S) (CellView S A R))
+    (pass : IsPass m (cell_pass old.0)) (between : IsBetweenCalls m old.0)
     (has : rest side ≡ rest_with id old.0.pools)
     (done : HasDone m (Kill id why) Nothing (unloaded old.0.epochs) side old killed) where
   pub kill_legal : IsPass m (cell_pass killed.0)
@@ -114,7 +93,8 @@ module _ {S A R : Type 0} (m : Meaning S A R) (id : ConnId) (why : Why) (side : 
 
     pub end_goes : GoesOn (record (cell_pass old.0) { builds = side.builds }) (cell_pass now.0)
     end_goes = goes_on (record (cell_pass old.0) { builds = side.builds }) (cell_pass now.0) now.0.seats.history now.0.epochs.greatest end_shows
-        (let later = ends.later in let same : killed.0.epochs.greatest ≡ old.0.epochs.greatest = ap (λ (y : Me (Running S) (CellView S A R)). y.0.epochs.greatest) done.is in omega (arith, later, same))
+        (let later = ends.later in let same : killed.0.epochs.greatest ≡ old.0.epochs.greatest =
+        ap (λ (y : Me (Running S) (CellView S A R)). y.0.epochs.greatest) done.is in omega (arith, later, same))
 
     pub end_between : ((other : ConnId) → Contains now.0.pools.builds other → HasBareNotes m now.0 other) → IsBetweenCalls m now.0
     end_between noted = record {
@@ -132,12 +112,14 @@ module _ {S A R : Type 0} (m : Meaning S A R) (id : ConnId) (why : Why) (side : 
     }
 
 -- a connection that the pass was building is abandoned
-module _ {S A R : Type 0} (m : Meaning S A R) (id : ConnId) (old killed now : Me (Running S) (CellView S A R)) (pass : IsPass m (cell_pass old.0)) (between : IsBetweenCalls m old.0) (builds : Contains old.0.pools.builds id) (done : HasKilled m id old killed) (ends : EndsKilled m id killed now) where
+module _ {S A R : Type 0} (m : Meaning S A R) (id : ConnId) (old killed now : Me (Running S) (CellView S A R)) (pass : IsPass m (cell_pass old.0))
+    (between : IsBetweenCalls m old.0) (builds : Contains old.0.pools.builds id) (done : HasKilled m id old killed) (ends : EndsKilled m id killed now) where
   abbrev side : PoolSide
   side = with_kill id (without_build id old.0.pools)
 
   keys : (way : Way) (key : Key) → Holds (state_of m old.0.seats.history) id way key ↔ Holds (state_of m killed.0.seats.history) id way key
-  keys = killed_keys m killed.0.seats.about (cell_pass old.0) killed.0.seats.history id Abandoned (done.legal pass).legal (last m id Abandoned side old killed pass between refl done) (pass.building id builds)
+  keys = killed_keys m killed.0.seats.about (cell_pass old.0) killed.0.seats.history id Abandoned (done.legal pass).legal
+      (last m id Abandoned side old killed pass between refl done) (pass.building id builds)
 
   some : (way : Way) → HoldsSome (state_of m old.0.seats.history) id way ↔ HoldsSome (state_of m killed.0.seats.history) id way
   some way = (λ held. (held.0, (keys way held.0).0 held.1), λ held. (held.0, (keys way held.0).1 held.1))
@@ -151,7 +133,8 @@ module _ {S A R : Type 0} (m : Meaning S A R) (id : ConnId) (old killed now : Me
 
   pub abandoned_between : IsBetweenCalls m now.0
   abandoned_between = end_between m id Abandoned side old killed pass between refl done now ends
-      (noted_less m old.0 now.0 pass ends.legal (end_prefix m id Abandoned side old killed pass between refl done now ends) between.noted id builds (end_builds m id Abandoned side old killed pass between refl done now ends) (end_notes m id Abandoned side old killed pass between refl done now ends))
+      (noted_less m old.0 now.0 pass ends.legal (end_prefix m id Abandoned side old killed pass between refl done now ends) between.noted id builds
+      (end_builds m id Abandoned side old killed pass between refl done now ends) (end_notes m id Abandoned side old killed pass between refl done now ends))
 
   pub abandoned_pin : now.0.epochs.pin ≡ old.0.epochs.pin
   abandoned_pin = end_pin m id Abandoned side old killed pass between refl done now ends
@@ -160,7 +143,8 @@ module _ {S A R : Type 0} (m : Meaning S A R) (id : ConnId) (old killed now : Me
   abandoned_goes = end_goes m id Abandoned side old killed pass between refl done now ends
 
 -- the connection of a slot was due, and has ended
-module _ {S A R : Type 0} (m : Meaning S A R) (id : ConnId) (slot time : ℕ) (old killed now : Me (Running S) (CellView S A R)) (pass : IsPass m (cell_pass old.0)) (between : IsBetweenCalls m old.0) (there : id.slot ≡ slot) (done : HasDone m (Kill id (Expired time)) Nothing (unloaded old.0.epochs) (with_kill id old.0.pools) old killed)
+module _ {S A R : Type 0} (m : Meaning S A R) (id : ConnId) (slot time : ℕ) (old killed now : Me (Running S) (CellView S A R)) (pass : IsPass m (cell_pass old.0))
+    (between : IsBetweenCalls m old.0) (there : id.slot ≡ slot) (done : HasDone m (Kill id (Expired time)) Nothing (unloaded old.0.epochs) (with_kill id old.0.pools) old killed)
     (ends : EndsKilled m id killed now) where
   abbrev its : PoolSide
   its = with_kill id old.0.pools
@@ -169,21 +153,25 @@ module _ {S A R : Type 0} (m : Meaning S A R) (id : ConnId) (slot time : ℕ) (o
   expired_stays = record {
     goes = end_goes m id (Expired time) its old killed pass between refl done now ends;
     between = end_between m id (Expired time) its old killed pass between refl done now ends
-        (noted_on m old.0 now.0 pass ends.legal (end_prefix m id (Expired time) its old killed pass between refl done now ends) (end_builds m id (Expired time) its old killed pass between refl done now ends) (end_notes m id (Expired time) its old killed pass between refl done now ends) between.noted);
+        (noted_on m old.0 now.0 pass ends.legal (end_prefix m id (Expired time) its old killed pass between refl done now ends)
+        (end_builds m id (Expired time) its old killed pass between refl done now ends) (end_notes m id (Expired time) its old killed pass between refl done now ends) between.noted);
     legal = ends.legal;
     pin = end_pin m id (Expired time) its old killed pass between refl done now ends;
   }
 
   pub expired_one : ExpiresIn m time (λ s. s ≡ slot) 1 (cell_pass old.0) (cell_pass now.0)
   expired_one = subst (λ (n : ℕ). ExpiresIn m time (λ s. s ≡ n) 1 (cell_pass old.0) (cell_pass now.0)) there
-      (expires_one m time killed.0.seats.about id ends.held (cell_pass old.0) (cell_pass killed.0) (cell_pass now.0) (done.legal pass).legal done.adds (end_adds m id (Expired time) its old killed pass between refl done now ends) ends.on ends.dead ends.keyless)
+      (expires_one m time killed.0.seats.about id ends.held (cell_pass old.0) (cell_pass killed.0) (cell_pass now.0) (done.legal pass).legal done.adds
+      (end_adds m id (Expired time) its old killed pass between refl done now ends) ends.on ends.dead ends.keyless)
 
 -- none of a slot was due
-module _ {S A R : Type 0} (m : Meaning S A R) (slot time : ℕ) (old now : Me (Running S) (CellView S A R)) (pass : IsPass m (cell_pass old.0)) (between : IsBetweenCalls m old.0) (leaves : LeavesIdle m slot time old now) where
+module _ {S A R : Type 0} (m : Meaning S A R) (slot time : ℕ) (old now : Me (Running S) (CellView S A R)) (pass : IsPass m (cell_pass old.0))
+    (between : IsBetweenCalls m old.0) (leaves : LeavesIdle m slot time old now) where
   pub left_stays : StaysBetween m old.0 now.0
   left_stays = record {
     goes = goes_on (cell_pass old.0) (cell_pass now.0) now.0.seats.history old.0.epochs.greatest (ap (λ (y : Me (Running S) (CellView S A R)). cell_pass y.0) leaves.is) (omega arith);
-    between = goes_between m old.0 now.0 (ap (λ (y : Me (Running S) (CellView S A R)). hands y.0) leaves.is) (ap (λ (y : Me (Running S) (CellView S A R)). y.0.pools.builds) leaves.is) (ap (λ (y : Me (Running S) (CellView S A R)). y.0.pools.notes) leaves.is) pass (leaves.legal pass)
+    between = goes_between m old.0 now.0 (ap (λ (y : Me (Running S) (CellView S A R)). hands y.0) leaves.is) (ap (λ (y : Me (Running S) (CellView S A R)). y.0.pools.builds) leaves.is)
+        (ap (λ (y : Me (Running S) (CellView S A R)). y.0.pools.notes) leaves.is) pass (leaves.legal pass)
         (begins (cell_pass old.0) now.0.seats.history [] leaves.adds) between;
     legal = leaves.legal pass;
     pin = ap (λ (y : Me (Running S) (CellView S A R)). y.0.epochs.pin) leaves.is;

@@ -1,35 +1,20 @@
 -- Slot after slot connections are killed.
 use Rattle.std.proofs.Common.{◌≡◌, ◌⊎◌, ℕ, ◌+◌, Bool, true, false, List, [], ◌∷◌, ◌++◌, map, refl, sym, ap, ◌∙◌, subst, ⊎_elim, inl, inr, append-nil, append_assoc, length-append}
-use Rattle.std.specs.List.{Contains}
-use Rattle.std.proofs.lemmas.List.{map-append}
-use Rattle.std.proofs.lemmas.List.Elements.{Contains-append_cases, Contains-append_left, Contains-append_right, Contains-push}
-use Rattle.std.proofs.lemmas.Bool.Decides.{not_from_Decides}
+use Rattle.std.{specs.List.Contains, proofs.lemmas.List.map-append}
+use Rattle.std.proofs.lemmas.{List.Elements.{Contains-append_cases, Contains-append_left, Contains-append_right, Contains-push}, Bool.Decides.not_from_Decides}
 use Rattle.npf_types.specs.declared.key.Way.{Way}
-use Rattle.npf_core.specs.declared.act.Act.TheVariants.{Kill}
-use Rattle.npf_core.specs.declared.act.Why.TheVariants.{Expired}
-use Rattle.npf_core.specs.declared.conn_id.ConnId.{ConnId}
-use Rattle.npf_core.specs.declared.entry.Entry.{Entry}
-use Rattle.npf_core.specs.declared.reply.Reply.TheVariants.{Nothing}
-use Rattle.npf_core.specs.declared.stage.Stage.{Stage}
-use Rattle.npf_core.specs.declared.stage.Stage.TheVariants.{Vacant, Building, Live, Dead}
-use Rattle.npf_core.specs.Allowed.{IsDue}
-use Rattle.npf_core.specs.History.{Legal, LegalFrom, state_of, state_from, IsPrefix}
-use Rattle.npf_core.specs.Machine.{opening, stage_of, IsLive, HoldsNone}
-use Rattle.npf_core.specs.Meaning.{Meaning}
-use Rattle.npf_core.specs.NextState.{is_id}
-use Rattle.npf_core.proofs.EqualityLemmas.{is_id-Decides}
-use Rattle.npf_core.proofs.HistoryLemmas.{LegalFrom-rest, state_from-append, IsPrefix-trans}
-use Rattle.npf_connections.specs.Adding.{Adds, AddsOwn}
-use Rattle.npf_connections.specs.Entries.{end_entries, entry_of}
-use Rattle.npf_connections.specs.Expiring.{Killed, IsOneOf, WasNotDue, expiry_entries}
-use Rattle.npf_connections.specs.Pass.{Pass, IsPass}
-use Rattle.npf_connections.proofs.AddLemmas.{adds_more, AddsLast, adds_last}
-use Rattle.npf_conndb.specs.Expiries.{IsOver, ExpiresIn}
-use Rattle.npf_conndb.proofs.KeyLemmas.{over_life, life_over, over_stays, over_none, dead_over, none_listed, cons_cases}
-use Rattle.npf_conndb.proofs.KillLemmas.{other_idle}
+use Rattle.npf_shelf.proofs.ListLemmas.{Contains-nil, Contains-cons_cases}
+use Rattle.npf_core.specs.declared.{act.{Act.TheVariants.Kill, Why.TheVariants.Expired}, conn_id.ConnId.ConnId, entry.Entry.Entry}
+use Rattle.npf_core.specs.{declared.{reply.Reply.TheVariants.Nothing, stage.Stage.{Stage, TheVariants.{Vacant, Building, Live, Dead}}}, Allowed.IsDue}
+use Rattle.npf_core.specs.{History.{Legal, LegalFrom, state_of, state_from, IsPrefix}, Machine.{opening, stage_of, IsLive, HoldsNone}, Meaning.Meaning}
+use Rattle.npf_core.{specs.NextState.is_id, proofs.{EqualityLemmas.is_id-Decides, HistoryLemmas.{LegalFrom-rest, state_from-append, IsPrefix-trans}}}
+use Rattle.npf_connections.specs.{Adding.{Adds, AddsOwn}, Entries.{end_entries, entry_of}, Expiring.{Killed, IsOneOf, WasNotDue, expiry_entries}}
+use Rattle.npf_connections.{specs.Pass.{Pass, IsPass}, proofs.AddLemmas.{adds_more, AddsLast, adds_last}}
+use Rattle.npf_conndb.{specs.Expiries.{IsOver, ExpiresIn}, proofs.{KeyLemmas.{over_life, life_over, over_stays, over_none, dead_over}, KillLemmas.other_idle}}
 
 -- the entries of more kills
-pub expiry_more : {S A R : Type 0} (old mid : Pass (Entry S A R)) (time : ℕ) (xs ys : List Killed) → mid.number ≡ old.number → expiry_entries old time (xs ++ ys) ≡ expiry_entries old time xs ++ expiry_entries mid time ys
+pub expiry_more : {S A R : Type 0} (old mid : Pass (Entry S A R)) (time : ℕ) (xs ys : List Killed) → mid.number ≡ old.number →
+    expiry_entries old time (xs ++ ys) ≡ expiry_entries old time xs ++ expiry_entries mid time ys
 expiry_more old mid time [] [] number = refl
 expiry_more {S} {A} {R} old mid time [] (y ∷ ys) number = ap_both
   where
@@ -40,7 +25,8 @@ expiry_more {S} {A} {R} old mid time [] (y ∷ ys) number = ap_both
         by_number n o same [] = refl
         by_number n o same (z ∷ zs) = λ i. end_entries (record old { number = same i }) z.id (Expired time) z.held ++ by_number n o same zs i
 expiry_more old mid time (x ∷ xs) ys number =
-    ap (λ es. end_entries old x.id (Expired time) x.held ++ es) (expiry_more old mid time xs ys number) ∙ sym (append_assoc (end_entries old x.id (Expired time) x.held) (expiry_entries old time xs) (expiry_entries mid time ys))
+    ap (λ es. end_entries old x.id (Expired time) x.held ++ es) (expiry_more old mid time xs ys number)
+    ∙ sym (append_assoc (end_entries old x.id (Expired time) x.held) (expiry_entries old time xs) (expiry_entries mid time ys))
 
 one_of_more : (xs ys : List Killed) (id : ConnId) → IsOneOf (xs ++ ys) id → IsOneOf xs id ⊎ IsOneOf ys id
 one_of_more xs ys id c = Contains-append_cases (map (λ (x : Killed). x.id) xs) (map (λ (x : Killed). x.id) ys) id (subst (λ ids. Contains ids id) (map-append (λ (x : Killed). x.id) xs ys) c)
@@ -60,17 +46,21 @@ module _ {S A R : Type 0} (m : Meaning S A R) (time : ℕ) (old mid now : Pass (
   earlier id on was = record { point = was.point; begins = IsPrefix-trans old.history mid.history was.point on was.begins; goes_on = was.goes_on; idle = was.idle }
 
   -- what is killed in further slots comes behind what was
-  pub expires_more : (Slots More : ℕ → Type 0) (count more : ℕ) → IsPass m now → now.slots ≡ mid.slots → ExpiresIn m time Slots count old mid → ExpiresIn m time More more mid now → ((id : ConnId) → More id.slot → IsLive (stage_of (state_of m old.history) id) → IsLive (stage_of (state_of m mid.history) id) ⊎ WasNotDue m old.history now.history id time) →
+  pub expires_more : (Slots More : ℕ → Type 0) (count more : ℕ) → IsPass m now → now.slots ≡ mid.slots → ExpiresIn m time Slots count old mid →
+      ExpiresIn m time More more mid now → ((id : ConnId) → More id.slot → IsLive (stage_of (state_of m old.history) id) →
+      IsLive (stage_of (state_of m mid.history) id) ⊎ WasNotDue m old.history now.history id time) →
       ExpiresIn m time (λ slot. Slots slot ⊎ More slot) (count + more) old now
   expires_more Slots More count more pass slots first then lives = record {
     killed = first.killed ++ then.killed;
-    adds = subst (Adds old now.history) (sym (expiry_more old mid time first.killed then.killed number)) (adds_more old mid now.history (expiry_entries old time first.killed) (expiry_entries mid time then.killed) number joined first.adds then.adds);
+    adds = subst (Adds old now.history) (sym (expiry_more old mid time first.killed then.killed number))
+        (adds_more old mid now.history (expiry_entries old time first.killed) (expiry_entries mid time then.killed) number joined first.adds then.adds);
     counted = sym (length-append first.killed then.killed ∙ (λ i. sym first.counted i + sym then.counted i));
     over = λ id c. ⊎_elim (λ was. goes_over id (first.over id was)) (λ is. then.over id is) (one_of_more first.killed then.killed id c);
     gave_up = λ id way c. ⊎_elim (λ was. goes_none id way (first.over id was) (first.gave_up id way was)) (λ is. then.gave_up id way is) (one_of_more first.killed then.killed id c);
     left = λ id there live. ⊎_elim
         (λ in_first. ⊎_elim (λ c. inl (of_first first.killed then.killed id c)) (λ was. inr (later id prefix was)) (first.left id in_first live))
-        (λ in_more. ⊎_elim (λ still. ⊎_elim (λ c. inl (of_second first.killed then.killed id c)) (λ was. inr (earlier id begins was)) (then.left id in_more still)) (λ was. inr was) (lives id in_more live))
+        (λ in_more. ⊎_elim (λ still. ⊎_elim (λ c. inl (of_second first.killed then.killed id c)) (λ was. inr (earlier id begins was)) (then.left id in_more still))
+        (λ was. inr was) (lives id in_more live))
         there;
   }
     where
@@ -93,7 +83,8 @@ module _ {S A R : Type 0} (m : Meaning S A R) (time : ℕ) (old mid now : Pass (
       goes_none id way over none = subst (λ k. HoldsNone k id way) (sym state) (over_none m now.slots (state_of m mid.history) then.adds.rest id way legal (over_life _ id over) none)
 
 -- what was expired in some slots was in fewer, and in more where none is Live that was Live before
-pub expires_fewer : {S A R : Type 0} (m : Meaning S A R) (time : ℕ) (old now : Pass (Entry S A R)) (Slots Fewer : ℕ → Type 0) (count : ℕ) → ((slot : ℕ) → Fewer slot → Slots slot) → ExpiresIn m time Slots count old now → ExpiresIn m time Fewer count old now
+pub expires_fewer : {S A R : Type 0} (m : Meaning S A R) (time : ℕ) (old now : Pass (Entry S A R)) (Slots Fewer : ℕ → Type 0) (count : ℕ) →
+    ((slot : ℕ) → Fewer slot → Slots slot) → ExpiresIn m time Slots count old now → ExpiresIn m time Fewer count old now
 expires_fewer m time old now Slots Fewer count fewer so = record {
   killed = so.killed;
   adds = so.adds;
@@ -115,20 +106,28 @@ expires_wider m time old now Slots More count so idle = record {
 }
 
 -- a pass that adds nothing expires nothing, where none is due in a slot
-pub expires_idle : {S A R : Type 0} (m : Meaning S A R) (time slot : ℕ) (old now : Pass (Entry S A R)) → Adds old now.history [] → ((id : ConnId) → id.slot ≡ slot → ¬ IsDue m time (stage_of (state_of m now.history) id)) →
+pub expires_idle : {S A R : Type 0} (m : Meaning S A R) (time slot : ℕ) (old now : Pass (Entry S A R)) → Adds old now.history [] →
+    ((id : ConnId) → id.slot ≡ slot → ¬ IsDue m time (stage_of (state_of m now.history) id)) →
     ExpiresIn m time (λ s. s ≡ slot) 0 old now
 expires_idle m time slot old now adds idle = record {
   killed = [];
   adds = adds;
   counted = refl;
-  over = λ id c. absurd (none_listed id c);
-  gave_up = λ id way c. absurd (none_listed id c);
-  left = λ id there live. inr (record { point = now.history; begins = record { rest = adds.rest; goes_on = adds.goes_on }; goes_on = record { rest = []; goes_on = sym (append-nil now.history) }; idle = idle id there });
+  over = λ id c. absurd (Contains-nil id c);
+  gave_up = λ id way c. absurd (Contains-nil id c);
+  left = λ id there live. inr (record {
+    point = now.history;
+    begins = record { rest = adds.rest; goes_on = adds.goes_on };
+    goes_on = record { rest = []; goes_on = sym (append-nil now.history) };
+    idle = idle id there;
+  });
 }
 
 -- and one that kills a connection and gives its keys up expires it; another of its slot wasn't due
-pub expires_one : {S A R : Type 0} (m : Meaning S A R) (time slots : ℕ) (id : ConnId) (held : Way → Bool) (old killed now : Pass (Entry S A R)) → Legal m slots killed.history → AddsOwn old killed.history (entry_of old (Kill id (Expired time)) Nothing ∷ []) →
-    AddsOwn old now.history (end_entries old id (Expired time) held) → IsPrefix killed.history now.history → stage_of (state_of m now.history) id ≡ Dead → ((way : Way) → HoldsNone (state_of m now.history) id way) →
+pub expires_one : {S A R : Type 0} (m : Meaning S A R) (time slots : ℕ) (id : ConnId) (held : Way → Bool) (old killed now : Pass (Entry S A R)) →
+    Legal m slots killed.history → AddsOwn old killed.history (entry_of old (Kill id (Expired time)) Nothing ∷ []) →
+    AddsOwn old now.history (end_entries old id (Expired time) held) → IsPrefix killed.history now.history →
+    stage_of (state_of m now.history) id ≡ Dead → ((way : Way) → HoldsNone (state_of m now.history) id way) →
     ExpiresIn m time (λ s. s ≡ id.slot) 1 old now
 expires_one {S} {A} {R} m time slots id held old killed now legal kill ends on dead none = record {
   killed = record { id = id; held = held } ∷ [];
@@ -143,7 +142,7 @@ expires_one {S} {A} {R} m time slots id held old killed now legal kill ends on d
     last = adds_last old killed.history (entry_of old (Kill id (Expired time)) Nothing) kill refl
 
     one : (other : ConnId) → Contains (id ∷ []) other → id ≡ other
-    one other c = ⊎_elim (λ same. same) (λ no. absurd (none_listed other no)) (cons_cases id other [] c)
+    one other c = ⊎_elim (λ same. same) (λ no. absurd (Contains-nil other no)) (Contains-cons_cases id other [] c)
 
     self : Contains (id ∷ []) id
     self = Contains-push [] id
@@ -156,7 +155,8 @@ expires_one {S} {A} {R} m time slots id held old killed now legal kill ends on d
         longer was = record { point = was.point; begins = was.begins; goes_on = IsPrefix-trans was.point killed.history now.history was.goes_on on; idle = was.idle }
 
 -- who was Live before is Live still, or isn't due now
-pub lives_or_idle : {S A R : Type 0} (m : Meaning S A R) (time : ℕ) (old mid now : Pass (Entry S A R)) (id : ConnId) → IsPrefix old.history mid.history → IsPrefix mid.history now.history → IsLive (stage_of (state_of m mid.history) id) ⊎ WasNotDue m old.history now.history id time
+pub lives_or_idle : {S A R : Type 0} (m : Meaning S A R) (time : ℕ) (old mid now : Pass (Entry S A R)) (id : ConnId) → IsPrefix old.history mid.history →
+    IsPrefix mid.history now.history → IsLive (stage_of (state_of m mid.history) id) ⊎ WasNotDue m old.history now.history id time
 lives_or_idle {S} m time old mid now id begins goes = by_stage (stage_of (state_of m mid.history) id) refl
   where
     idle_at : (x : Stage S) → ¬ IsLive x → ¬ IsDue m time x

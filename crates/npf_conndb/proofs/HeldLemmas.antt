@@ -1,18 +1,10 @@
 -- After a legal history a connection holds a key of a way or holds none.
 use Rattle.std.proofs.Common.{◌≡◌, ◌⊎◌, ℕ, Bool, true, false, List, [], ◌∷◌, Option, Some, None, refl, sym, ap, ◌∙◌, subst, inl, inr}
 use Rattle.std.proofs.lemmas.Bool.Decides.{not_from_Decides}
-use Rattle.npf_types.specs.declared.key.Key.{Key}
-use Rattle.npf_types.specs.declared.key.Way.{Way}
-use Rattle.npf_core.specs.declared.act.Act.{Act}
-use Rattle.npf_core.specs.declared.act.Act.TheVariants.{Claim, Look, Hold, Start, Step, Kill, Unhold, Free}
-use Rattle.npf_core.specs.declared.conn_id.ConnId.{ConnId}
-use Rattle.npf_core.specs.declared.entry.Entry.{Entry}
-use Rattle.npf_core.specs.declared.found.Found.{Found}
-use Rattle.npf_core.specs.History.{after, state_of, state_from}
-use Rattle.npf_core.specs.Machine.{Machine, opening, HoldsNone, HoldsSome}
-use Rattle.npf_core.specs.Meaning.{Meaning}
-use Rattle.npf_core.specs.NextState.{is_found, after_act}
-use Rattle.npf_core.proofs.EqualityLemmas.{is_found-Decides, is_key-Decides}
+use Rattle.npf_types.specs.declared.key.{Key.Key, Way.Way}
+use Rattle.npf_core.specs.declared.{act.Act.{Act, TheVariants.{Claim, Look, Hold, Start, Step, Kill, Unhold, Free}}, conn_id.ConnId.ConnId, entry.Entry.Entry}
+use Rattle.npf_core.specs.{declared.found.Found.Found, History.{after, state_of, state_from}, Machine.{Machine, opening, HoldsNone, HoldsSome}, Meaning.Meaning}
+use Rattle.npf_core.{specs.NextState.{is_found, after_act}, proofs.EqualityLemmas.{is_found-Decides, is_key-Decides}}
 use Rattle.npf_core.proofs.HolderLemmas.{Passes, rests, gives, loses, passes}
 use Rattle.npf_conndb.proofs.KeyLemmas.{gives_up_none}
 
@@ -58,8 +50,11 @@ module _ {S A R : Type 0} (m : Meaning S A R) (k : Machine S) (seat : ℕ) (id :
           let this = (is_key-Decides key key).1 refl in
           let gets : (next (Hold other key w)).holder key ≡ Some (record { id = other; way = w }) = rw (this, free) refl in
           inl (key, gets ∙ ap (λ (f : Found). Some f) same)
-      by_test true t (Some holder) held = inr (none_still (Hold other key w) none (λ its is free. (let here : k.holder key ≡ None = subst (λ (x : Key). k.holder x ≡ None) (same_key (Hold other key w) id other key its way w refl is) free in let both = sym held ∙ here in cc)))
-      by_test false t x is = inr (none_still (Hold other key w) none (λ its acts free. not_from_Decides _ (is_found-Decides (record { id = other; way = w }) own) t (same_found (Hold other key w) id other key its way w refl acts)))
+      by_test true t (Some holder) held = inr (none_still (Hold other key w) none (λ its is free. (let here : k.holder key ≡ None =
+          subst (λ (x : Key). k.holder x ≡ None) (same_key (Hold other key w) id other key its way w refl is) free in let both = sym held ∙ here in cc)))
+      by_test false t x is = inr
+          (none_still (Hold other key w) none
+          (λ its acts free. not_from_Decides _ (is_found-Decides (record { id = other; way = w }) own) t (same_found (Hold other key w) id other key its way w refl acts)))
   from_none (Claim packet slot) none = inr (none_still (Claim packet slot) none (λ key is free. cc))
   from_none (Look packet key) none = inr (none_still (Look packet key) none (λ its is free. cc))
   from_none (Start other packet init) none = inr (none_still (Start other packet init) none (λ key is free. cc))
@@ -83,7 +78,8 @@ module _ {S A R : Type 0} (m : Meaning S A R) (k : Machine S) (seat : ℕ) (id :
   decided_on act (inl some) = from_some act some
   decided_on act (inr none) = from_none act none
 
-decided_from : {S A R : Type 0} (m : Meaning S A R) (k : Machine S) (entries : List (Entry S A R)) (id : ConnId) (way : Way) → HoldsSome k id way ⊎ HoldsNone k id way → HoldsSome (state_from m k entries) id way ⊎ HoldsNone (state_from m k entries) id way
+decided_from : {S A R : Type 0} (m : Meaning S A R) (k : Machine S) (entries : List (Entry S A R)) (id : ConnId) (way : Way) →
+    HoldsSome k id way ⊎ HoldsNone k id way → HoldsSome (state_from m k entries) id way ⊎ HoldsNone (state_from m k entries) id way
 decided_from m k [] id way so = so
 decided_from m k (entry ∷ entries) id way so = decided_from m (after m k entry) entries id way (decided_on m k entry.seat id way entry.act so)
 

@@ -1,32 +1,19 @@
 -- Passes that hold keys.
-use Rattle.std.proofs.Common.{◌≡◌, ◌+◌, ◌≤◌, Bool, true, List, [], refl, sym, ap, ◌∙◌, subst, arith}
-use Rattle.std.specs.List.{Contains}
+use Rattle.std.{proofs.Common.{◌≡◌, ◌+◌, ◌≤◌, Bool, true, List, [], refl, sym, ap, ◌∙◌, subst, arith}, specs.List.Contains}
 use Rattle.atomic_table.specs.Table.{Me}
-use Rattle.npf_types.specs.declared.key.Key.{Key}
-use Rattle.npf_types.specs.declared.key.Way.{Way}
-use Rattle.npf_core.specs.declared.conn_id.ConnId.{ConnId}
-use Rattle.npf_core.specs.declared.entry.Entry.{Entry}
-use Rattle.npf_core.specs.declared.held.Held.{Held}
-use Rattle.npf_core.specs.History.{IsPrefix, state_of}
-use Rattle.npf_core.specs.Machine.{HoldsNone}
+use Rattle.npf_types.specs.declared.key.{Key.Key, Way.Way}
+use Rattle.npf_core.specs.{declared.{conn_id.ConnId.ConnId, entry.Entry.Entry, held.Held.Held}, History.{IsPrefix, state_of}, Machine.HoldsNone}
 use Rattle.npf_core.specs.Meaning.{Meaning}
-use Rattle.npf_connections.specs.Adding.{AddsOwn}
-use Rattle.npf_connections.specs.Answered.{taken_ids}
-use Rattle.npf_connections.specs.Entries.{hold_entries}
-use Rattle.npf_connections.specs.Pass.{Pass, IsPass}
-use Rattle.npf_connections.specs.StayLaw.{Holding}
+use Rattle.npf_connections.specs.{Adding.AddsOwn, Answered.taken_ids, Entries.hold_entries, Pass.{Pass, IsPass}, StayLaw.Holding}
 use Rattle.npf_seats.proofs.PrefixLemmas.{none_listed}
 use Rattle.npf_cells_words.specs.declared.layout.Layout.{Layout}
-use Rattle.npf_cells_rule.specs.declared.view.CellView.{CellView}
-use Rattle.npf_cells_rule.specs.Passes.{IsProtected, cell_pass}
-use Rattle.npf_cells_rule.proofs.PassLemmas.{pinned_in}
+use Rattle.npf_cells_rule.{specs.{declared.view.CellView.CellView, Passes.{IsProtected, cell_pass}}, proofs.PassLemmas.pinned_in}
 use Rattle.npf_cells_turns.specs.EndKinds.{HasBareNotes}
 use Rattle.npf_trie.specs.HoldKey.{SettlesHold, StaysAnew, noted_after}
-use Rattle.npf_conndb.specs.Between.{IsBetweenCalls}
-use Rattle.npf_conndb.proofs.BuildLemmas.{noted_held, noted_same}
-use Rattle.npf_conndb.proofs.PassLemmas.{begins}
+use Rattle.npf_conndb.{specs.Between.IsBetweenCalls, proofs.{BuildLemmas.{noted_held, noted_same}, PassLemmas.begins}}
 
-module _ {S A R F : Type 0} (m : Meaning S A R) (layout : Layout) (id : ConnId) (key : Key) (way : Way) (held : Held) (old mid now : Me F (CellView S A R)) (anew : StaysAnew old mid) (so : SettlesHold m layout id key way held mid now) (entered : (cell_pass old.0).entered ≡ true) where
+module _ {S A R F : Type 0} (m : Meaning S A R) (layout : Layout) (id : ConnId) (key : Key) (way : Way) (held : Held) (old mid now : Me F (CellView S A R))
+    (anew : StaysAnew old mid) (so : SettlesHold m layout id key way held mid now) (entered : (cell_pass old.0).entered ≡ true) where
   -- what a pass shows in the stay in which the hold ends
   anew_shows : cell_pass mid.0 ≡ record (cell_pass old.0) { answered = mid.0.trie.answered; sweeps = mid.0.pools.sweeps; epoch = mid.0.epochs.greatest }
   anew_shows = ap (λ (y : Me F (CellView S A R)). cell_pass y.0) anew.is ∙ (λ i. shows ((pinned_in mid.0.epochs.pin anew.protected ∙ sym entered) i) (anew.history i))
@@ -126,6 +113,9 @@ module _ {S A R F : Type 0} (m : Meaning S A R) (layout : Layout) (id : ConnId) 
       on = begins (cell_pass old.0) now.0.seats.history (hold_entries (cell_pass old.0) id key way held) held_adds.adds
 
       by_held : (result : Held) → held ≡ result → now.0.pools.notes ≡ noted_after held id way old.0.pools.notes → (other : ConnId) → Contains now.0.pools.builds other → HasBareNotes m now.0 other
-      by_held Held.Done e notes = noted_held m old.0 now.0 pass (held_pass pass) on between.noted id key way builds built (subst (λ h. AddsOwn (cell_pass old.0) now.0.seats.history (hold_entries (cell_pass old.0) id key way h)) e held_adds) (subst (λ h. now.0.pools.notes ≡ noted_after h id way old.0.pools.notes) e notes)
-      by_held (Held.Taken found) e notes = noted_same m old.0 now.0 pass (held_pass pass) on between.noted id key way builds (subst (λ h. now.0.pools.notes ≡ noted_after h id way old.0.pools.notes) e notes)
+      by_held Held.Done e notes = noted_held m old.0 now.0 pass (held_pass pass) on between.noted id key way builds built
+          (subst (λ h. AddsOwn (cell_pass old.0) now.0.seats.history (hold_entries (cell_pass old.0) id key way h)) e held_adds)
+          (subst (λ h. now.0.pools.notes ≡ noted_after h id way old.0.pools.notes) e notes)
+      by_held (Held.Taken found) e notes = noted_same m old.0 now.0 pass (held_pass pass) on between.noted id key way builds
+          (subst (λ h. now.0.pools.notes ≡ noted_after h id way old.0.pools.notes) e notes)
       by_held Held.NoNode e notes = noted_same m old.0 now.0 pass (held_pass pass) on between.noted id key way builds (subst (λ h. now.0.pools.notes ≡ noted_after h id way old.0.pools.notes) e notes)

@@ -1,40 +1,15 @@
 -- What becomes of a connection's keys while others go on.
-use Rattle.std.proofs.Common.{◌≡◌, ◌⊎◌, ℕ, ◌<◌, ◌≤◌, nat_lt, eqb, ⊎_elim, arith, Bool, true, false, ◌==◌, List, [], ◌∷◌, Option, Some, None, cond, refl, sym, ap, ◌∙◌, subst, inl, inr}
-use Rattle.std.specs.List.{Contains, filter}
-use Rattle.std.proofs.lemmas.List.Elements.{Contains-append_cases, Contains-push_cases}
+use Rattle.std.proofs.Common.{◌≡◌, ◌⊎◌, ℕ, ◌<◌, ◌≤◌, nat_lt, eqb, ⊎_elim, arith, Bool, true, false, ◌==◌, List, [], ◌∷◌, Option, Some, None, cond, refl, sym, ap, ◌∙◌, subst}
 use Rattle.std.proofs.lemmas.Bool.Decides.{Decides-eqb, not_from_Decides, nat_tests}
-use Rattle.npf_types.specs.declared.key.Key.{Key}
-use Rattle.npf_types.specs.declared.key.Way.{Way}
-use Rattle.npf_types.specs.declared.key.Way.TheVariants.{Forward}
-use Rattle.npf_core.specs.declared.conn_id.ConnId.{ConnId}
-use Rattle.npf_core.specs.declared.entry.Entry.{Entry}
-use Rattle.npf_core.specs.declared.found.Found.{Found}
-use Rattle.npf_core.specs.declared.stage.Stage.{Stage}
-use Rattle.npf_core.specs.declared.stage.Stage.TheVariants.{Vacant, Building, Live, Dead}
-use Rattle.npf_core.specs.History.{MayFollow, LegalFrom, after, state_from, by}
-use Rattle.npf_core.specs.Machine.{Machine, stage_of, Holds, HoldsNone, IsAlive}
-use Rattle.npf_core.specs.Meaning.{Meaning}
-use Rattle.npf_core.specs.NextState.{is_found, given_up}
-use Rattle.npf_core.proofs.BuildingLemmas.{builds_by}
-use Rattle.npf_core.proofs.EqualityLemmas.{is_found-Decides}
-use Rattle.npf_core.proofs.HolderLemmas.{Passes, rests, gives, loses, passes, may_hold}
-use Rattle.npf_core.proofs.LifeLemmas.{Life, to_come, built, lives, killed, gone, stage_in, stage_of-is, life_in, life_of, life_at-last, life_at-earlier, Moves, keeps, claims, starts, steps, abandons, expires, frees, entry_moves}
+use Rattle.npf_types.specs.declared.key.{Key.Key, Way.{Way, TheVariants.Forward}}
+use Rattle.npf_shelf.proofs.ListLemmas.{filter-cons_nil}
+use Rattle.npf_core.specs.declared.{conn_id.ConnId.ConnId, entry.Entry.Entry, found.Found.Found, stage.Stage.Stage}
+use Rattle.npf_core.specs.{declared.stage.Stage.TheVariants.{Vacant, Building, Live, Dead}, History.{MayFollow, LegalFrom, after, state_from, by}}
+use Rattle.npf_core.specs.{Machine.{Machine, stage_of, Holds, HoldsNone, IsAlive}, Meaning.Meaning, NextState.{is_found, given_up}}
+use Rattle.npf_core.proofs.{BuildingLemmas.builds_by, EqualityLemmas.is_found-Decides, HolderLemmas.{Passes, rests, gives, loses, passes, may_hold}}
+use Rattle.npf_core.proofs.LifeLemmas.{Life, to_come, built, lives, killed, gone, stage_in, stage_of-is, life_in, life_of, life_at-last, life_at-earlier}
+use Rattle.npf_core.proofs.LifeLemmas.{Moves, keeps, claims, starts, steps, abandons, expires, frees, entry_moves}
 use Rattle.npf_conndb.specs.Expiries.{IsOver}
-
--- where a filter keeps nothing the first item fails its test, and it keeps nothing of the others
-first_fails : {X : Type 0} (p : X → Bool) (x : X) (xs : List X) → filter p (x ∷ xs) ≡ [] → (p x ≡ false) × (filter p xs ≡ [])
-first_fails p x xs e = at_test (p x) refl e
-  where
-    at_test : (keep : Bool) → p x ≡ keep → cond keep (x ∷ filter p xs) (filter p xs) ≡ [] → (p x ≡ false) × (filter p xs ≡ [])
-    at_test true t e = absurd cc
-    at_test false t e = (t, e)
-
--- stands in for those of npf_seats
-pub none_listed : {X : Type 0} (x : X) → Contains [] x → ⊥
-none_listed x c = let below = c.1 in omega (arith, below)
-
-pub cons_cases : {X : Type 0} (x y : X) (xs : List X) → Contains (x ∷ xs) y → (x ≡ y) ⊎ Contains xs y
-cons_cases {X} x y xs c = ⊎_elim (λ (d : Contains (x ∷ []) y). ⊎_elim (λ (n : Contains [] y). absurd (none_listed y n)) (λ (e : x ≡ y). inl e) (Contains-push_cases [] x y d)) (λ (d : Contains xs y). inr d) (Contains-append_cases (x ∷ []) xs y c)
 
 -- a life is over once it is killed, and stays so
 abbrev pub Ended : {S : Type 0} → Life S → Type 0
@@ -46,7 +21,8 @@ Ended gone = Unit {0}
 
 module _ {S A R : Type 0} (m : Meaning S A R) (slots : ℕ) where
   module _ (k : Machine S) (entry : Entry S A R) (id : ConnId) (way : Way) (follows : MayFollow m slots k entry) where
-    back_by : (seat : ℕ) → ¬ (entry.seat ≡ seat) → stage_of k id ≡ Building seat → (key : Key) (x y : Option Found) → Passes entry.act key x y → y ≡ Some (record { id = id; way = way }) → x ≡ Some (record { id = id; way = way })
+    back_by : (seat : ℕ) → ¬ (entry.seat ≡ seat) → stage_of k id ≡ Building seat → (key : Key) (x y : Option Found) →
+        Passes entry.act key x y → y ≡ Some (record { id = id; way = way }) → x ≡ Some (record { id = id; way = way })
     back_by seat other e key _ _ rests now = now
     back_by seat other e key _ _ (gives given act) now =
         let same : given ≡ record { id = id; way = way } = cc in
@@ -81,11 +57,12 @@ module _ {S A R : Type 0} (m : Meaning S A R) (slots : ℕ) where
     over_none_by over key _ _ (loses lost act) none now = absurd cc
 
   -- who holds a key for a connection that is Building, after the entries of others, held it before
-  pub built_back : (k : Machine S) (entries : List (Entry S A R)) (seat : ℕ) (id : ConnId) (way : Way) (key : Key) → LegalFrom m slots k entries → by seat entries ≡ [] → stage_of k id ≡ Building seat →
+  pub built_back : (k : Machine S) (entries : List (Entry S A R)) (seat : ℕ) (id : ConnId) (way : Way) (key : Key) →
+      LegalFrom m slots k entries → by seat entries ≡ [] → stage_of k id ≡ Building seat →
       Holds (state_from m k entries) id way key → Holds k id way key
   built_back k [] seat id way key legal none e now = now
   built_back k (entry ∷ entries) seat id way key legal none e now =
-      let first = first_fails (λ (x : Entry S A R). x.seat == seat) entry entries none in
+      let first = filter-cons_nil (λ (x : Entry S A R). x.seat == seat) entry entries none in
       let other = not_from_Decides _ (Decides-eqb entry.seat seat) first.0 in
       let then = built_back (after m k entry) entries seat id way key legal.1 first.1 (builds_by m slots k entry seat id legal.0 other e) now in
       back_by k entry id way legal.0 seat other e key _ _ (passes entry.act key (k.holder key)) then
@@ -95,7 +72,8 @@ module _ {S A R : Type 0} (m : Meaning S A R) (slots : ℕ) where
   over_stays k [] id legal over = over
   over_stays k (entry ∷ entries) id legal over = over_stays (after m k entry) entries id legal.1 (over_by k entry id Forward legal.0 _ _ (entry_moves m slots k entry id legal.0) over)
 
-  pub over_none : (k : Machine S) (entries : List (Entry S A R)) (id : ConnId) (way : Way) → LegalFrom m slots k entries → Ended (life_of k id) → HoldsNone k id way → HoldsNone (state_from m k entries) id way
+  pub over_none : (k : Machine S) (entries : List (Entry S A R)) (id : ConnId) (way : Way) → LegalFrom m slots k entries →
+      Ended (life_of k id) → HoldsNone k id way → HoldsNone (state_from m k entries) id way
   over_none k [] id way legal over none = none
   over_none k (entry ∷ entries) id way legal over none =
       over_none (after m k entry) entries id way legal.1 (over_by k entry id way legal.0 _ _ (entry_moves m slots k entry id legal.0) over)

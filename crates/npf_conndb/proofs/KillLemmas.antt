@@ -1,29 +1,14 @@
 -- What a kill leaves of a connection and its keys, and of others in its slot.
 use Rattle.std.proofs.Common.{◌≡◌, ◌↔◌, ℕ, Bool, true, false, ◌==◌, eqb, cond, List, [], ◌∷◌, ◌++◌, refl, sym, ap, ◌∙◌, subst, append_assoc}
 use Rattle.std.proofs.lemmas.Bool.Decides.{Decides-eqb}
-use Rattle.npf_types.specs.declared.key.Key.{Key}
-use Rattle.npf_types.specs.declared.key.Way.{Way}
-use Rattle.npf_core.specs.declared.act.Act.TheVariants.{Kill}
-use Rattle.npf_core.specs.declared.act.Why.{Why}
-use Rattle.npf_core.specs.declared.act.Why.TheVariants.{Abandoned, Expired}
-use Rattle.npf_core.specs.declared.conn_id.ConnId.{ConnId}
-use Rattle.npf_core.specs.declared.entry.Entry.{Entry}
-use Rattle.npf_core.specs.declared.reply.Reply.TheVariants.{Nothing}
-use Rattle.npf_core.specs.declared.stage.Stage.{Stage}
-use Rattle.npf_core.specs.declared.stage.Stage.TheVariants.{Vacant, Building, Live, Dead}
-use Rattle.npf_core.specs.Allowed.{Allows, IsDue}
-use Rattle.npf_core.specs.History.{Legal, LegalFrom, MayFollow, state_of, state_from, after}
-use Rattle.npf_core.specs.Machine.{Machine, opening, stage_of, Holds, IsAlive, IsClaimed}
-use Rattle.npf_core.specs.Meaning.{Meaning}
-use Rattle.npf_core.specs.NextState.{after_act}
-use Rattle.npf_core.proofs.BuildingLemmas.{builds_after}
-use Rattle.npf_core.proofs.HistoryLemmas.{LegalFrom-front, LegalFrom-rest, MayFollow-split, state_from-append, state_of-append}
-use Rattle.npf_core.proofs.KeyLemmas.{stays_holder}
+use Rattle.npf_types.specs.declared.key.{Key.Key, Way.Way}
+use Rattle.npf_core.specs.declared.{act.{Act.TheVariants.Kill, Why.{Why, TheVariants.{Abandoned, Expired}}}, conn_id.ConnId.ConnId, entry.Entry.Entry}
+use Rattle.npf_core.specs.{declared.{reply.Reply.TheVariants.Nothing, stage.Stage.{Stage, TheVariants.{Vacant, Building, Live, Dead}}}, Allowed.{Allows, IsDue}}
+use Rattle.npf_core.specs.{History.{Legal, LegalFrom, MayFollow, state_of, state_from, after}, Machine.{Machine, opening, stage_of, Holds, IsAlive, IsClaimed}}
+use Rattle.npf_core.{specs.{Meaning.Meaning, NextState.after_act}, proofs.BuildingLemmas.builds_after}
+use Rattle.npf_core.proofs.{HistoryLemmas.{LegalFrom-front, LegalFrom-rest, MayFollow-split, state_from-append, state_of-append}, KeyLemmas.stays_holder}
 use Rattle.npf_core.proofs.LifeLemmas.{IsClaimed-last}
-use Rattle.npf_connections.specs.Entries.{entry_of}
-use Rattle.npf_connections.specs.Expiring.{WasNotDue}
-use Rattle.npf_connections.specs.Pass.{Pass}
-use Rattle.npf_connections.proofs.AddLemmas.{AddsLast}
+use Rattle.npf_connections.{specs.{Entries.entry_of, Expiring.WasNotDue, Pass.Pass}, proofs.AddLemmas.AddsLast}
 use Rattle.npf_conndb.proofs.KeyLemmas.{built_back}
 
 -- the last connection of a slot is Dead once it is killed
@@ -44,7 +29,8 @@ may_kill {S} m slots k seat id (Expired time) due = by_stage (stage_of k id) due
     by_stage (Live flow n) due = tt
     by_stage Dead due = absurd due
 
-module _ {S A R : Type 0} (m : Meaning S A R) (slots : ℕ) (old : Pass (Entry S A R)) (new : List (Entry S A R)) (id : ConnId) (why : Why) (legal : Legal m slots new) (last : AddsLast old new (entry_of old (Kill id why) Nothing)) where
+module _ {S A R : Type 0} (m : Meaning S A R) (slots : ℕ) (old : Pass (Entry S A R)) (new : List (Entry S A R)) (id : ConnId)
+    (why : Why) (legal : Legal m slots new) (last : AddsLast old new (entry_of old (Kill id why) Nothing)) where
   abbrev entry : Entry S A R
   entry = entry_of old (Kill id why) Nothing
 
@@ -106,6 +92,8 @@ module _ {S A R : Type 0} (m : Meaning S A R) (slots : ℕ) (old : Pass (Entry S
     pub killed_keys : (way : Way) (key : Key) → Holds (state_of m old.history) id way key ↔ Holds (state_of m new) id way key
     killed_keys way key = (
       λ held. subst (λ (x : Machine S). Holds x id way key) (sym (state ∙ ap (λ (x : Machine S). after m x entry) on))
-          (stays_holder m slots (state_of m old.history) last.init key (record { id = id; way = way }) front held (alive (state_of m old.history) built) (alive (state_from m (state_of m old.history) last.init) still)),
-      λ held. built_back m slots (state_of m old.history) last.init old.number id way key front last.others built (subst (λ (x : Machine S). Holds x id way key) (state ∙ ap (λ (x : Machine S). after m x entry) on) held),
+          (stays_holder m slots (state_of m old.history) last.init key (record { id = id; way = way }) front held
+          (alive (state_of m old.history) built) (alive (state_from m (state_of m old.history) last.init) still)),
+      λ held. built_back m slots (state_of m old.history) last.init old.number id way key front last.others built
+          (subst (λ (x : Machine S). Holds x id way key) (state ∙ ap (λ (x : Machine S). after m x entry) on) held),
     )

@@ -1,38 +1,25 @@
 -- A killed connection gives its keys up, and is let go.
 use Rattle.std.proofs.Common.{◌≡◌, ◌≢◌, ◌↔◌, ◌⊎◌, ℕ, ◌≤◌, Bool, true, false, cond, eqb, eq-eqb, max, None, List, [], ◌∷◌, ◌++◌, refl, sym, ap, ◌∙◌, subst, inl, inr, arith, append-nil}
-use Rattle.std.specs.List.{Contains, filter}
-use Rattle.std.proofs.lemmas.List.Elements.{Contains-push}
+use Rattle.std.{specs.List.{Contains, filter}, proofs.lemmas.List.Elements.Contains-push}
 use Rattle.atomic_table.specs.Table.{Me}
-use Rattle.npf_types.specs.declared.key.Way.{Way}
-use Rattle.npf_types.specs.declared.key.Way.TheVariants.{Forward, Backward, Port}
-use Rattle.npf_core.specs.declared.act.Act.TheVariants.{Unhold}
-use Rattle.npf_core.specs.declared.conn_id.ConnId.{ConnId}
-use Rattle.npf_core.specs.declared.entry.Entry.{Entry}
-use Rattle.npf_core.specs.declared.found.Found.{Found}
-use Rattle.npf_core.specs.declared.reply.Reply.TheVariants.{Nothing}
-use Rattle.npf_core.specs.declared.stage.Stage.TheVariants.{Dead}
-use Rattle.npf_core.specs.History.{Legal, MayFollow, state_of, after, IsPrefix}
-use Rattle.npf_core.specs.Machine.{Machine, stage_of, Holds, HoldsNone}
-use Rattle.npf_core.specs.Meaning.{Meaning}
+use Rattle.npf_types.specs.declared.key.Way.{Way, TheVariants.{Forward, Backward, Port}}
+use Rattle.npf_core.specs.declared.{act.Act.TheVariants.Unhold, conn_id.ConnId.ConnId, entry.Entry.Entry, found.Found.Found, reply.Reply.TheVariants.Nothing}
+use Rattle.npf_core.specs.{declared.stage.Stage.TheVariants.Dead, History.{Legal, MayFollow, state_of, after, IsPrefix}}
+use Rattle.npf_core.specs.{Machine.{Machine, stage_of, Holds, HoldsNone}, Meaning.Meaning}
 use Rattle.npf_core.proofs.HistoryLemmas.{MayFollow-split, state_of-append, IsPrefix-trans}
-use Rattle.npf_connections.specs.Adding.{AddsOwn}
-use Rattle.npf_connections.specs.Entries.{entry_of, end_entries}
-use Rattle.npf_connections.specs.Pass.{Pass, IsPass}
+use Rattle.npf_connections.specs.{Adding.AddsOwn, Entries.{entry_of, end_entries}, Pass.{Pass, IsPass}}
 use Rattle.npf_seats.proofs.PrefixLemmas.{none_listed, cons_cases}
-use Rattle.npf_cells_lives.specs.Deaths.{ids_elsewhere}
-use Rattle.npf_cells_lives.specs.Turns.{Running}
+use Rattle.npf_cells_lives.specs.{Deaths.ids_elsewhere, Turns.Running}
 use Rattle.npf_cells_pins.specs.Pinning.{loading}
-use Rattle.npf_cells_rule.specs.declared.view.CellView.{CellView}
-use Rattle.npf_cells_rule.specs.Passes.{cell_pass}
+use Rattle.npf_cells_rule.specs.{declared.view.CellView.CellView, Passes.cell_pass}
 use Rattle.npf_cells_takes.specs.PrivateKinds.{letting_go}
-use Rattle.npf_turn.specs.Done.{HasLetGo}
-use Rattle.npf_turn.specs.Ending.{GivesUpKey, HasNoKey, HasEndedKey, without_key}
-use Rattle.npf_conndb.specs.Ends.{GaveUpKey, HasKilledOne, EndsKilled, letting_one_go}
-use Rattle.npf_conndb.proofs.EndLemmas.{held, holds_these, holds_none, ends}
+use Rattle.npf_turn.specs.{Done.HasLetGo, Endings.{GivesUpKey, HasNoKey, HasEndedKey, without_key}}
+use Rattle.npf_conndb.{specs.Ends.{GaveUpKey, HasKilledOne, EndsKilled, letting_one_go}, proofs.EndLemmas.{held, holds_these, holds_none, ends}}
 use Rattle.npf_conndb.proofs.KeyLemmas.{gives_up_none}
 
 -- behind an Unhold the connection is Dead, and holds no key of that way
-module _ {S A R : Type 0} (m : Meaning S A R) (slots : ℕ) (pass : Pass (Entry S A R)) (new : List (Entry S A R)) (id : ConnId) (way : Way) (legal : Legal m slots new) (adds : AddsOwn pass new (entry_of pass (Unhold id way) Nothing ∷ [])) where
+module _ {S A R : Type 0} (m : Meaning S A R) (slots : ℕ) (pass : Pass (Entry S A R)) (new : List (Entry S A R)) (id : ConnId) (way : Way)
+    (legal : Legal m slots new) (adds : AddsOwn pass new (entry_of pass (Unhold id way) Nothing ∷ [])) where
   abbrev entry : Entry S A R
   entry = entry_of pass (Unhold id way) Nothing
 
@@ -54,7 +41,8 @@ module _ {S A R : Type 0} (m : Meaning S A R) (slots : ℕ) (pass : Pass (Entry 
   pub unheld_none : HoldsNone (state_of m new) id way
   unheld_none = subst (λ (x : Machine S). HoldsNone x id way) (sym state) (λ key. gives_up_none id way (k.holder key))
 
-module _ {S A R : Type 0} (m : Meaning S A R) (id : ConnId) (way : Way) (old now : Me (Running S) (CellView S A R)) (pass : IsPass m (cell_pass old.0)) (dead : stage_of (state_of m old.0.seats.history) id ≡ Dead) where
+module _ {S A R : Type 0} (m : Meaning S A R) (id : ConnId) (way : Way) (old now : Me (Running S) (CellView S A R))
+    (pass : IsPass m (cell_pass old.0)) (dead : stage_of (state_of m old.0.seats.history) id ≡ Dead) where
   gave : GivesUpKey m id way old now → GaveUpKey m id way (cell_pass old.0) (cell_pass now.0)
   gave so =
       let legal = (so.legal pass).legal in
@@ -133,7 +121,8 @@ module _ {S A R : Type 0} (m : Meaning S A R) (id : ConnId) (way : Way) (old now
     turn = ap (λ (y : Me (Running S) (CellView S A R)). y.0.turn) so.is;
     given = ap (λ (y : Me (Running S) (CellView S A R)). given_else id.slot y.0.pools.gave_up) so.is ∙ none_given id way old.0.pools.gave_up;
     kills = ap (λ (y : Me (Running S) (CellView S A R)). y.0.pools.kills) so.is;
-    other = λ w apart none c. another w apart none (cons_cases (found_as id way) (found_as id w) old.0.pools.gave_up (subst (λ xs. Contains xs (found_as id w)) (ap (λ (y : Me (Running S) (CellView S A R)). y.0.pools.gave_up) so.is) c));
+    other = λ w apart none c. another w apart none (cons_cases (found_as id way) (found_as id w) old.0.pools.gave_up
+        (subst (λ xs. Contains xs (found_as id w)) (ap (λ (y : Me (Running S) (CellView S A R)). y.0.pools.gave_up) so.is) c));
   }
     where
       another : (w : Way) → w ≢ way → ¬ Contains old.0.pools.gave_up (found_as id w) → (found_as id way ≡ found_as id w) ⊎ Contains old.0.pools.gave_up (found_as id w) → ⊥
@@ -141,7 +130,8 @@ module _ {S A R : Type 0} (m : Meaning S A R) (id : ConnId) (way : Way) (old now
       another w apart none (inr c) = none c
 
       view : now.0 ≡ record (without_key old.0 now.0.seats.history now.0.epochs id way) { turn = old.0.turn }
-      view = ap (λ (y : Me (Running S) (CellView S A R)). y.0) so.is ∙ ap (λ t. let v : CellView S A R = record (without_key old.0 now.0.seats.history now.0.epochs id way) { turn = t } in v) (sym turnless)
+      view = ap (λ (y : Me (Running S) (CellView S A R)). y.0) so.is ∙ ap (λ t. let v : CellView S A R =
+          record (without_key old.0 now.0.seats.history now.0.epochs id way) { turn = t } in v) (sym turnless)
   ended false so = record {
     is = view ∙ sym (ap (but_keys old.0) view);
     pin = ap (λ (y : Me (Running S) (CellView S A R)). y.0.epochs.pin) so.is;
@@ -165,7 +155,8 @@ pub none_gave : {S A R : Type 0} (id : ConnId) (v : CellView S A R) → HasKille
 none_gave id v killed way c = none_listed (found_as id way) (subst (λ xs. Contains xs (found_as id way)) killed.given c)
 
 -- After all three the connection is let go.
-module _ {S A R : Type 0} (m : Meaning S A R) (id : ConnId) (old one two three : Me (Running S) (CellView S A R)) (forward backward port : Bool) (pass : IsPass m (cell_pass old.0)) (dead : stage_of (state_of m old.0.seats.history) id ≡ Dead) (killed : HasKilledOne id old.0)
+module _ {S A R : Type 0} (m : Meaning S A R) (id : ConnId) (old one two three : Me (Running S) (CellView S A R)) (forward backward port : Bool)
+    (pass : IsPass m (cell_pass old.0)) (dead : stage_of (state_of m old.0.seats.history) id ≡ Dead) (killed : HasKilledOne id old.0)
     (f : HasEndedKey m id Forward forward old one) (b : HasEndedKey m id Backward backward one two) (p : HasEndedKey m id Port port two three) where
   ended_f : Ended m id Forward old one killed.turnless
   ended_f = ended m id Forward old one killed.turnless forward f
@@ -222,7 +213,12 @@ module _ {S A R : Type 0} (m : Meaning S A R) (id : ConnId) (old one two three :
         lets v = record v { epochs = loading v.epochs goes.epoch; pools = letting_go id.slot goes.epoch v.pools }
 
         with_pools_of : List ConnId → List Found → CellView S A R
-        with_pools_of kills given = record old.0 { seats = record old.0.seats { history = three.0.seats.history }; epochs = loading three.0.epochs goes.epoch; pools = record old.0.pools { kills = kills; gave_up = given; dated = max old.0.pools.dated goes.epoch }; trie = three.0.trie }
+        with_pools_of kills given = record old.0 {
+          seats = record old.0.seats { history = three.0.seats.history };
+          epochs = loading three.0.epochs goes.epoch;
+          pools = record old.0.pools { kills = kills; gave_up = given; dated = max old.0.pools.dated goes.epoch };
+          trie = three.0.trie;
+        }
 
         view : now.0 ≡ with_pools_of [] []
         view = ap (λ (y : Me (Running S) (CellView S A R)). y.0) goes.is ∙ (ap lets three_is ∙ (λ i. with_pools_of ((ap (ids_elsewhere id.slot) killed.killed ∙ none_killed id) i) (given_three i)))
@@ -231,8 +227,11 @@ module _ {S A R : Type 0} (m : Meaning S A R) (id : ConnId) (old one two three :
     lets_go legal = record {
       held = held m id (cell_pass old.0) (cell_pass one.0) (cell_pass two.0) (cell_pass three.0) gave_f gave_b gave_p;
       holds = holds_these m id (cell_pass old.0) (cell_pass one.0) (cell_pass two.0) (cell_pass three.0) gave_f gave_b gave_p;
-      ends = λ first why number joined kill. subst (λ h. AddsOwn first h (end_entries first id why (held m id (cell_pass old.0) (cell_pass one.0) (cell_pass two.0) (cell_pass three.0) gave_f gave_b gave_p))) (sym history) (ends m id (cell_pass old.0) (cell_pass one.0) (cell_pass two.0) (cell_pass three.0) gave_f gave_b gave_p first why number joined kill);
-      on = subst (λ h. IsPrefix old.0.seats.history h) (sym history) (IsPrefix-trans old.0.seats.history one.0.seats.history three.0.seats.history gave_f.on (IsPrefix-trans one.0.seats.history two.0.seats.history three.0.seats.history gave_b.on gave_p.on));
+      ends = λ first why number joined kill. subst (λ h. AddsOwn first h (end_entries first id why (held m id (cell_pass old.0) (cell_pass one.0) (cell_pass two.0)
+          (cell_pass three.0) gave_f gave_b gave_p))) (sym history)
+          (ends m id (cell_pass old.0) (cell_pass one.0) (cell_pass two.0) (cell_pass three.0) gave_f gave_b gave_p first why number joined kill);
+      on = subst (λ h. IsPrefix old.0.seats.history h) (sym history) (IsPrefix-trans old.0.seats.history one.0.seats.history three.0.seats.history gave_f.on
+          (IsPrefix-trans one.0.seats.history two.0.seats.history three.0.seats.history gave_b.on gave_p.on));
       keyless = subst (λ h. (way : Way) → HoldsNone (state_of m h) id way) (sym history) gone_bare;
       dead = subst (λ h. stage_of (state_of m h) id ≡ Dead) (sym history) gone_dead;
       legal = legal;

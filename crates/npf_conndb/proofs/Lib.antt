@@ -17,7 +17,7 @@ pub mod NoteLemmas
 pub mod PassLemmas
 pub mod RegainLemmas
 pub mod SeenLemmas
-pub mod SlotLemmas
+pub mod SlotVisitLemmas
 pub mod SoleLemmas
 pub mod StayLemmas
 pub mod TurnLemmas

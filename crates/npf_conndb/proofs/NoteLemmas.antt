@@ -1,28 +1,19 @@
 -- What a pass knows of the notes of connections that it is building, as it goes on.
 use Rattle.std.proofs.Common.{◌≡◌, ◌≢◌, ◌⊎◌, ℕ, Bool, true, false, ◌==◌, ◌&&◌, not, List, Some, refl, sym, ap, ◌∙◌, subst, inl, inr, arith}
-use Rattle.std.specs.List.{Contains}
-use Rattle.std.proofs.lemmas.Bool.Decides.{Decides-eqb}
-use Rattle.npf_types.specs.declared.key.Way.{Way}
-use Rattle.npf_types.specs.declared.key.Way.TheVariants.{Forward, Backward, Port}
-use Rattle.npf_core.specs.declared.conn_id.ConnId.{ConnId}
-use Rattle.npf_core.specs.declared.entry.Entry.{Entry}
-use Rattle.npf_core.specs.declared.stage.Stage.TheVariants.{Building}
-use Rattle.npf_core.specs.History.{Legal, LegalFrom, state_of, state_from, IsPrefix}
-use Rattle.npf_core.specs.Machine.{Machine, opening, stage_of, IsAlive, IsClaimed, HoldsNone}
-use Rattle.npf_core.specs.Meaning.{Meaning}
-use Rattle.npf_core.proofs.HistoryLemmas.{LegalFrom-rest, state_from-append}
-use Rattle.npf_core.proofs.KeyLemmas.{stays_holder}
-use Rattle.npf_core.proofs.LifeLemmas.{IsClaimed-last}
+use Rattle.std.{specs.List.Contains, proofs.{lemmas.Bool.Decides.Decides-eqb, Math.Bool.and-false}}
+use Rattle.npf_types.specs.declared.key.Way.{Way, TheVariants.{Forward, Backward, Port}}
+use Rattle.npf_shelf.proofs.ListLemmas.{Contains-filter_from}
+use Rattle.npf_core.specs.declared.{conn_id.ConnId.ConnId, entry.Entry.Entry, stage.Stage.TheVariants.Building}
+use Rattle.npf_core.specs.{History.{Legal, LegalFrom, state_of, state_from, IsPrefix}, Machine.{Machine, opening, stage_of, IsAlive, IsClaimed, HoldsNone}}
+use Rattle.npf_core.{specs.Meaning.Meaning, proofs.{HistoryLemmas.{LegalFrom-rest, state_from-append}, KeyLemmas.stays_holder, LifeLemmas.IsClaimed-last}}
 use Rattle.npf_connections.specs.Pass.{Pass, IsPass}
 use Rattle.npf_cells_words.specs.Layout.{note_field}
-use Rattle.npf_cells_lives.specs.declared.pools.Note.{Note}
-use Rattle.npf_cells_lives.specs.Notes.{is_note_of, notes_but, notes_elsewhere}
-use Rattle.npf_cells_lives.proofs.StoredLemmas.{has_filtered}
-use Rattle.npf_cells_rule.specs.declared.view.CellView.{CellView}
-use Rattle.npf_cells_rule.specs.Passes.{cell_pass}
+use Rattle.npf_cells_lives.specs.{declared.pools.Note.Note, Notes.{is_note_of, notes_but, notes_elsewhere}}
+use Rattle.npf_cells_rule.specs.{declared.view.CellView.CellView, Passes.cell_pass}
 use Rattle.npf_cells_turns.specs.EndKinds.{HasBareNotes}
 
-module _ {S A R : Type 0} (m : Meaning S A R) (old now : Pass (Entry S A R)) (was : IsPass m old) (is : IsPass m now) (on : IsPrefix old.history now.history) (id : ConnId) (before : Contains old.builds id) (after : Contains now.builds id) where
+module _ {S A R : Type 0} (m : Meaning S A R) (old now : Pass (Entry S A R)) (was : IsPass m old) (is : IsPass m now)
+    (on : IsPrefix old.history now.history) (id : ConnId) (before : Contains old.builds id) (after : Contains now.builds id) where
   legal : LegalFrom m now.slots (state_of m old.history) on.rest
   legal = LegalFrom-rest m now.slots opening old.history on.rest (subst (Legal m now.slots) on.goes_on is.legal)
 
@@ -40,7 +31,8 @@ module _ {S A R : Type 0} (m : Meaning S A R) (old now : Pass (Entry S A R)) (wa
       (alive (state_from m (state_of m old.history) on.rest) now.number (subst (λ (k : Machine S). stage_of k id ≡ Building now.number) state (is.building id after)))))
 
 -- so it has its notes still, where those of its slot are still known
-pub notes_stay : {S A R : Type 0} (m : Meaning S A R) (old now : CellView S A R) → IsPass m (cell_pass old) → IsPass m (cell_pass now) → IsPrefix old.seats.history now.seats.history → (id : ConnId) → Contains old.pools.builds id → Contains now.pools.builds id →
+pub notes_stay : {S A R : Type 0} (m : Meaning S A R) (old now : CellView S A R) → IsPass m (cell_pass old) → IsPass m (cell_pass now) →
+    IsPrefix old.seats.history now.seats.history → (id : ConnId) → Contains old.pools.builds id → Contains now.pools.builds id →
     ((note : Note) → note.slot ≡ id.slot → Contains old.pools.notes note → Contains now.pools.notes note) → HasBareNotes m old id → HasBareNotes m now id
 notes_stay m old now was is on id before after known bare way none =
     known (record { slot = id.slot; field = note_field way; value = 0 }) refl (bare way (bare_before m (cell_pass old) (cell_pass now) was is on id before after way none))
@@ -63,20 +55,16 @@ apart_test a b apart = by_test (a == b) refl
     by_test true e = absurd (apart ((Decides-eqb a b).0 e))
     by_test false e = e
 
-no_and : (b : Bool) → (b && false) ≡ false
-no_and true = refl
-no_and false = refl
-
 not_this : (slot field : ℕ) (note : Note) → (note.slot ≢ slot) ⊎ (note.field ≢ field) → is_note_of slot field note ≡ false
 not_this slot field note (inl apart) = ap (λ b. b && (note.field == field)) (apart_test note.slot slot apart)
-not_this slot field note (inr apart) = ap (λ b. (note.slot == slot) && b) (apart_test note.field field apart) ∙ no_and (note.slot == slot)
+not_this slot field note (inr apart) = ap (λ b. (note.slot == slot) && b) (apart_test note.field field apart) ∙ and-false (note.slot == slot)
 
 -- a note that is another stays where one is forgotten, and where those of another slot are
 pub still_noted : (slot field : ℕ) (notes : List Note) (note : Note) → (note.slot ≢ slot) ⊎ (note.field ≢ field) → Contains notes note → Contains (notes_but slot field notes) note
-still_noted slot field notes note apart c = has_filtered (λ (x : Note). not (is_note_of slot field x)) notes note c (ap not (not_this slot field note apart))
+still_noted slot field notes note apart c = Contains-filter_from (λ (x : Note). not (is_note_of slot field x)) notes note c (ap not (not_this slot field note apart))
 
 pub noted_elsewhere : (slot : ℕ) (notes : List Note) (note : Note) → note.slot ≢ slot → Contains notes note → Contains (notes_elsewhere slot notes) note
-noted_elsewhere slot notes note apart c = has_filtered (λ (x : Note). not (x.slot == slot)) notes note c (ap not (apart_test note.slot slot apart))
+noted_elsewhere slot notes note apart c = Contains-filter_from (λ (x : Note). not (x.slot == slot)) notes note c (ap not (apart_test note.slot slot apart))
 
 -- two ways have two notes
 pub way_notes : (way other : Way) → way ≢ other → note_field way ≢ note_field other

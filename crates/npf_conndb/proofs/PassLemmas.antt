@@ -1,25 +1,15 @@
 -- A pass stays one of its table between calls, and shows what it showed but for what a call says.
 use Rattle.std.proofs.Common.{◌≡◌, ℕ, ◌≤◌, true, false, true≢false, List, [], ◌∷◌, Option, None, refl, sym, ap, ◌∙◌, subst, arith, append-nil}
 use Rattle.std.specs.List.{Contains}
-use Rattle.npf_core.specs.declared.conn_id.ConnId.{ConnId}
-use Rattle.npf_core.specs.declared.entry.Entry.{Entry}
-use Rattle.npf_core.specs.declared.found.Found.{Found}
-use Rattle.npf_core.specs.History.{IsPrefix}
-use Rattle.npf_core.specs.Meaning.{Meaning}
+use Rattle.npf_core.specs.{declared.{conn_id.ConnId.ConnId, entry.Entry.Entry, found.Found.Found}, History.IsPrefix, Meaning.Meaning}
 use Rattle.npf_paths.specs.declared.place.Lock.{Lock}
-use Rattle.npf_connections.specs.Adding.{Adds, AddsOwn, EndsWith}
-use Rattle.npf_connections.specs.Pass.{Pass, IsPass}
-use Rattle.npf_connections.specs.Stay.{GoesOn}
+use Rattle.npf_connections.specs.{Adding.{Adds, AddsOwn, EndsWith}, Pass.{Pass, IsPass}, Stay.GoesOn}
 use Rattle.npf_seats.proofs.PrefixLemmas.{none_listed}
-use Rattle.npf_cells_lives.specs.declared.pools.Note.{Note}
-use Rattle.npf_cells_lives.specs.declared.turn.Turn.{Turn}
-use Rattle.npf_cells_pins.specs.declared.pin.Pin.{Pin}
-use Rattle.npf_cells_pins.specs.declared.pin.Pin.TheVariants.{Idle, Pinned, Protected}
-use Rattle.npf_cells_rule.specs.declared.view.CellView.{CellView}
-use Rattle.npf_cells_rule.specs.Passes.{IsProtected, cell_pass, is_pinned}
+use Rattle.npf_cells_lives.specs.declared.{pools.Note.Note, turn.Turn.Turn}
+use Rattle.npf_cells_pins.specs.declared.pin.Pin.{Pin, TheVariants.{Idle, Pinned, Protected}}
+use Rattle.npf_cells_rule.specs.{declared.view.CellView.CellView, Passes.{IsProtected, cell_pass, is_pinned}}
 use Rattle.npf_cells_turns.specs.EndKinds.{HasBareNotes}
-use Rattle.npf_conndb.specs.Between.{IsBetweenCalls}
-use Rattle.npf_conndb.proofs.NoteLemmas.{notes_stay}
+use Rattle.npf_conndb.{specs.Between.IsBetweenCalls, proofs.NoteLemmas.notes_stay}
 
 -- a pass that is in no stay isn't pinned, and one that is, is
 pub idle_pin : (pin : Pin) → is_pinned pin ≡ false → pin ≡ Idle
@@ -38,7 +28,8 @@ abbrev pub hands : {S A R : Type 0} → CellView S A R → Hands S
 hands v = (v.epochs.pin, v.trie.locks, v.turn, v.pools.nodes, v.pools.unstored, v.pools.kills, v.pools.gave_up, v.pools.reclaims, v.pools.cleared, v.pools.unfreed)
 
 -- it is between calls with what it had between others
-pub still_between : {S A R : Type 0} (m : Meaning S A R) (old now : CellView S A R) → hands now ≡ hands old → ((id : ConnId) → Contains now.pools.builds id → HasBareNotes m now id) → IsBetweenCalls m old → IsBetweenCalls m now
+pub still_between : {S A R : Type 0} (m : Meaning S A R) (old now : CellView S A R) → hands now ≡ hands old →
+    ((id : ConnId) → Contains now.pools.builds id → HasBareNotes m now id) → IsBetweenCalls m old → IsBetweenCalls m now
 still_between {S} m old now same noted between = record {
   protected = subst (λ (pin : Pin). is_pinned pin ≡ true → IsProtected pin) (sym (ap (λ (h : Hands S). h.0) same)) between.protected;
   unlocked = ap (λ (h : Hands S). h.1) same ∙ between.unlocked;
@@ -54,14 +45,16 @@ still_between {S} m old now same noted between = record {
 }
 
 -- who builds what it built, and knows the notes that it knew, knows what it did of those that it builds
-pub noted_on : {S A R : Type 0} (m : Meaning S A R) (old now : CellView S A R) → IsPass m (cell_pass old) → IsPass m (cell_pass now) → IsPrefix old.seats.history now.seats.history → now.pools.builds ≡ old.pools.builds → now.pools.notes ≡ old.pools.notes →
+pub noted_on : {S A R : Type 0} (m : Meaning S A R) (old now : CellView S A R) → IsPass m (cell_pass old) → IsPass m (cell_pass now) →
+    IsPrefix old.seats.history now.seats.history → now.pools.builds ≡ old.pools.builds → now.pools.notes ≡ old.pools.notes →
     ((id : ConnId) → Contains old.pools.builds id → HasBareNotes m old id) → (id : ConnId) → Contains now.pools.builds id → HasBareNotes m now id
 noted_on m old now was is on builds notes noted id built =
     let before : Contains old.pools.builds id = subst (λ ids. Contains ids id) builds built in
     notes_stay m old now was is on id before built (λ note there c. subst (λ (xs : List Note). Contains xs note) (sym notes) c) (noted id before)
 
 -- and is between calls as it was
-pub goes_between : {S A R : Type 0} (m : Meaning S A R) (old now : CellView S A R) → hands now ≡ hands old → now.pools.builds ≡ old.pools.builds → now.pools.notes ≡ old.pools.notes → IsPass m (cell_pass old) → IsPass m (cell_pass now) → IsPrefix old.seats.history now.seats.history →
+pub goes_between : {S A R : Type 0} (m : Meaning S A R) (old now : CellView S A R) → hands now ≡ hands old → now.pools.builds ≡ old.pools.builds →
+    now.pools.notes ≡ old.pools.notes → IsPass m (cell_pass old) → IsPass m (cell_pass now) → IsPrefix old.seats.history now.seats.history →
     IsBetweenCalls m old → IsBetweenCalls m now
 goes_between m old now same builds notes was is on between = still_between m old now same (noted_on m old now was is on builds notes between.noted) between
 

@@ -2,24 +2,20 @@
 use Rattle.std.proofs.Common.{◌≡◌, ℕ, ◌≤◌, Bool, false, max, sym, ap, ◌∙◌, subst, arith}
 use Rattle.atomic_table.specs.Table.{Me}
 use Rattle.npf_core.specs.Meaning.{Meaning}
-use Rattle.npf_connections.specs.Pass.{IsPass}
-use Rattle.npf_connections.specs.Worn.{last_epoch}
-use Rattle.npf_cells_pins.specs.declared.pin.EpochSide.{EpochSide}
-use Rattle.npf_cells_pins.specs.declared.pin.Pin.TheVariants.{Idle}
-use Rattle.npf_cells_pins.specs.Pinning.{IsMet, loading}
+use Rattle.npf_connections.specs.{Pass.IsPass, Worn.last_epoch}
+use Rattle.npf_cells_pins.specs.{declared.pin.{EpochSide.EpochSide, Pin.TheVariants.Idle}, Pinning.{IsMet, loading}}
 use Rattle.npf_cells_moves.specs.Kinds.{unpinned}
-use Rattle.npf_cells_rule.specs.declared.view.CellView.{CellView}
-use Rattle.npf_cells_rule.specs.Passes.{IsProtected, cell_pass, is_pinned}
-use Rattle.npf_cells_rule.specs.Views.{with_epochs}
+use Rattle.npf_cells_rule.specs.{declared.view.CellView.CellView, Passes.{IsProtected, cell_pass, is_pinned}, Views.with_epochs}
 use Rattle.npf_epoch.specs.Stays.{HasEntered}
 use Rattle.npf_turn.specs.TakingOff.{HasNoNodes, HasReached, ReturnsNode}
-use Rattle.npf_conndb.specs.Between.{IsBetweenCalls, StaysBetween}
-use Rattle.npf_conndb.proofs.PassLemmas.{hands, goes_between, adds_nothing, begins}
+use Rattle.npf_conndb.{specs.Between.{IsBetweenCalls, StaysBetween}, proofs.PassLemmas.{hands, goes_between, adds_nothing, begins}}
 use Rattle.npf_conndb.proofs.VisitLemmas.{stays_more, visit_goes, visit_pass, visit_between}
 
 -- who only knows of a later epoch is between calls as it was
-module _ {S A R F : Type 0} (m : Meaning S A R) (old now : Me F (CellView S A R)) (seats : now.0.seats ≡ old.0.seats) (shows : cell_pass now.0 ≡ record (cell_pass old.0) { epoch = now.0.epochs.greatest }) (same : hands now.0 ≡ hands old.0) (builds : now.0.pools.builds ≡ old.0.pools.builds) (notes : now.0.pools.notes ≡ old.0.pools.notes)
-    (pin : now.0.epochs.pin ≡ old.0.epochs.pin) (later : old.0.epochs.greatest ≤ now.0.epochs.greatest) (most : old.0.epochs.greatest ≤ last_epoch → now.0.epochs.greatest ≤ last_epoch) (pass : IsPass m (cell_pass old.0)) (between : IsBetweenCalls m old.0) where
+module _ {S A R F : Type 0} (m : Meaning S A R) (old now : Me F (CellView S A R)) (seats : now.0.seats ≡ old.0.seats) (shows : cell_pass now.0 ≡ record
+    (cell_pass old.0) { epoch = now.0.epochs.greatest }) (same : hands now.0 ≡ hands old.0) (builds : now.0.pools.builds ≡ old.0.pools.builds) (notes : now.0.pools.notes ≡ old.0.pools.notes)
+    (pin : now.0.epochs.pin ≡ old.0.epochs.pin) (later : old.0.epochs.greatest ≤ now.0.epochs.greatest) (most : old.0.epochs.greatest ≤ last_epoch →
+    now.0.epochs.greatest ≤ last_epoch) (pass : IsPass m (cell_pass old.0)) (between : IsBetweenCalls m old.0) where
   later_pass : IsPass m (cell_pass now.0)
   later_pass = subst (IsPass m) (sym shows) (record {
     legal = pass.legal;
@@ -34,7 +30,8 @@ module _ {S A R F : Type 0} (m : Meaning S A R) (old now : Me F (CellView S A R)
   later_stays : StaysBetween m old.0 now.0
   later_stays = record {
     goes = record { view = shows ∙ (λ i. record (cell_pass old.0) { history = sym (ap (λ s. s.history) seats) i; epoch = now.0.epochs.greatest }); epoch = later };
-    between = goes_between m old.0 now.0 same builds notes pass later_pass (begins (cell_pass old.0) now.0.seats.history _ (adds_nothing (cell_pass old.0) now.0.seats.history (ap (λ s. s.history) seats))) between;
+    between = goes_between m old.0 now.0 same builds notes pass later_pass
+        (begins (cell_pass old.0) now.0.seats.history _ (adds_nothing (cell_pass old.0) now.0.seats.history (ap (λ s. s.history) seats))) between;
     legal = later_pass;
     pin = pin;
   }
@@ -61,7 +58,18 @@ module _ {S A R F : Type 0} (m : Meaning S A R) (old now : Me F (CellView S A R)
   returned_stays freed so = later_stays m old now
       (ap (λ (y : Me F (CellView S A R)). y.0.seats) so.is)
       (ap (λ (y : Me F (CellView S A R)). cell_pass y.0) so.is ∙ (λ i. record (cell_pass old.0) { entered = is_pinned (so.epochs.pin i); epoch = now.0.epochs.greatest }))
-      (ap (λ (y : Me F (CellView S A R)). hands y.0) so.is ∙ (λ i. (so.epochs.pin i, old.0.trie.locks, old.0.turn, old.0.pools.nodes, old.0.pools.unstored, old.0.pools.kills, old.0.pools.gave_up, old.0.pools.reclaims, old.0.pools.cleared, old.0.pools.unfreed)))
+      (ap (λ (y : Me F (CellView S A R)). hands y.0) so.is ∙ (λ i. (
+        so.epochs.pin i,
+        old.0.trie.locks,
+        old.0.turn,
+        old.0.pools.nodes,
+        old.0.pools.unstored,
+        old.0.pools.kills,
+        old.0.pools.gave_up,
+        old.0.pools.reclaims,
+        old.0.pools.cleared,
+        old.0.pools.unfreed,
+      )))
       (ap (λ (y : Me F (CellView S A R)). y.0.pools.builds) so.is)
       (ap (λ (y : Me F (CellView S A R)). y.0.pools.notes) so.is)
       so.epochs.pin so.epochs.greatest so.epochs.most pass between
@@ -78,7 +86,8 @@ pub record Regains {S A R F : Type 0} (m : Meaning S A R) (epoch : ℕ) (old now
 
 module _ {S A R F : Type 0} (m : Meaning S A R) (epoch : ℕ) (old : Me F (CellView S A R)) where
   -- it has entered and loaded the epoch
-  pub regains_none : (inside now : Me F (CellView S A R)) → inside ≡ with_epochs old inside.0.epochs → IsProtected inside.0.epochs.pin → HasEntered old.0.epochs inside.0.epochs → IsPass m (cell_pass inside.0) → IsBetweenCalls m inside.0 → IsMet inside.0.epochs epoch → now ≡ with_epochs inside (loading inside.0.epochs epoch) → Regains m epoch old now
+  pub regains_none : (inside now : Me F (CellView S A R)) → inside ≡ with_epochs old inside.0.epochs → IsProtected inside.0.epochs.pin → HasEntered old.0.epochs inside.0.epochs →
+      IsPass m (cell_pass inside.0) → IsBetweenCalls m inside.0 → IsMet inside.0.epochs epoch → now ≡ with_epochs inside (loading inside.0.epochs epoch) → Regains m epoch old now
   regains_none inside now same protected entered pass between met is = record {
     inside = inside;
     same = same;

@@ -4,42 +4,20 @@ use Rattle.std.proofs.Common.{◌≡◌, ◌≢◌, ℕ, ◌+◌, ◌-◌, ◌^�
 use Rattle.std.proofs.lemmas.List.Elements.{Contains-append_left, Contains-append_right, Contains-push}
 use mathlib.Core.Option.{some}
 use lib.ListN.{get_elem?}
-use Rattle.atomic_table.specs.Table.{State}
-use Rattle.atomic_table.proofs.Lists.{at_map}
+use Rattle.atomic_table.{specs.Table.State, proofs.Lists.at_map}
 use Rattle.npf_types.specs.declared.key.Key.{Key}
-use Rattle.npf_core.specs.declared.entry.Entry.{Entry}
-use Rattle.npf_core.specs.declared.slot.Slot.{Slot}
-use Rattle.npf_core.specs.declared.stage.Stage.TheVariants.{Dead}
-use Rattle.npf_core.specs.History.{Legal, by, state_of}
-use Rattle.npf_core.specs.Machine.{Machine, IsClaimed}
-use Rattle.npf_core.specs.Meaning.{Meaning}
-use Rattle.npf_core.proofs.ClaimedLemmas.{was_claimed}
-use Rattle.npf_connections.specs.Adding.{Adds}
-use Rattle.npf_connections.specs.Pass.{Pass, IsOwn, all_places}
-use Rattle.npf_connections.specs.Worn.{ClaimsLast}
-use Rattle.npf_cells_words.specs.declared.layout.Layout.{Layout}
-use Rattle.npf_cells_words.specs.declared.layout.Pool.TheVariants.{Slots}
-use Rattle.npf_cells_words.specs.Layout.{turn_field, phase_field, notes_field, field_at}
-use Rattle.npf_seats.specs.Sums.{occurs}
-use Rattle.npf_seats.proofs.PrefixLemmas.{seen_entry}
-use Rattle.npf_seats.proofs.SumLemmas.{sum_alone}
-use Rattle.npf_cells_lives.specs.declared.turn.Turn.{Turn}
-use Rattle.npf_cells_lives.specs.Conns.{entry_seat}
-use Rattle.npf_cells_lives.specs.Deaths.{slots_named, last_id, unreclaimed}
-use Rattle.npf_cells_lives.specs.Turns.{Running, StaysAt, stage_phase, phase_word}
-use Rattle.npf_cells_lives.proofs.DeathLemmas.{last_stage}
-use Rattle.npf_cells_lives.proofs.FreedLemmas.{gone_in, freed_none}
-use Rattle.npf_cells_rule.specs.declared.view.CellView.{CellView}
-use Rattle.npf_cells_rule.specs.Cells.{IsCells}
-use Rattle.npf_cells_rule.specs.DeathLaw.{IsLeftThere, HasNoDeadOfItsOwn}
-use Rattle.npf_cells_rule.specs.Passes.{cell_pass}
-use Rattle.npf_cells_rule.specs.Stood.{StoodSo}
-use Rattle.npf_cells_rule.specs.Views.{seat_side, death_side}
-use Rattle.npf_cells_rule.proofs.DeathLawLemmas.{sole_finds_left}
-use Rattle.npf_cells_rule.proofs.EntryLemmas.{sees_nothing, sole_seen}
+use Rattle.npf_core.specs.{declared.{entry.Entry.Entry, slot.Slot.Slot, stage.Stage.TheVariants.Dead}, History.{Legal, by, state_of}}
+use Rattle.npf_core.{specs.{Machine.{Machine, IsClaimed}, Meaning.Meaning}, proofs.ClaimedLemmas.was_claimed}
+use Rattle.npf_connections.specs.{Adding.Adds, Pass.{Pass, IsOwn, all_places}, Worn.ClaimsLast}
+use Rattle.npf_cells_words.specs.{declared.layout.{Layout.Layout, Pool.TheVariants.Slots}, Layout.{turn_field, phase_field, notes_field, field_at}}
+use Rattle.npf_seats.{specs.Sums.occurs, proofs.{PrefixLemmas.seen_entry, SumLemmas.sum_alone}}
+use Rattle.npf_cells_lives.specs.{declared.turn.Turn.Turn, Conns.entry_seat, Deaths.{slots_named, last_id, unreclaimed}}
+use Rattle.npf_cells_lives.{specs.Turns.{Running, StaysAt, stage_phase, phase_word}, proofs.{DeathLemmas.last_stage, FreedLemmas.{gone_in, freed_none}}}
+use Rattle.npf_cells_rule.specs.{declared.view.CellView.CellView, Cells.IsCells, DeathLaw.{IsLeftThere, HasNoDeadOfItsOwn}, Passes.cell_pass, Stood.StoodSo}
+use Rattle.npf_cells_rule.{specs.Views.{seat_side, death_side}, proofs.{DeathLawLemmas.sole_finds_left, EntryLemmas.{sees_nothing, sole_seen}}}
 use Rattle.npf_cells_rule.proofs.SoleLemmas.{others_spent}
 use Rattle.npf_cells_turns.specs.TurnKinds.{turn_at}
-use Rattle.npf_turn.specs.Reclaiming.{IsLongLeft, turning, WhyLeft, was_taken, was_alive, was_early, was_last}
+use Rattle.npf_turn.specs.Reclaims.{IsLongLeft, turning, WhyLeft, was_taken, was_alive, was_early, was_last}
 
 -- a history that goes on by a pass's own entries alone, and by none of its own, doesn't go on
 nothing_more : {S A R : Type 0} (pass : Pass (Entry S A R)) (log : List (Entry S A R)) (adds : Adds pass log []) → ((e : Entry S A R) → Contains log e → IsOwn pass e.seat) → log ≡ pass.history
@@ -57,13 +35,15 @@ nothing_more {S} {A} {R} pass log adds own = by_rest adds.rest refl
 
 module _ {S A R : Type 0} (m : Meaning S A R) (digest : Key → ℕ) (layout : Layout) where
   -- so where the pass owns all reader places it has seen the whole of it
-  pub sole_log : (v : CellView S A R) (state : State (Running S) (CellView S A R)) (rule : IsCells m digest layout state) → get_elem? state.views v.seats.number ≡ some v → v.seats.lives ≡ true → v.seats.theirs ≡ [] → length v.seats.readers ≡ all_places → rule.log ≡ v.seats.history
+  pub sole_log : (v : CellView S A R) (state : State (Running S) (CellView S A R)) (rule : IsCells m digest layout state) → get_elem? state.views v.seats.number ≡ some v →
+      v.seats.lives ≡ true → v.seats.theirs ≡ [] → length v.seats.readers ≡ all_places → rule.log ≡ v.seats.history
   sole_log v state rule seated lives settled all =
       let there = at_map seat_side state.views v.seats.number v seated in
       nothing_more (cell_pass v) rule.log (sees_nothing layout.slots rule.log _ v.seats.number v rule.seats there lives)
       (sole_seen layout.slots rule.log _ v.seats.number v rule.seats there lives settled all)
 
-  module _ (v : CellView S A R) (word n : ℕ) (stood : StoodSo m digest layout v word n) (lives : v.seats.lives ≡ true) (settled : v.seats.theirs ≡ []) (all : length v.seats.readers ≡ all_places) (hand : HasNoDeadOfItsOwn v) (slot : ℕ) (within : slot < layout.slots) where
+  module _ (v : CellView S A R) (word n : ℕ) (stood : StoodSo m digest layout v word n) (lives : v.seats.lives ≡ true) (settled : v.seats.theirs ≡ [])
+      (all : length v.seats.readers ≡ all_places) (hand : HasNoDeadOfItsOwn v) (slot : ℕ) (within : slot < layout.slots) where
     abbrev k : Machine S
     k = state_of m v.seats.history
 
@@ -78,8 +58,12 @@ module _ {S A R : Type 0} (m : Meaning S A R) (digest : Key → ℕ) (layout : L
 
     none_gone : gone_in death_side stood.state.views slot ≡ 0
     none_gone =
-        let one = sum_alone (λ (u : CellView S A R). occurs slot (slots_named u.pools.reclaims)) stood.state.views v.seats.number v stood.seated (λ i u ne there. ap (λ (x : CellView S A R). occurs slot (slots_named x.pools.reclaims)) (others_spent m digest layout stood.state v.seats.number v stood.rule stood.seated all i u ne there)) in
-        let two = sum_alone (λ (u : CellView S A R). occurs slot (slots_named u.pools.cleared)) stood.state.views v.seats.number v stood.seated (λ i u ne there. ap (λ (x : CellView S A R). occurs slot (slots_named x.pools.cleared)) (others_spent m digest layout stood.state v.seats.number v stood.rule stood.seated all i u ne there)) in
+        let one = sum_alone (λ (u : CellView S A R). occurs slot (slots_named u.pools.reclaims)) stood.state.views v.seats.number v stood.seated
+        (λ i u ne there. ap (λ (x : CellView S A R). occurs slot (slots_named x.pools.reclaims))
+        (others_spent m digest layout stood.state v.seats.number v stood.rule stood.seated all i u ne there)) in
+        let two = sum_alone (λ (u : CellView S A R). occurs slot (slots_named u.pools.cleared)) stood.state.views v.seats.number v stood.seated
+        (λ i u ne there. ap (λ (x : CellView S A R). occurs slot (slots_named x.pools.cleared))
+        (others_spent m digest layout stood.state v.seats.number v stood.rule stood.seated all i u ne there)) in
         let mine = ap (λ ids. occurs slot (slots_named ids)) hand.reclaims in
         let also = ap (λ ids. occurs slot (slots_named ids)) hand.cleared in
         omega (arith, one, two, mine, also)
@@ -106,7 +90,8 @@ module _ {S A R : Type 0} (m : Meaning S A R) (digest : Key → ℕ) (layout : L
     note_is is dead = let left = left_at dead in (left.epoch, sym stood.there ∙ (ap (slice_index stood.state.words) is ∙ left.note), left.since)
 
   -- so where it isn't worn and loaded an epoch two later, each reason for which a slot was left says that nothing Dead is there
-  module _ (v : CellView S A R) (lives : v.seats.lives ≡ true) (settled : v.seats.theirs ≡ []) (all : length v.seats.readers ≡ all_places) (hand : HasNoDeadOfItsOwn v) (turnless : v.turn ≡ None) (slot epoch : ℕ) (within : slot < layout.slots)
+  module _ (v : CellView S A R) (lives : v.seats.lives ≡ true) (settled : v.seats.theirs ≡ []) (all : length v.seats.readers ≡ all_places)
+      (hand : HasNoDeadOfItsOwn v) (turnless : v.turn ≡ None) (slot epoch : ℕ) (within : slot < layout.slots)
       (slots : ℕ) (legal : Legal m slots v.seats.history) (unworn : ¬ ClaimsLast v.seats.history) (later : v.pools.dated + 2 ≤ epoch) where
     abbrev known : Machine S
     known = state_of m v.seats.history
@@ -128,7 +113,8 @@ module _ {S A R : Type 0} (m : Meaning S A R) (digest : Key → ℕ) (layout : L
     left_alive (was_alive was phase stood other) dead =
         let v' = turning v slot was in
         let same = was_dead v' (field_at layout Slots slot phase_field) phase stood lives settled all (turned was) slot within (turn_at slot was) refl refl dead in
-        other (phase_is v' (field_at layout Slots slot phase_field) phase stood lives settled all (turned was) slot within (turn_at slot was) refl refl refl ∙ (ap (λ (x : Slot S). stage_phase x.stage) same ∙ ap stage_phase dead))
+        other (phase_is v' (field_at layout Slots slot phase_field) phase stood lives settled all (turned was) slot within (turn_at slot was) refl refl refl
+        ∙ (ap (λ (x : Slot S). stage_phase x.stage) same ∙ ap stage_phase dead))
     left_alive (was_early was note stood early) dead =
         let told = note_is (turning v slot was) (field_at layout Slots slot notes_field) note stood lives settled all (turned was) slot within refl dead in
         let is = told.1 in

@@ -1,22 +1,17 @@
 -- Passes that enter and leave.
-use Rattle.std.proofs.Common.{◌≡◌, ◌≤◌, Bool, true, false, true≢false, [], max, refl, sym, ap, ◌∙◌, subst, arith}
-use Rattle.std.specs.List.{Contains}
+use Rattle.std.{proofs.Common.{◌≡◌, ◌≤◌, Bool, true, false, true≢false, [], max, refl, sym, ap, ◌∙◌, subst, arith}, specs.List.Contains}
 use Rattle.atomic_table.specs.Table.{Me}
-use Rattle.npf_core.specs.declared.entry.Entry.{Entry}
-use Rattle.npf_core.specs.Meaning.{Meaning}
-use Rattle.npf_connections.specs.Pass.{Pass, IsPass}
-use Rattle.npf_connections.specs.Worn.{last_epoch}
+use Rattle.npf_core.specs.{declared.entry.Entry.Entry, Meaning.Meaning}
+use Rattle.npf_connections.specs.{Pass.{Pass, IsPass}, Worn.last_epoch}
 use Rattle.npf_seats.proofs.PrefixLemmas.{none_listed}
 use Rattle.npf_cells_moves.specs.Kinds.{unpinned}
 use Rattle.npf_cells_pins.specs.declared.pin.EpochSide.{EpochSide}
-use Rattle.npf_cells_rule.specs.declared.view.CellView.{CellView}
-use Rattle.npf_cells_rule.specs.Passes.{IsProtected, cell_pass}
-use Rattle.npf_cells_rule.specs.Views.{with_epochs}
-use Rattle.npf_cells_rule.proofs.PassLemmas.{pinned_in}
+use Rattle.npf_cells_rule.{specs.{declared.view.CellView.CellView, Passes.{IsProtected, cell_pass}, Views.with_epochs}, proofs.PassLemmas.pinned_in}
 use Rattle.npf_epoch.specs.Stays.{HasEntered}
 use Rattle.npf_conndb.specs.Between.{IsBetweenCalls}
 
-module _ {S A R F : Type 0} (m : Meaning S A R) (old now : Me F (CellView S A R)) (same : now ≡ with_epochs old now.0.epochs) (protected : IsProtected now.0.epochs.pin) (entered : HasEntered old.0.epochs now.0.epochs) where
+module _ {S A R F : Type 0} (m : Meaning S A R) (old now : Me F (CellView S A R)) (same : now ≡ with_epochs old now.0.epochs)
+    (protected : IsProtected now.0.epochs.pin) (entered : HasEntered old.0.epochs now.0.epochs) where
   -- a pass that entered shows that, and the epoch that it loaded
   pub entered_shows : cell_pass now.0 ≡ record (cell_pass old.0) { entered = true; epoch = now.0.epochs.greatest }
   entered_shows = ap (λ (y : Me F (CellView S A R)). cell_pass y.0) same ∙ ap shows (pinned_in now.0.epochs.pin protected)

@@ -1,9 +1,6 @@
 -- Which bits of a word are clear.
-use Rattle.std.specs.Int.{w64, bit_at, trailing_zeros}
-use Rattle.std.proofs.Common.{◌≡◌, ◌≢◌, ◌≤◌, ◌<◌, ◌-◌, ◌/◌, ◌^◌, ◌%◌, ℕ, ap, ◌∙◌, ⊎_elim, arith}
-use Rattle.std.proofs.lemmas.Bool.{cases_eq}
-use Rattle.std.proofs.lemmas.Nat.{shr-shr}
-use Rattle.std.proofs.lemmas.Nat.Bits.{bit_at-zero, bit_at-trailing_zeros}
+use Rattle.std.{specs.Int.{w64, bit_at, trailing_zeros}, proofs.Common.{◌≡◌, ◌≢◌, ◌≤◌, ◌<◌, ◌-◌, ◌/◌, ◌^◌, ◌%◌, ℕ, ap, ◌∙◌, ⊎_elim, arith}}
+use Rattle.std.proofs.lemmas.{Bool.cases_eq, Nat.{shr-shr, Bits.{bit_at-zero, bit_at-trailing_zeros}}}
 
 -- the bits below the lowest that is set
 pub below_lowest_clear : (word i : ℕ) → word < 2 ^ 64 → i < trailing_zeros w64 word → bit_at word i ≡ 0

@@ -2,29 +2,15 @@
 use Rattle.std.proofs.Common.{◌≡◌, ◌⊎◌, ℕ, ◌+◌, ◌<◌, Bool, true, false, eqb, List, [], refl, sym, ap, ◌∙◌, subst, ⊎_elim, inl, inr, arith}
 use Rattle.std.proofs.lemmas.Bool.Decides.{Decides-eqb, not_from_Decides}
 use Rattle.atomic_table.specs.Table.{Me}
-use Rattle.npf_core.specs.declared.conn_id.ConnId.{ConnId}
-use Rattle.npf_core.specs.declared.entry.Entry.{Entry}
-use Rattle.npf_core.specs.declared.stage.Stage.{Stage}
-use Rattle.npf_core.specs.declared.stage.Stage.TheVariants.{Vacant, Building, Live, Dead}
-use Rattle.npf_core.specs.History.{state_of}
-use Rattle.npf_core.specs.Machine.{stage_of, IsClaimed, IsLive}
-use Rattle.npf_core.specs.Meaning.{Meaning}
-use Rattle.npf_connections.specs.Adding.{Adds}
-use Rattle.npf_connections.specs.Expiring.{Expires, WasNotDue, expiry_entries}
-use Rattle.npf_connections.specs.Pass.{Pass, IsPass}
-use Rattle.npf_connections.specs.Stay.{GoesOn}
-use Rattle.npf_connections.proofs.AddLemmas.{adds_more}
+use Rattle.npf_core.specs.declared.{conn_id.ConnId.ConnId, entry.Entry.Entry, stage.Stage.{Stage, TheVariants.{Vacant, Building, Live, Dead}}}
+use Rattle.npf_core.{specs.{History.state_of, Machine.{stage_of, IsClaimed, IsLive}, Meaning.Meaning}, proofs.SlotLemmas.slot_exists}
+use Rattle.npf_connections.{specs.{Adding.Adds, Expiring.{Expires, WasNotDue, expiry_entries}, Pass.{Pass, IsPass}, Stay.GoesOn}, proofs.AddLemmas.adds_more}
 use Rattle.npf_seats.proofs.PrefixLemmas.{none_listed}
 use Rattle.npf_cells_moves.specs.Kinds.{unpinned}
-use Rattle.npf_cells_rule.specs.declared.view.CellView.{CellView}
-use Rattle.npf_cells_rule.specs.Passes.{IsProtected, cell_pass, is_pinned}
-use Rattle.npf_cells_rule.specs.Views.{with_epochs}
+use Rattle.npf_cells_rule.specs.{declared.view.CellView.CellView, Passes.{IsProtected, cell_pass, is_pinned}, Views.with_epochs}
 use Rattle.npf_epoch.specs.Stays.{HasEntered}
-use Rattle.npf_conndb.specs.Between.{IsBetweenCalls, StaysBetween}
-use Rattle.npf_conndb.specs.Expiries.{ExpiresIn}
-use Rattle.npf_conndb.proofs.ExpiryLemmas.{expiry_more, expires_more, expires_fewer, lives_or_idle}
-use Rattle.npf_conndb.proofs.PassLemmas.{goes_on, goes_further, adds_nothing}
-use Rattle.npf_conndb.proofs.SlotLemmas.{slot_exists}
+use Rattle.npf_conndb.specs.{Between.{IsBetweenCalls, StaysBetween}, Expiries.ExpiresIn}
+use Rattle.npf_conndb.proofs.{ExpiryLemmas.{expiry_more, expires_more, expires_fewer, lives_or_idle}, PassLemmas.{goes_on, goes_further, adds_nothing}}
 use Rattle.npf_conndb.proofs.StayLemmas.{entered_shows, entered_later, left_shows, left_pass, left_between}
 
 -- who did nothing is between calls as it was, and expired nothing in no slot
@@ -64,11 +50,16 @@ module _ {S A R : Type 0} (m : Meaning S A R) (time slot count more : ℕ) (old 
     pin = then.pin ∙ first.pin;
   }
 
-  pub expires_next : ExpiresIn m time (λ s. s < slot) count (cell_pass old) (cell_pass mid) → ExpiresIn m time (λ s. s ≡ slot) more (cell_pass mid) (cell_pass now) → ExpiresIn m time (λ s. s < slot + 1) (count + more) (cell_pass old) (cell_pass now)
+  pub expires_next : ExpiresIn m time (λ s. s < slot) count (cell_pass old) (cell_pass mid) → ExpiresIn m time (λ s. s ≡ slot) more (cell_pass mid) (cell_pass now) →
+      ExpiresIn m time (λ s. s < slot + 1) (count + more) (cell_pass old) (cell_pass now)
   expires_next below here = expires_fewer m time (cell_pass old) (cell_pass now) (λ s. (s < slot) ⊎ (s ≡ slot)) (λ s. s < slot + 1) (count + more) (below_next slot)
-      (expires_more m time (cell_pass old) (cell_pass mid) (cell_pass now) (ap (λ (p : Pass (Entry S A R)). p.number) first.goes.view) (ap (λ (p : Pass (Entry S A R)). p.joined) first.goes.view) (λ s. s < slot) (λ s. s ≡ slot) count more then.legal
+      (expires_more m time (cell_pass old) (cell_pass mid) (cell_pass now) (ap (λ (p : Pass (Entry S A R)). p.number) first.goes.view)
+      (ap (λ (p : Pass (Entry S A R)). p.joined) first.goes.view) (λ s. s < slot) (λ s. s ≡ slot) count more then.legal
       (ap (λ (p : Pass (Entry S A R)). p.slots) then.goes.view) below here
-      (λ id there live. lives_or_idle m time (cell_pass old) (cell_pass mid) (cell_pass now) id (record { rest = below.adds.rest; goes_on = below.adds.goes_on }) (record { rest = here.adds.rest; goes_on = here.adds.goes_on })))
+      (λ id there live. lives_or_idle m time (cell_pass old) (cell_pass mid) (cell_pass now) id (record {
+        rest = below.adds.rest;
+        goes_on = below.adds.goes_on;
+      }) (record { rest = here.adds.rest; goes_on = here.adds.goes_on })))
 
 -- what is Live lies in a slot of the table
 live_claimed : {S : Type 0} (x : Stage S) → IsLive x → IsClaimed x
@@ -77,11 +68,13 @@ live_claimed (Building seat) live = absurd live
 live_claimed (Live flow n) live = tt
 live_claimed Dead live = absurd live
 
-pub live_exists : {S A R : Type 0} (m : Meaning S A R) (pass : Pass (Entry S A R)) (slots : ℕ) (id : ConnId) → pass.slots ≡ slots → IsPass m pass → IsLive (stage_of (state_of m pass.history) id) → id.slot < slots
+pub live_exists : {S A R : Type 0} (m : Meaning S A R) (pass : Pass (Entry S A R)) (slots : ℕ) (id : ConnId) →
+    pass.slots ≡ slots → IsPass m pass → IsLive (stage_of (state_of m pass.history) id) → id.slot < slots
 live_exists m pass slots id sized is live = subst (λ n. id.slot < n) sized (slot_exists m pass.slots pass.history id is.legal (live_claimed (stage_of (state_of m pass.history) id) live))
 
 -- the whole call
-module _ {S A R F : Type 0} (m : Meaning S A R) (old inside after now : Me F (CellView S A R)) (pass : IsPass m (cell_pass old.0)) (out : (cell_pass old.0).entered ≡ false) (same : inside ≡ with_epochs old inside.0.epochs) (protected : IsProtected inside.0.epochs.pin)
+module _ {S A R F : Type 0} (m : Meaning S A R) (old inside after now : Me F (CellView S A R)) (pass : IsPass m (cell_pass old.0))
+    (out : (cell_pass old.0).entered ≡ false) (same : inside ≡ with_epochs old inside.0.epochs) (protected : IsProtected inside.0.epochs.pin)
     (entered : HasEntered old.0.epochs inside.0.epochs) (stays : StaysBetween m inside.0 after.0) (next : now ≡ unpinned after) where
   was : inside.0.seats.history ≡ old.0.seats.history
   was = ap (λ (y : Me F (CellView S A R)). y.0.seats.history) same
@@ -102,7 +95,8 @@ module _ {S A R F : Type 0} (m : Meaning S A R) (old inside after now : Me F (Ce
       as_before e ids = record (cell_pass old.0) { entered = e; answered = ids; history = after.0.seats.history; epoch = after.0.epochs.greatest }
 
   pub visit_goes : GoesOn (cell_pass old.0) (cell_pass now.0)
-  visit_goes = goes_on (cell_pass old.0) (cell_pass now.0) after.0.seats.history after.0.epochs.greatest visit_shows (let first = entered_later m old inside same protected entered in let then = stays.goes.epoch in omega (arith, first, then))
+  visit_goes = goes_on (cell_pass old.0) (cell_pass now.0) after.0.seats.history after.0.epochs.greatest visit_shows (let first =
+      entered_later m old inside same protected entered in let then = stays.goes.epoch in omega (arith, first, then))
 
   builds : after.0.pools.builds ≡ []
   builds = ap (λ (p : Pass (Entry S A R)). p.builds) stays.goes.view ∙ (ap (λ (y : Me F (CellView S A R)). y.0.pools.builds) same ∙ pass.idle out)
@@ -116,11 +110,13 @@ module _ {S A R F : Type 0} (m : Meaning S A R) (old inside after now : Me F (Ce
   pub visit_out : (cell_pass now.0).entered ≡ false
   visit_out = ap (λ (y : Me F (CellView S A R)). is_pinned y.0.epochs.pin) next
 
-  pub visit_expires : (time slots count : ℕ) → old.0.seats.about ≡ slots → ExpiresIn m time (λ s. s < slots) count (cell_pass inside.0) (cell_pass after.0) → Expires m (cell_pass old.0) now.0.seats.history time count
+  pub visit_expires : (time slots count : ℕ) → old.0.seats.about ≡ slots → ExpiresIn m time (λ s. s < slots) count (cell_pass inside.0) (cell_pass after.0) →
+      Expires m (cell_pass old.0) now.0.seats.history time count
   visit_expires time slots count sized so = subst (λ h. Expires m (cell_pass old.0) h time count) (sym is_history) (record {
     killed = so.killed;
     adds = subst (Adds (cell_pass old.0) after.0.seats.history) (sym (expiry_more (cell_pass old.0) (cell_pass inside.0) time [] so.killed number))
-        (adds_more (cell_pass old.0) (cell_pass inside.0) after.0.seats.history [] (expiry_entries (cell_pass inside.0) time so.killed) number joined (adds_nothing (cell_pass old.0) inside.0.seats.history was) so.adds);
+        (adds_more (cell_pass old.0) (cell_pass inside.0) after.0.seats.history [] (expiry_entries (cell_pass inside.0) time so.killed) number joined
+        (adds_nothing (cell_pass old.0) inside.0.seats.history was) so.adds);
     counted = so.counted;
     gave_up = so.gave_up;
     left = λ id live. ⊎_elim (λ c. inl c) (λ w. inr (subst (λ h. WasNotDue m h after.0.seats.history id time) was w))

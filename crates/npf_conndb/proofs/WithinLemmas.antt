@@ -1,16 +1,9 @@
 -- Slots past the last stay vacant.
 use Rattle.std.proofs.Common.{◌≡◌, ℕ, ◌≤◌, ◌<◌, Bool, true, false, cond, eqb, List, [], ◌∷◌, refl, sym, ap, ◌∙◌, subst, ⊎_elim, arith}
 use Rattle.std.proofs.lemmas.Bool.Decides.{Decides-eqb}
-use Rattle.npf_core.specs.declared.act.Act.{Act}
-use Rattle.npf_core.specs.declared.act.Act.TheVariants.{Claim, Look, Hold, Start, Step, Kill, Unhold, Free}
-use Rattle.npf_core.specs.declared.act.Why.TheVariants.{Abandoned, Expired}
-use Rattle.npf_core.specs.declared.conn_id.ConnId.{ConnId}
-use Rattle.npf_core.specs.declared.entry.Entry.{Entry}
-use Rattle.npf_core.specs.declared.stage.Stage.TheVariants.{Vacant, Building, Dead}
-use Rattle.npf_core.specs.Allowed.{Allows, IsDue}
-use Rattle.npf_core.specs.History.{Legal, LegalFrom, after, state_from, state_of}
-use Rattle.npf_core.specs.Machine.{Machine, opening, stage_of}
-use Rattle.npf_core.specs.Meaning.{Meaning}
+use Rattle.npf_core.specs.declared.act.{Act.{Act, TheVariants.{Claim, Look, Hold, Start, Step, Kill, Unhold, Free}}, Why.TheVariants.{Abandoned, Expired}}
+use Rattle.npf_core.specs.{declared.{conn_id.ConnId.ConnId, entry.Entry.Entry, stage.Stage.TheVariants.{Vacant, Building, Dead}}, Allowed.{Allows, IsDue}}
+use Rattle.npf_core.specs.{History.{Legal, LegalFrom, after, state_from, state_of}, Machine.{Machine, opening, stage_of}, Meaning.Meaning}
 use Rattle.npf_core.specs.NextState.{changed, is_at, stepped}
 use Rattle.npf_seats.proofs.SeatLemmas.{cases_lt}
 use Rattle.npf_cells_lives.proofs.DeathLemmas.{dead_at}
@@ -24,7 +17,8 @@ vacant_of k id p there vacant = by_test (eqb (k.slot id.slot).inc id.inc)
     by_test false = refl
 
 module _ {S A R : Type 0} (m : Meaning S A R) (slots : ℕ) where
-  acts_past : (k : Machine S) (seat : ℕ) (act : Act S A) → Allows m slots k seat act → (p : ℕ) → slots ≤ p → (k.slot p).stage ≡ Vacant → (b : Bool) → is_at p act ≡ b → (cond b (changed m seat act (k.slot p)) (k.slot p)).stage ≡ Vacant
+  acts_past : (k : Machine S) (seat : ℕ) (act : Act S A) → Allows m slots k seat act → (p : ℕ) → slots ≤ p → (k.slot p).stage ≡ Vacant →
+      (b : Bool) → is_at p act ≡ b → (cond b (changed m seat act (k.slot p)) (k.slot p)).stage ≡ Vacant
   acts_past k seat act allowed p past vacant false is = vacant
   acts_past k seat (Claim packet slot) allowed p past vacant true is = absurd (let here = (Decides-eqb slot p).0 is in let exists = allowed.exists in omega (arith, here, exists, past))
   acts_past k seat (Look packet key) allowed p past vacant true is = vacant

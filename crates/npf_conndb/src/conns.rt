@@ -1,10 +1,11 @@
+// The table of connections without locks, as the calls that any table has.
 ghost use Rattle.std.specs.Prelude.{◌≤◌};
 
-use crate::beginning::begin;
-use crate::collecting::collect;
-use crate::copying::copy_slot;
-use crate::ending::end_killed;
-use crate::expiring::expire_all;
+use crate::begin::begin;
+use crate::collect::collect;
+use crate::copy::copy_slot;
+use crate::endings::end_killed;
+use crate::expire::expire_all;
 use npf_cells::{CellPass, Cells};
 use npf_connections::Connections;
 use npf_core::{ConnId, Found, Held, Kept, Law, Stepped};
@@ -38,7 +39,7 @@ impl<L: Law, H: KeyHash> Conns<L, H> {
     ghost use Rattle.npf_connections.specs.Entries.{entry_of};
     ghost use Rattle.npf_connections.specs.Pass.{IsPass, IsFirstPass};
     ghost use Rattle.npf_connections.specs.Stay.{IsOut, IsIn, GoesOn};
-    ghost use Rattle.npf_trie.specs.LookUp.{RoseBy};
+    ghost use Rattle.npf_trie.specs.LookUp.{RoseBy, GetsNoLock};
     ghost use Rattle.npf_conndb.specs.Passes.{IsPassOfConns, shown};
 
     /// A table of so many slots and nodes, and its first pass, which owns all 66 reader places. All the memory that it ever has is taken here.
@@ -81,7 +82,7 @@ impl<L: Law, H: KeyHash> Conns<L, H> {
     }
 
     /// The key's holder, in whatever phase it is, for the packet of the number `n`. None exactly where the entry replies none. It loads at most
-    /// 95 places of the trie and five words of keys.
+    /// 95 places of the trie and five words of keys, and takes no lock.
     #[inline(always)]
     pub fn look(&self, pass: &mut ConnPass<L>, n: u64, key: Key) -> Option<Found>
         requires inside { IsIn L.meaning (IsPassOfConns L.meaning self.now) shown pass.old }
@@ -90,6 +91,7 @@ impl<L: Law, H: KeyHash> Conns<L, H> {
         ensures view { GoesOn (record (shown pass.old) { answered = found_ids result ++ (shown pass.old).answered }) (shown pass.new) }
         ensures places { RoseBy 95 pass.old.cells.seat.me.0.trie.places pass.new.cells.seat.me.0.trie.places }
         ensures words { RoseBy 5 pass.old.cells.seat.me.0.trie.words pass.new.cells.seat.me.0.trie.words }
+        ensures lockless { GetsNoLock pass.old.cells.seat.me.0.trie pass.new.cells.seat.me.0.trie }
     {
         look(&self.cells, &mut pass.cells, n, key)
     }
@@ -99,7 +101,10 @@ impl<L: Law, H: KeyHash> Connections<L> for Conns<L, H>
 where
     L::State: Send,
 {
+    ghost use Rattle.npf_connections.specs.Collecting.{FreesAlone, IsClean};
+    ghost use Rattle.npf_connections.specs.Stay.{IsOut, GoesOn};
     ghost use Rattle.npf_conndb.specs.Passes.{IsPassOfConns, shown};
+    ghost use Rattle.npf_conndb.specs.SlotVisit.{VisitsSlots};
 
     type Pass = ConnPass<L>;
 
@@ -162,7 +167,15 @@ where
         count
     }
 
-    fn collect(&self, rt: &impl Wait, pass: &mut ConnPass<L>) {
+    // As the trait's, and it visits each slot: it frees the connection there, or the slot was left for what it met there.
+    fn collect(&self, rt: &impl Wait, pass: &mut ConnPass<L>)
+        requires out { IsOut L.meaning (IsPassOfConns L.meaning self.now) shown pass.old }
+        ensures out { IsOut L.meaning (IsPassOfConns L.meaning self.now) shown pass.new }
+        ensures adds { FreesAlone (shown pass.old) (shown pass.new).history }
+        ensures clean { IsClean L.meaning (shown pass.new) }
+        ensures view { GoesOn (shown pass.old) (shown pass.new) }
+        ensures visits { VisitsSlots L.meaning H.digest self.now.cells.table.shared.key self.now.cells.table.shared.key.slots pass.old.cells.seat.me.0 pass.new.cells.seat.me.0 }
+    {
         collect(rt, &self.cells, &mut pass.cells);
     }
 

@@ -11,12 +11,12 @@
 // the same as those, take no handle to wait by, and a look loads at most 95 places of the trie and five words of keys.
 #![tactic(auto)]
 
-mod beginning;
-mod collecting;
+mod begin;
+mod collect;
 mod conns;
-mod copying;
-mod ending;
-mod expiring;
+mod copy;
+mod endings;
+mod expire;
 mod vacancy;
 
 pub use conns::{ConnPass, Conns};

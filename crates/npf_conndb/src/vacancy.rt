@@ -1,9 +1,10 @@
+// Slots that nobody holds.
 ghost use Rattle.std.specs.Prelude.{◌≡◌, ◌≤◌, ◌<◌, ◌+◌, ℕ, true};
 ghost use Rattle.std.specs.Int.{bit_at};
 ghost use Rattle.npf_core.specs.declared.stage.Stage.TheVariants.{Vacant};
 ghost use Rattle.npf_core.specs.History.{state_of};
 ghost use Rattle.npf_cells.specs.Cells.{IsPassIn};
-ghost use Rattle.npf_pool.specs.Take.{HasSeenMore};
+ghost use Rattle.npf_pool.specs.Takes.{HasSeenMore};
 
 use npf_cells::{CellPass, Cells, Pool};
 use npf_core::Law;

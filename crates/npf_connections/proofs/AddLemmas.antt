@@ -1,16 +1,8 @@
 -- What calls add to a pass's history.
 use Rattle.std.proofs.Common.{◌≡◌, ◌⊎◌, ℕ, Bool, true, false, ◌==◌, List, [], ◌∷◌, ◌++◌, cond, refl, ap, sym, ◌∙◌, inl, inr, append_assoc, rules}
-use Rattle.std.proofs.lemmas.List.{append_cancel_right}
-use Rattle.std.specs.List.{Contains}
-use Rattle.std.proofs.lemmas.Bool.Decides.{Decides-eqb}
-use Rattle.std.proofs.lemmas.List.Elements.{Contains-append_right}
-use Rattle.npf_core.specs.declared.entry.Entry.{Entry}
-use Rattle.npf_core.specs.History.{by}
-use Rattle.npf_core.specs.Meaning.{Meaning}
-use Rattle.npf_core.proofs.HistoryLemmas.{by-append}
-use Rattle.npf_connections.specs.AddLaw.{AddsMore, AddsAlone}
-use Rattle.npf_connections.specs.Adding.{AddsOwn}
-use Rattle.npf_connections.specs.Pass.{Pass, IsOwn}
+use Rattle.std.{proofs.lemmas.{List.{append_cancel_right, Elements.Contains-append_right}, Bool.Decides.Decides-eqb}, specs.List.Contains}
+use Rattle.npf_core.{specs.{declared.entry.Entry.Entry, History.by, Meaning.Meaning}, proofs.HistoryLemmas.by-append}
+use Rattle.npf_connections.specs.{AddLaw.{AddsMore, AddsAlone}, Adding.AddsOwn, Pass.{Pass, IsOwn}}
 
 -- what two calls add
 pub adds_more : {S A R : Type 0} → AddsMore S A R

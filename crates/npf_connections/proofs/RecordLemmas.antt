@@ -1,20 +1,12 @@
 -- What the records of passes refuse.
 use Rattle.std.proofs.Common.{◌≡◌, List, [], ◌∷◌, ◌++◌, refl, inl, inr, arith, rules}
-use Rattle.npf_core.specs.declared.entry.Entry.{Entry}
-use Rattle.npf_core.specs.History.{by}
-use Rattle.npf_core.specs.Meaning.{Meaning}
-use Rattle.npf_connections.specs.Pass.{IsOwn}
-use Rattle.npf_connections.specs.RecordLaw.{ListedAddNothing, EndsWithOwn, SoleIsAlone, EpochsEnd, look_by, resting}
-
--- a list of one item is no other list
-head : {E : Type 0} (x y : E) (before : List E) → x ∷ [] ≡ before ++ y ∷ [] → x ≡ y
-head x y [] e = cc
-head x y (b ∷ []) e = absurd cc
-head x y (b ∷ c ∷ before) e = absurd cc
+use Rattle.npf_shelf.proofs.ListLemmas.{same_from_push}
+use Rattle.npf_core.specs.{declared.entry.Entry.Entry, History.by, Meaning.Meaning}
+use Rattle.npf_connections.specs.{Pass.IsOwn, RecordLaw.{ListedAddNothing, EndsWithOwn, SoleIsAlone, EpochsEnd, look_by, resting}}
 
 second : {E : Type 0} (x y z : E) (before : List E) → x ∷ y ∷ [] ≡ before ++ z ∷ [] → y ≡ z
 second x y z [] e = absurd cc
-second x y z (b ∷ before) e = head y z before cc
+second x y z (b ∷ before) e = same_from_push y z before cc
 
 pub listed_add_nothing : {S A R : Type 0} → ListedAddNothing S A R
 listed_add_nothing {S} {A} {R} key adds =

@@ -1,24 +1,10 @@
 -- What a pass said over some calls.
-use Rattle.std.proofs.Common.{◌≡◌, ℕ, ◌≤◌, Bool, List, [], ◌∷◌, ◌++◌, map, refl, sym, ap, ◌∙◌, subst, arith, append-nil}
-use Rattle.std.specs.List.{filter}
+use Rattle.std.{proofs.Common.{◌≡◌, ℕ, ◌≤◌, Bool, List, [], ◌∷◌, ◌++◌, map, refl, sym, ap, ◌∙◌, subst, arith, append-nil}, specs.List.filter}
 use Rattle.npf_types.specs.declared.key.Way.{Way}
-use Rattle.npf_core.specs.declared.act.Act.TheVariants.{Kill, Unhold}
-use Rattle.npf_core.specs.declared.act.Why.{Why}
-use Rattle.npf_core.specs.declared.act.Why.TheVariants.{Abandoned}
-use Rattle.npf_core.specs.declared.conn_id.ConnId.{ConnId}
-use Rattle.npf_core.specs.declared.entry.Entry.{Entry}
-use Rattle.npf_core.specs.declared.reply.Reply.TheVariants.{Nothing}
-use Rattle.npf_core.specs.History.{IsPrefix}
-use Rattle.npf_core.specs.Meaning.{Meaning}
-use Rattle.npf_core.proofs.HistoryLemmas.{IsPrefix-trans}
-use Rattle.npf_connections.specs.Adding.{Adds}
-use Rattle.npf_connections.specs.Entries.{end_entries, entry_of}
-use Rattle.npf_connections.specs.Pass.{Pass}
-use Rattle.npf_connections.specs.Said.{Said, under, Did, ends_said}
-use Rattle.npf_connections.specs.SaidLaw.{DidNothing, DidMore, DidAbandon}
-use Rattle.npf_connections.specs.Stay.{GoesOn, IsLater}
-use Rattle.npf_connections.specs.Ways.{all_ways}
-use Rattle.npf_connections.proofs.AddLemmas.{adds_more}
+use Rattle.npf_core.specs.declared.{act.{Act.TheVariants.{Kill, Unhold}, Why.{Why, TheVariants.Abandoned}}, conn_id.ConnId.ConnId, entry.Entry.Entry}
+use Rattle.npf_core.{specs.{declared.reply.Reply.TheVariants.Nothing, History.IsPrefix, Meaning.Meaning}, proofs.HistoryLemmas.IsPrefix-trans}
+use Rattle.npf_connections.specs.{Adding.Adds, Entries.{end_entries, entry_of}, Pass.Pass, Said.{Said, under, Did, ends_said}}
+use Rattle.npf_connections.{specs.{SaidLaw.{DidNothing, DidMore, DidAbandon}, Stay.{GoesOn, IsLater}, Ways.all_ways}, proofs.AddLemmas.adds_more}
 
 -- a moment after a later one is a later one
 pub later_more : {E : Type 0} (old mid new : Pass E) → IsLater old mid → IsLater mid new → IsLater old new

@@ -1,30 +1,16 @@
 -- What a pass may rely on in its stay.
 use Rattle.std.proofs.Common.{◌≡◌, ◌≢◌, ℕ, Bool, true, false, ◌||◌, List, [], ◌∷◌, ◌++◌, Option, Some, None, IsTrue, refl, ap, sym, ◌∙◌, inl, inr}
-use Rattle.npf_types.specs.declared.key.Key.{Key}
-use Rattle.npf_types.specs.declared.key.Way.{Way}
-use Rattle.npf_core.specs.declared.act.Act.{Act}
-use Rattle.npf_core.specs.declared.act.Act.TheVariants.{Claim, Look, Hold, Start, Step, Kill, Unhold, Free}
-use Rattle.npf_core.specs.declared.conn_id.ConnId.{ConnId}
-use Rattle.npf_core.specs.declared.entry.Entry.{Entry}
-use Rattle.npf_core.specs.declared.found.Found.{Found}
-use Rattle.npf_core.specs.declared.held.Held.{Held}
-use Rattle.npf_core.specs.declared.reply.Reply.TheVariants.{ToClaim, ToHold}
-use Rattle.npf_core.specs.declared.stage.Stage.TheVariants.{Building}
+use Rattle.npf_types.specs.declared.key.{Key.Key, Way.Way}
+use Rattle.npf_core.specs.declared.{act.Act.{Act, TheVariants.{Claim, Look, Hold, Start, Step, Kill, Unhold, Free}}, conn_id.ConnId.ConnId, entry.Entry.Entry}
+use Rattle.npf_core.specs.declared.{found.Found.Found, held.Held.Held, reply.Reply.TheVariants.{ToClaim, ToHold}, stage.Stage.TheVariants.Building}
 use Rattle.npf_core.specs.History.{MayFollow, LegalFrom, Legal, after, state_from, state_of, by}
-use Rattle.npf_core.specs.Machine.{Machine, opening, stage_of, IsClaimed, IsAlive, HoldsNone, HoldsSome}
-use Rattle.npf_core.specs.Meaning.{Meaning}
-use Rattle.npf_core.specs.NextState.{is_way}
-use Rattle.npf_core.specs.Replies.{held_by, claimed_id, reply_of}
-use Rattle.npf_core.proofs.BuildingLemmas.{builds_after, holds_none_after}
-use Rattle.npf_core.proofs.ClaimedLemmas.{was_not_freed}
+use Rattle.npf_core.specs.{Machine.{Machine, opening, stage_of, IsClaimed, IsAlive, HoldsNone, HoldsSome}, Meaning.Meaning, NextState.is_way}
+use Rattle.npf_core.{specs.Replies.{held_by, claimed_id, reply_of}, proofs.{BuildingLemmas.{builds_after, holds_none_after}, ClaimedLemmas.was_not_freed}}
 use Rattle.npf_core.proofs.EqualityLemmas.{is_key-Decides, is_way-Decides}
 use Rattle.npf_core.proofs.HistoryLemmas.{LegalFrom-rest, LegalFrom-front, MayFollow-split, state_from-append, state_of-append}
-use Rattle.npf_core.proofs.HolderLemmas.{Passes, rests, gives, loses, passes, claim_with_none}
-use Rattle.npf_core.proofs.KeyLemmas.{stays_holder, holder_stays}
-use Rattle.npf_connections.specs.Entries.{entry_of}
-use Rattle.npf_connections.specs.Pass.{Pass, IsPass, Knows}
-use Rattle.npf_connections.specs.StayLaw.{KnownIsNotFreed, ClaimedHoldsNone, Holding, HoldingKeepsWays, HoldingKeepsBare}
-use Rattle.npf_connections.specs.Ways.{HoldsThese, held_after}
+use Rattle.npf_core.proofs.{HolderLemmas.{Passes, rests, gives, loses, passes, claim_with_none}, KeyLemmas.{stays_holder, holder_stays}}
+use Rattle.npf_connections.specs.{Entries.entry_of, Pass.{Pass, IsPass, Knows}}
+use Rattle.npf_connections.specs.{StayLaw.{KnownIsNotFreed, ClaimedHoldsNone, Holding, HoldingKeepsWays, HoldingKeepsBare}, Ways.{HoldsThese, held_after}}
 use Rattle.npf_connections.proofs.AddLemmas.{AddsLast, adds_last}
 
 module _ {S A R : Type 0} (m : Meaning S A R) (k : Machine S) (id : ConnId) where
@@ -153,7 +139,8 @@ module _ {S A R : Type 0} (m : Meaning S A R) (old now : Pass (Entry S A R)) (id
       (others_go m now.slots k old.number id built way last.init front last.others)
       (hold_goes m now.slots mid old.number id still way entry key result follows refl refl))
 
-went : {S A R : Type 0} (m : Meaning S A R) (old now : Pass (Entry S A R)) (id : ConnId) (key : Key) (way : Way) (result : Held) → Holding m old now id key way result → Went m old now id key way result
+went : {S A R : Type 0} (m : Meaning S A R) (old now : Pass (Entry S A R)) (id : ConnId) (key : Key) (way : Way) (result : Held) →
+    Holding m old now id key way result → Went m old now id key way result
 went m old now id key way Held.Done h = went_last m old now id key way Held.Done h (adds_last old now.history _ h.adds refl)
 went m old now id key way (Held.Taken found) h = went_last m old now id key way (Held.Taken found) h (adds_last old now.history _ h.adds refl)
 went m old now id key way Held.NoNode h =

@@ -1,22 +1,10 @@
 -- What a pass that took others in has of theirs.
 use Rattle.std.proofs.Common.{◌≡◌, ◌≢◌, ◌≤◌, ◌<◌, ◌-◌, ◌⊎◌, ℕ, List, [], ◌∷◌, ◌++◌, Option, Some, None, IfSome, refl, ap, sym, ◌∙◌, inl, inr, rules, arith}
-use Rattle.std.proofs.lemmas.List.Elements.{Contains-append_left, Contains-append_right}
-use Rattle.std.proofs.Math.Nat.{eq-or-lt_of_le}
-use Rattle.npf_types.specs.declared.key.Key.{Key}
-use Rattle.npf_types.specs.declared.key.Way.TheVariants.{Forward}
-use Rattle.npf_core.specs.declared.act.Act.TheVariants.{Look, Hold}
-use Rattle.npf_core.specs.declared.conn_id.ConnId.{ConnId}
-use Rattle.npf_core.specs.declared.entry.Entry.{Entry}
-use Rattle.npf_core.specs.declared.found.Found.{Found}
-use Rattle.npf_core.specs.declared.held.Held.{Held}
-use Rattle.npf_core.specs.declared.reply.Reply.TheVariants.{ToLook, ToHold}
-use Rattle.npf_core.specs.History.{by, IsPrefix}
-use Rattle.npf_core.proofs.HistoryLemmas.{by-append}
-use Rattle.npf_connections.specs.Adding.{Adds, AddsOwn}
-use Rattle.npf_connections.specs.Entries.{hold_entries, entry_of}
-use Rattle.npf_connections.specs.Joining.{IsSplit, IsJoined}
-use Rattle.npf_connections.specs.Pass.{Pass}
-use Rattle.npf_connections.specs.Said.{Said, Did, under}
+use Rattle.std.proofs.{lemmas.List.Elements.{Contains-append_left, Contains-append_right}, Math.Nat.eq-or-lt_of_le}
+use Rattle.npf_types.specs.declared.key.{Key.Key, Way.TheVariants.Forward}
+use Rattle.npf_core.specs.declared.{act.Act.TheVariants.{Look, Hold}, conn_id.ConnId.ConnId, entry.Entry.Entry, found.Found.Found, held.Held.Held}
+use Rattle.npf_core.{specs.{declared.reply.Reply.TheVariants.{ToLook, ToHold}, History.{by, IsPrefix}}, proofs.HistoryLemmas.by-append}
+use Rattle.npf_connections.specs.{Adding.{Adds, AddsOwn}, Entries.{hold_entries, entry_of}, Joining.{IsSplit, IsJoined}, Pass.Pass, Said.{Said, Did, under}}
 use Rattle.npf_connections_tests.specs.Joined.{TookInLook, HasHold}
 
 -- what a pass whose number was unused did is all that stands under its number

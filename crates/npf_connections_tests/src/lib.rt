@@ -13,6 +13,8 @@ mod asking;
 #[cfg(test)]
 mod cases;
 #[cfg(test)]
+mod contending;
+#[cfg(test)]
 mod crowd;
 #[cfg(test)]
 mod returning;

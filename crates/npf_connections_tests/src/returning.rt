@@ -19,16 +19,28 @@ use std::sync::atomic::{AtomicU64, Ordering};
 use std::test::Fail;
 use std::thread::{Threads, join, yield_now};
 
-/// How many threads open connections beside two that look.
+/// How many threads open connections, and how many look beside them.
 const WORKERS: u64 = 4;
 
-/// The number of the last of the passes: the workers come first.
+const LOOKERS: u64 = 2;
+
+/// The number of the last of the passes: those that look come first, so the first pass of the table
+/// is one of them, and takes no node off itself.
 const LAST: u64 = 5;
 
 /// The rounds of one thread alone, and those of each of four.
 const ROUNDS: u64 = 1000;
 
-const ROUNDS_BESIDE: u64 = 2500;
+const ROUNDS_BESIDE: u64 = 1000;
+
+/// Collections after which all nodes are free again: each takes one of at most 94 levels off, and
+/// raises the epoch by two.
+const COLLECTIONS: u64 = 200;
+
+/// The lowest half-byte of a word, and the second highest.
+const LOWEST: u64 = 1;
+
+const SECOND: u64 = 1 << 56;
 
 // UDP from a port of 10.0.0.1 to a port of 10.0.0.2.
 fn key_of(round: u64) -> Key {
@@ -198,13 +210,13 @@ fn work<R: Wait, C: Connections<Sum>>(
     ensures out { IsOut sum_law (C.fits conns.now) C.view pass.new }
     ensures places { (C.view pass.new).places ≡ (C.view pass.old).places }
 {
-    if number < WORKERS {
-        let held = live_rounds(rt, conns, pass, number, WORKERS, ROUNDS_BESIDE);
-        done.fetch_add(1, Ordering::SeqCst);
-        (held, 0)
-    } else {
-        (0, look_beside(rt, conns, pass, done))
+    if number < LOOKERS {
+        return (0, look_beside(rt, conns, pass, done));
     }
+    let first = number - LOOKERS;
+    let held = live_rounds(rt, conns, pass, first, WORKERS, ROUNDS_BESIDE);
+    done.fetch_add(1, Ordering::SeqCst);
+    (held, 0)
 }
 
 // What the passes from this number down to 0 do beside each other, of which all but the last are
@@ -254,7 +266,8 @@ fn tell_rounds(rt: &impl Wait, alloc: Global, told: &mut String) -> Result<(), F
     put(told, &live_rounds(rt, &conns, &mut pass, 0, 1, ROUNDS))
 }
 
-// Four threads beside two that look.
+// Four threads beside two that look. Then all passes but one of those that looked are joined into
+// it, and it alone gets back what the others took off: each of the 400 nodes is free again.
 fn tell_rounds_beside<R: Threads + Wait + Sync>(
     rt: &R,
     alloc: Global,
@@ -262,8 +275,10 @@ fn tell_rounds_beside<R: Threads + Wait + Sync>(
 ) -> Result<(), Fail> {
     let (conns, pass) = Conns::<Sum, OneHash>::new(alloc, 8, 400)?;
     let done = AtomicU64::new(0);
-    let (_, answer) = work_beside(rt, &conns, pass, &done, LAST);
-    put(told, &answer)
+    let (mut pass, answer) = work_beside(rt, &conns, pass, &done, LAST);
+    put(told, &answer)?;
+    collect_often(rt, &conns, &mut pass, COLLECTIONS);
+    put(told, &hold_400_nodes(rt, &conns, &mut pass))
 }
 
 // Two keys that part at the last half-byte, below one of their own: all 94 nodes of the table are
@@ -272,12 +287,14 @@ fn deep_key(phase: u64, place: u64) -> Key {
     Key([phase, 0, 0, 0, place])
 }
 
-// A connection that holds two such keys. Answers whether it held them.
+// A connection that holds two such keys, which part at this half-byte of their last word. Answers
+// whether it held them.
 fn live_deep<R: Wait, C: Connections<Sum>>(
     rt: &R,
     conns: &C,
     pass: &mut C::Pass,
     phase: u64,
+    parting: u64,
 ) -> bool
     requires out { IsOut sum_law (C.fits conns.now) C.view pass.old }
     requires place { 1 ≤ (C.view pass.old).places }
@@ -290,7 +307,7 @@ fn live_deep<R: Wait, C: Connections<Sum>>(
         return false;
     };
     let there = conns.hold(rt, pass, id, deep_key(phase, 0), Way::Forward);
-    let back = conns.hold(rt, pass, id, deep_key(phase, 1), Way::Backward);
+    let back = conns.hold(rt, pass, id, deep_key(phase, parting), Way::Backward);
     let held = there == Held::Done && back == Held::Done;
     if held {
         conns.start(rt, pass, id, phase, 100);
@@ -298,6 +315,25 @@ fn live_deep<R: Wait, C: Connections<Sum>>(
         conns.abandon(rt, pass, id);
     }
     conns.leave(rt, pass);
+    held
+}
+
+// How many of six connections hold two keys each that want 400 nodes in all. The keys of the first
+// part at level 94 of their path: they want a node for each level below the first, 94. Its first
+// word and those of the next four differ in their lowest half-byte, of level 30, so each of these
+// wants the 64 nodes from level 31 to 94. Those of the last part at the second half-byte of their
+// last word, of level 80: they want the 50 from level 31 to 80.
+fn hold_400_nodes<R: Wait, C: Connections<Sum>>(rt: &R, conns: &C, pass: &mut C::Pass) -> u64
+    requires out { IsOut sum_law (C.fits conns.now) C.view pass.old }
+    requires place { 1 ≤ (C.view pass.old).places }
+{
+    let mut held = 0u64;
+    for phase in 0..6u64 {
+        let parting = if phase < 5 { LOWEST } else { SECOND };
+        if live_deep(rt, conns, pass, phase, parting) {
+            held = held.saturating_add(1);
+        }
+    }
     held
 }
 
@@ -313,7 +349,7 @@ fn live_phases<R: Wait, C: Connections<Sum>>(
     requires place { 1 ≤ (C.view pass.old).places }
 {
     for phase in 0..10u64 {
-        let held = live_deep(rt, conns, pass, phase);
+        let held = live_deep(rt, conns, pass, phase, LOWEST);
         let expired = conns.expire(rt, pass, 100);
         collect_often(rt, conns, pass, 95);
         put(told, &(held, expired))?;
@@ -339,7 +375,7 @@ fn nodes_come_back_to_one_thread(rt: HostRuntime) -> Result<(), Fail> {
 fn nodes_come_back_to_threads(rt: HostRuntime) -> Result<(), Fail> {
     let mut told = String::new(rt.alloc());
     tell_rounds_beside(&rt, rt.alloc(), &mut told)?;
-    same(&rt, told.as_str(), "(10000, 0)\n");
+    same(&rt, told.as_str(), "(4000, 0)\n6\n");
     Ok(())
 }
 

@@ -1,31 +1,16 @@
 -- The machine while connections are loaded into it, act by act.
 use Rattle.std.proofs.Common.{◌≡◌, ◌+◌, ◌==◌, ℕ, Bool, true, false, cond, Option, Some, None, List, [], ◌∷◌, ◌++◌, Contains, length, refl, sym, ap, subst, ◌∙◌, true≢false, inl, inr, arith}
-use Rattle.std.specs.Prelude.{◌⊎◌}
-use Rattle.std.specs.List.{All}
-use Rattle.std.proofs.lemmas.Bool.Decides.{Decides-eqb, nat_tests}
-use Rattle.std.proofs.lemmas.List.{length-append}
+use Rattle.std.{specs.{Prelude.◌⊎◌, List.All}, proofs.lemmas.{Bool.Decides.Decides-eqb, List.length-append}}
 use Rattle.std.proofs.lemmas.List.Elements.{All-push, All-weaker, Contains-append_left, Contains-append_right, Contains-push}
-use Rattle.npf_types.specs.declared.key.Key.{Key}
-use Rattle.npf_types.specs.declared.key.Way.{Way}
-use Rattle.npf_types.specs.declared.key.Way.TheVariants.{Forward, Backward, Port}
-use Rattle.npf_core.specs.declared.act.Act.TheVariants.{Claim, Hold, Start}
-use Rattle.npf_core.specs.declared.conn_id.ConnId.{ConnId}
-use Rattle.npf_core.specs.declared.found.Found.{Found}
-use Rattle.npf_core.specs.declared.slot.Slot.{Slot}
-use Rattle.npf_core.specs.declared.stage.Stage.TheVariants.{Vacant, Building, Live}
-use Rattle.npf_core.specs.Copying.{HoldsIf}
-use Rattle.npf_core.specs.HolderLaw.{ClaimsWithNone}
-use Rattle.npf_core.specs.Machine.{Machine, stage_at, stage_of, is_key, IsClaimed, IsLive, Holds, HoldsNone}
-use Rattle.npf_core.specs.NextState.{after_act, holder_or, is_way}
-use Rattle.npf_core.specs.Replies.{claimed_id}
-use Rattle.npf_core.proofs.BuildingLemmas.{claim_builds}
-use Rattle.npf_core.proofs.EqualityLemmas.{is_key-Decides, is_way-Decides}
-use Rattle.npf_core.proofs.LifeLemmas.{IsClaimed-last}
-use Rattle.npf_flow.specs.declared.flow.Flow.{Flow}
-use Rattle.npf_flow.specs.Flows.{flow_law}
+use Rattle.npf_types.specs.declared.key.{Key.Key, Way.{Way, TheVariants.{Forward, Backward, Port}}}
+use Rattle.npf_shelf.proofs.BoolLemmas.{cond-same}
+use Rattle.npf_core.specs.declared.{act.Act.TheVariants.{Claim, Hold, Start}, conn_id.ConnId.ConnId, found.Found.Found}
+use Rattle.npf_core.specs.{declared.stage.Stage.TheVariants.{Vacant, Building, Live}, Copying.HoldsIf, HolderLaw.ClaimsWithNone}
+use Rattle.npf_core.specs.{Machine.{Machine, stage_of, is_key, IsClaimed, IsLive, Holds, HoldsNone}, NextState.{after_act, holder_or, is_way}}
+use Rattle.npf_core.{specs.Replies.claimed_id, proofs.{BuildingLemmas.claim_builds, EqualityLemmas.{is_key-Decides, is_way-Decides}, LifeLemmas.IsClaimed-last}}
+use Rattle.npf_flow.specs.{declared.flow.Flow.Flow, Flows.flow_law}
 use Rattle.npf_saved.specs.declared.saved.Saved.{Saved}
-use Rattle.npf_connsave.specs.Saving.{IsSavedAs, IsSavedOf, saved_flow}
-use Rattle.npf_connsave.proofs.CopyLemmas.{saved_live, slot_live}
+use Rattle.npf_connsave.{specs.Saves.{IsSavedAs, IsSavedOf, saved_flow}, proofs.CopyLemmas.{saved_live, slot_live, at_last}}
 
 -- the key of a way
 abbrev pub way_key : Saved → Way → Option Key
@@ -78,9 +63,6 @@ stays k new id saved stage keys is = record {
 building_claimed : (k : Machine Flow) (id : ConnId) (seat : ℕ) → stage_of k id ≡ Building seat → IsClaimed (stage_of k id)
 building_claimed k id seat is = subst IsClaimed (sym is) tt
 
-at_last : (slot : Slot Flow) (inc : ℕ) → slot.inc ≡ inc → stage_at slot inc ≡ slot.stage
-at_last slot inc last = grind (arith, nat_tests)
-
 not_same : (a b : ℕ) → ¬ (a ≡ b) → (a == b) ≡ false
 not_same a b differs = by (a == b) refl where
   by : (v : Bool) → (a == b) ≡ v → v ≡ false
@@ -118,17 +100,13 @@ module _ (k : Machine Flow) (done : List Saved) (seat slot : ℕ) (loaded : AreL
     by s false same there = Contains-append_right (slot ∷ []) loaded.slots s (loaded.claimed s there)
 
 -- What a hold of a key without a holder makes of each key's holder.
-both : {X : Type 0} (b : Bool) (x : X) → cond b x x ≡ x
-both true x = refl
-both false x = refl
-
 given_before : (b : Bool) (old : Option Found) (new found : Found) → old ≡ Some found → cond b (holder_or old new) old ≡ Some found
-given_before b old new found is = ap (λ o. cond b (holder_or o new) o) is ∙ both b (Some found)
+given_before b old new found is = ap (λ o. cond b (holder_or o new) o) is ∙ cond-same b (Some found)
 
 given_now : (old : Option Found) (new : Found) → old ≡ None → holder_or old new ≡ Some new
 given_now old new is = ap (λ o. holder_or o new) is
 
-given_by : (b : Bool) (old : Option Found) (new found : Found) → cond b (holder_or old new) old ≡ Some found → (old ≡ Some found) ⊎ ((b ≡ true) × (new ≡ found))
+pub given_by : (b : Bool) (old : Option Found) (new found : Found) → cond b (holder_or old new) old ≡ Some found → (old ≡ Some found) ⊎ ((b ≡ true) × (new ≡ found))
 given_by true None new found is = inr (refl, cc)
 given_by true (Some holder) new found is = inl is
 given_by false old new found is = inl is

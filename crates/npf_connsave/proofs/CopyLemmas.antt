@@ -1,29 +1,14 @@
 -- The connections of one slot more.
 use Rattle.std.proofs.Common.{◌≡◌, ◌≢◌, ◌<◌, ◌+◌, ℕ, Option, Some, None, List, [], ◌∷◌, ◌++◌, Contains, length, get_or, refl, sym, ap, subst, ◌∙◌, arith}
-use Rattle.std.specs.Prelude.{◌⊎◌}
-use Rattle.std.proofs.Common.{inl, inr}
-use Rattle.std.specs.List.{AllPairs}
-use Rattle.std.proofs.lemmas.Bool.Decides.{nat_tests}
-use Rattle.std.proofs.lemmas.List.{map-append, length-map, get_or-map}
-use Rattle.std.proofs.lemmas.List.Elements.{All-push, All-weaker, Contains-append_left, Contains-push}
-use Rattle.std.proofs.lemmas.List.Quantifiers.{all_pairs_push}
-use Rattle.npf_types.specs.declared.key.Key.{Key}
-use Rattle.npf_types.specs.declared.key.Way.TheVariants.{Forward}
-use Rattle.npf_core.specs.declared.conn_id.ConnId.{ConnId}
-use Rattle.npf_core.specs.declared.found.Found.{Found}
-use Rattle.npf_core.specs.declared.kept.Kept.{Kept}
-use Rattle.npf_core.specs.declared.slot.Slot.{Slot}
-use Rattle.npf_core.specs.declared.stage.Stage.{Stage}
-use Rattle.npf_core.specs.declared.stage.Stage.TheVariants.{Vacant, Building, Live, Dead}
-use Rattle.npf_core.specs.Copying.{HoldsIf, IsKept}
-use Rattle.npf_core.specs.HolderLaw.{HoldsOneAWay}
-use Rattle.npf_core.specs.Machine.{Machine, stage_at, stage_of, IsClaimed, IsLive, Holds}
-use Rattle.npf_core.proofs.EqualityLemmas.{same_conn_id}
-use Rattle.npf_core.proofs.LifeLemmas.{IsClaimed-last}
+use Rattle.std.{specs.{Prelude.◌⊎◌, List.AllPairs}, proofs.{Common.{inl, inr}, lemmas.{Bool.Decides.nat_tests, List.{map-append, length-map, get_or-map}}}}
+use Rattle.std.proofs.lemmas.List.{Elements.{All-push, All-weaker, Contains-append_left, Contains-push}, Quantifiers.all_pairs_push}
+use Rattle.npf_types.specs.declared.key.{Key.Key, Way.TheVariants.Forward}
+use Rattle.npf_core.specs.declared.{conn_id.ConnId.ConnId, found.Found.Found, kept.Kept.Kept, slot.Slot.Slot, stage.Stage.Stage}
+use Rattle.npf_core.specs.{declared.stage.Stage.TheVariants.{Vacant, Building, Live, Dead}, Copying.{HoldsIf, IsKept}, HolderLaw.HoldsOneAWay}
+use Rattle.npf_core.{specs.Machine.{Machine, stage_at, stage_of, IsClaimed, IsLive, Holds}, proofs.{EqualityLemmas.same_conn_id, LifeLemmas.IsClaimed-last}}
 use Rattle.npf_flow.specs.declared.flow.Flow.{Flow}
 use Rattle.npf_saved.specs.declared.saved.Saved.{Saved}
-use Rattle.npf_connsave.specs.Copied.{AreCopied, IsCopied, forward_keys, saved_by, saved_of}
-use Rattle.npf_connsave.specs.Saving.{IsSavedAs}
+use Rattle.npf_connsave.specs.{Copied.{AreCopied, IsCopied, forward_keys, saved_by, saved_of}, Saves.IsSavedAs}
 
 pub live_claimed : (stage : Stage Flow) → IsLive stage → IsClaimed stage
 live_claimed Vacant live = absurd live
@@ -31,7 +16,7 @@ live_claimed (Building seat) live = absurd live
 live_claimed (Live flow steps) live = tt
 live_claimed Dead live = absurd live
 
-at_last : (slot : Slot Flow) (inc : ℕ) → slot.inc ≡ inc → stage_at slot inc ≡ slot.stage
+pub at_last : (slot : Slot Flow) (inc : ℕ) → slot.inc ≡ inc → stage_at slot inc ≡ slot.stage
 at_last slot inc last = grind (arith, nat_tests)
 
 module _ (k : Machine Flow) where

@@ -1,15 +1,12 @@
 -- The keys of one connection, held one behind the other.
 use Rattle.std.proofs.Common.{◌≡◌, ◌≢◌, ◌≤◌, ◌+◌, ℕ, Option, Some, List, [], ◌∷◌, ◌++◌, Contains, length, get_or, refl, sym, ap, subst, ◌∙◌, append-nil, append_assoc, arith}
-use Rattle.std.proofs.lemmas.List.{get_or-append-add, get_or_append_left, get_or_default, length-append}
-use Rattle.std.proofs.lemmas.List.Elements.{Contains-append_right}
-use Rattle.npf_types.specs.declared.key.Key.{Key}
-use Rattle.npf_types.specs.declared.key.Way.TheVariants.{Forward, Backward, Port}
-use Rattle.npf_core.specs.declared.conn_id.ConnId.{ConnId}
-use Rattle.npf_core.specs.History.{state_of}
+use Rattle.std.proofs.lemmas.List.{get_or-append-add, get_or_append_left, get_or_default, length-append, Elements.Contains-append_right}
+use Rattle.npf_types.specs.declared.key.{Key.Key, Way.TheVariants.{Forward, Backward, Port}}
+use Rattle.npf_core.specs.{declared.conn_id.ConnId.ConnId, History.state_of}
 use Rattle.npf_flow.specs.Flows.{flow_law}
 use Rattle.npf_saved.specs.declared.saved.Saved.{Saved}
 use Rattle.npf_saved_file.specs.Conns.{AreDistinct, key_list, saved_keys}
-use Rattle.npf_connsave.specs.Loading.{AreFree, FlowEntry, RefusesKey, RefusesKeys, StaysSole, View, hold_entries_of, key_entries}
+use Rattle.npf_connsave.specs.Loads.{AreFree, FlowEntry, RefusesKey, RefusesKeys, StaysSole, View, hold_entries_of, key_entries}
 use Rattle.npf_connsave.proofs.LoadingLemmas.{free_after}
 
 -- of different keys those of the front aren't those behind it

@@ -1,29 +1,14 @@
 -- A table has one text.
-use Rattle.std.proofs.Common.{◌≡◌, zero, suc, Option, Some, None, List, [], ◌∷◌, Contains, refl, sym, ap, subst, ◌∙◌, inl, inr, arith}
-use Rattle.std.specs.Prelude.{◌⊎◌}
-use Rattle.std.specs.Ordering.{ordering_reverse}
-use Rattle.std.specs.declared.cmp.Ordering.TheVariants.{Less, Equal, Greater}
-use Rattle.std.proofs.lemmas.Cmp.{tied_itself}
+use Rattle.std.{proofs.Common.{◌≡◌, zero, suc, Option, Some, None, List, [], ◌∷◌, Contains, refl, sym, ap, subst, ◌∙◌, inl, inr, arith}, specs.Prelude.◌⊎◌}
+use Rattle.std.{specs.{Ordering.ordering_reverse, declared.cmp.Ordering.TheVariants.{Less, Equal, Greater}}, proofs.lemmas.Cmp.tied_itself}
 use Rattle.std.proofs.lemmas.List.Elements.{All-contains}
-use Rattle.npf_types.specs.declared.key.Key.{Key}
-use Rattle.npf_types.specs.declared.key.Way.{Way}
-use Rattle.npf_types.specs.declared.key.Way.TheVariants.{Forward, Backward, Port}
-use Rattle.npf_types.specs.contracts.key.KeyOrd.TheImpl.Laws.{total-law}
-use Rattle.npf_core.specs.declared.conn_id.ConnId.{ConnId}
-use Rattle.npf_core.specs.declared.stage.Stage.TheVariants.{Live}
-use Rattle.npf_core.specs.Copying.{HoldsIf}
-use Rattle.npf_core.specs.HolderLaw.{HoldsOneAWay}
-use Rattle.npf_core.specs.History.{state_of}
-use Rattle.npf_core.specs.Machine.{Machine}
-use Rattle.npf_core.proofs.HolderLemmas.{hold_one_a_way}
-use Rattle.npf_flow.specs.declared.flow.Flow.{Flow}
-use Rattle.npf_flow.specs.Flows.{flow_law}
-use Rattle.npf_saved.specs.declared.saved.Saved.{Saved}
-use Rattle.npf_saved.specs.File.{saved_text}
+use Rattle.npf_types.specs.{declared.key.{Key.Key, Way.{Way, TheVariants.{Forward, Backward, Port}}}, contracts.key.KeyOrd.TheImpl.Laws.total-law}
+use Rattle.npf_core.specs.{declared.{conn_id.ConnId.ConnId, stage.Stage.TheVariants.Live}, Copying.HoldsIf, HolderLaw.HoldsOneAWay, History.state_of}
+use Rattle.npf_core.{specs.Machine.Machine, proofs.HolderLemmas.hold_one_a_way}
+use Rattle.npf_flow.specs.{declared.flow.Flow.Flow, Flows.flow_law}
+use Rattle.npf_saved.specs.{declared.saved.Saved.Saved, File.saved_text}
 use Rattle.npf_saved_file.specs.Conns.{AreRising, ComesBefore}
-use Rattle.npf_connsave.specs.Laws.{OneSavedText, SavesAsLoaded}
-use Rattle.npf_connsave.specs.Saving.{AreSavedOf, IsSavedAs, saved_flow}
-use Rattle.npf_connsave.proofs.CopyLemmas.{one_holder, saved_live}
+use Rattle.npf_connsave.{specs.{Laws.{OneSavedText, SavesAsLoaded}, Saves.{AreSavedOf, IsSavedAs, saved_flow}}, proofs.CopyLemmas.{one_holder, saved_live}}
 
 -- two lists that rise and have the same items are one
 first_or_rest : (one other : Saved) (rest : List Saved) → Contains (one ∷ rest) other → (one ≡ other) ⊎ Contains rest other

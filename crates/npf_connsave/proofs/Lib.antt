@@ -6,7 +6,6 @@ pub mod LoadLemmas
 pub mod LoadingLemmas
 pub mod OneLemmas
 pub mod RoomLemmas
-pub mod SlotLemmas
 pub mod SortLemmas
 pub mod StartLemmas
 pub mod StayLemmas

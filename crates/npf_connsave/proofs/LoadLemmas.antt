@@ -1,24 +1,12 @@
 -- What the entries of a loaded connection make of the machine.
 use Rattle.std.proofs.Common.{◌≡◌, ℕ, Option, Some, None, List, [], ◌∷◌, ◌++◌, refl, sym, subst, ◌∙◌}
-use Rattle.npf_types.specs.declared.key.Key.{Key}
-use Rattle.npf_types.specs.declared.key.Way.{Way}
-use Rattle.npf_types.specs.declared.key.Way.TheVariants.{Forward, Backward, Port}
-use Rattle.npf_core.specs.declared.act.Act.TheVariants.{Claim, Start}
-use Rattle.npf_core.specs.declared.conn_id.ConnId.{ConnId}
-use Rattle.npf_core.specs.declared.found.Found.{Found}
-use Rattle.npf_core.specs.declared.held.Held.{Held}
-use Rattle.npf_core.specs.declared.reply.Reply.{Reply}
-use Rattle.npf_core.specs.declared.reply.Reply.TheVariants.{Nothing, ToClaim, ToHold}
-use Rattle.npf_core.specs.HolderLaw.{ClaimsWithNone}
-use Rattle.npf_core.specs.History.{LegalFrom, after, state_from}
-use Rattle.npf_core.specs.Machine.{Machine}
-use Rattle.npf_core.specs.Replies.{claimed_id, held_by}
-use Rattle.npf_core.proofs.HistoryLemmas.{LegalFrom-front, LegalFrom-rest, state_from-append}
-use Rattle.npf_flow.specs.declared.flow.Flow.{Flow}
-use Rattle.npf_flow.specs.declared.step.FlowReply.{FlowReply}
-use Rattle.npf_flow.specs.Flows.{flow_law}
+use Rattle.npf_types.specs.declared.key.{Key.Key, Way.{Way, TheVariants.{Forward, Backward, Port}}}
+use Rattle.npf_core.specs.declared.{act.Act.TheVariants.{Claim, Start}, conn_id.ConnId.ConnId, found.Found.Found, held.Held.Held, reply.Reply.Reply}
+use Rattle.npf_core.specs.{declared.reply.Reply.TheVariants.{Nothing, ToClaim, ToHold}, HolderLaw.ClaimsWithNone, History.{LegalFrom, after, state_from}}
+use Rattle.npf_core.{specs.{Machine.Machine, Replies.{claimed_id, held_by}}, proofs.HistoryLemmas.{LegalFrom-front, LegalFrom-rest, state_from-append}}
+use Rattle.npf_flow.specs.{declared.{flow.Flow.Flow, step.FlowReply.FlowReply}, Flows.flow_law}
 use Rattle.npf_saved.specs.declared.saved.Saved.{Saved}
-use Rattle.npf_connsave.specs.Loading.{entry, hold_entries_of, key_entries, load_entries}
+use Rattle.npf_connsave.specs.Loads.{entry, hold_entries_of, key_entries, load_entries}
 use Rattle.npf_connsave.proofs.BuiltLemmas.{AreBuilt, AreLoaded, claimed_next, held_next, no_keys, started_next, way_key, with_key}
 
 -- a key that was given had no holder

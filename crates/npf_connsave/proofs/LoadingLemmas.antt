@@ -1,28 +1,13 @@
 -- The calls by which connections are loaded, of a pass that owns all reader places.
 use Rattle.std.proofs.Common.{◌≡◌, ◌≢◌, ◌≤◌, ℕ, Bool, true, false, cond, Option, Some, None, List, [], ◌∷◌, ◌++◌, Contains, refl, sym, ap, subst, ◌∙◌, append-nil, inl, inr}
 use Rattle.std.specs.Prelude.{◌⊎◌}
-use Rattle.npf_types.specs.declared.key.Key.{Key}
-use Rattle.npf_types.specs.declared.key.Way.{Way}
-use Rattle.npf_core.specs.declared.act.Act.TheVariants.{Hold}
-use Rattle.npf_core.specs.declared.conn_id.ConnId.{ConnId}
-use Rattle.npf_core.specs.declared.found.Found.{Found}
-use Rattle.npf_core.specs.declared.held.Held.{Held}
-use Rattle.npf_core.specs.declared.reply.Reply.{Reply}
-use Rattle.npf_core.specs.declared.reply.Reply.TheVariants.{ToHold}
-use Rattle.npf_core.specs.History.{Legal, state_of}
-use Rattle.npf_core.specs.Machine.{Machine, is_key, HoldsNone}
-use Rattle.npf_core.specs.NextState.{holder_or}
-use Rattle.npf_core.specs.Replies.{held_by}
-use Rattle.npf_core.proofs.EqualityLemmas.{is_key-Decides}
-use Rattle.npf_core.proofs.HistoryLemmas.{goes_on_legally, state_of-append}
-use Rattle.npf_connections.specs.Adding.{Adds}
-use Rattle.npf_connections.specs.Pass.{IsPass, all_places}
-use Rattle.npf_connections.specs.Stay.{GoesOn}
-use Rattle.npf_connections.proofs.AddLemmas.{adds_alone}
-use Rattle.npf_flow.specs.declared.flow.Flow.{Flow}
-use Rattle.npf_flow.specs.declared.step.FlowReply.{FlowReply}
-use Rattle.npf_flow.specs.Flows.{flow_law}
-use Rattle.npf_connsave.specs.Loading.{AreFree, FlowEntry, StaysSole, View, entry, hold_entries_of}
+use Rattle.npf_types.specs.declared.key.{Key.Key, Way.Way}
+use Rattle.npf_core.specs.declared.{act.Act.TheVariants.Hold, conn_id.ConnId.ConnId, found.Found.Found, held.Held.Held, reply.Reply.{Reply, TheVariants.ToHold}}
+use Rattle.npf_core.specs.{History.{Legal, state_of}, Machine.{Machine, is_key, HoldsNone}, NextState.holder_or, Replies.held_by}
+use Rattle.npf_core.proofs.{EqualityLemmas.is_key-Decides, HistoryLemmas.{goes_on_legally, state_of-append}}
+use Rattle.npf_connections.{specs.{Adding.Adds, Pass.{IsPass, all_places}, Stay.GoesOn}, proofs.AddLemmas.adds_alone}
+use Rattle.npf_flow.specs.{declared.{flow.Flow.Flow, step.FlowReply.FlowReply}, Flows.flow_law}
+use Rattle.npf_connsave.{specs.Loads.{AreFree, FlowEntry, StaysSole, View, entry, hold_entries_of}, proofs.BuiltLemmas.given_by}
 
 -- a call adds its entries alone
 pub alone_after : (old new : View) (mine : List FlowEntry) → IsPass flow_law new → StaysSole old new → old.places ≡ all_places → Adds old new.history mine
@@ -51,12 +36,6 @@ not_refused slots history seat id way key found legal free =
     let same : Held.Taken found ≡ Held.Done = cc in
     absurd cc
 
--- who holds a key after a hold
-now_held : (b : Bool) (old : Option Found) (new found : Found) → cond b (holder_or old new) old ≡ Some found → (old ≡ Some found) ⊎ ((b ≡ true) × (new ≡ found))
-now_held true None new found is = inr (refl, cc)
-now_held true (Some holder) new found is = inl is
-now_held false old new found is = inl is
-
 still_free : (b : Bool) (old : Option Found) (new : Found) → b ≡ false → old ≡ None → cond b (holder_or old new) old ≡ None
 still_free true old new other free = absurd cc
 still_free false old new other free = free
@@ -68,8 +47,9 @@ module _ (history : List FlowEntry) (seat : ℕ) (id : ConnId) (way : Way) where
   bare_after None other differs none = subst (λ (h : List FlowEntry). HoldsNone (state_of flow_law h) id other) (sym (append-nil history)) none
   bare_after (Some key) other differs none =
       subst (λ (k : Machine Flow). HoldsNone k id other) (sym (state_of-append flow_law history (entry seat (Hold id key way) (ToHold Held.Done))))
-      (λ at is. by at (now_held (is_key key at) ((state_of flow_law history).holder at) (record { id = id; way = way }) (record { id = id; way = other }) is)) where
-        by : (at : Key) → ((state_of flow_law history).holder at ≡ Some (record { id = id; way = other })) ⊎ ((is_key key at ≡ true) × (◌≡◌ {A = Found} (record { id = id; way = way }) (record { id = id; way = other }))) → ⊥
+      (λ at is. by at (given_by (is_key key at) ((state_of flow_law history).holder at) (record { id = id; way = way }) (record { id = id; way = other }) is)) where
+        by : (at : Key) → ((state_of flow_law history).holder at ≡ Some (record { id = id; way = other })) ⊎
+            ((is_key key at ≡ true) × (◌≡◌ {A = Found} (record { id = id; way = way }) (record { id = id; way = other }))) → ⊥
         by at (inl old) = none at old
         by at (inr new) = differs (ap (λ (f : Found). f.way) new.1)
 

@@ -1,25 +1,13 @@
 -- One connection claimed, given its keys, and started or abandoned.
-use Rattle.std.proofs.Common.{◌≡◌, ℕ, Bool, true, List, [], ◌∷◌, ◌++◌, length, refl, sym, ap, subst, ◌∙◌, append-nil, arith}
-use Rattle.std.proofs.lemmas.List.{length-append}
-use Rattle.npf_types.specs.declared.key.Key.{Key}
-use Rattle.npf_types.specs.declared.key.Way.{Way}
-use Rattle.npf_core.specs.declared.act.Act.TheVariants.{Claim, Start}
-use Rattle.npf_core.specs.declared.act.Why.TheVariants.{Abandoned}
-use Rattle.npf_core.specs.declared.conn_id.ConnId.{ConnId}
-use Rattle.npf_core.specs.declared.reply.Reply.TheVariants.{Nothing, ToClaim}
-use Rattle.npf_core.specs.History.{IsPrefix, state_of}
-use Rattle.npf_core.specs.Machine.{Machine, IsClaimed}
-use Rattle.npf_core.specs.NextState.{is_id}
-use Rattle.npf_core.proofs.EqualityLemmas.{is_id-Decides}
-use Rattle.npf_core.proofs.HistoryLemmas.{state_of-append}
-use Rattle.npf_connections.specs.Answered.{without}
-use Rattle.npf_connections.specs.Beginning.{IsFullBetween}
-use Rattle.npf_connections.specs.Entries.{end_entries}
-use Rattle.npf_connections.specs.Stay.{GoesOn}
-use Rattle.npf_flow.specs.declared.flow.Flow.{Flow}
-use Rattle.npf_flow.specs.Flows.{flow_law}
+use Rattle.std.proofs.{Common.{◌≡◌, ℕ, Bool, true, List, [], ◌∷◌, ◌++◌, length, refl, sym, ap, subst, ◌∙◌, append-nil, arith}, lemmas.List.length-append}
+use Rattle.npf_types.specs.declared.key.{Key.Key, Way.Way}
+use Rattle.npf_core.specs.declared.{act.{Act.TheVariants.{Claim, Start}, Why.TheVariants.Abandoned}, conn_id.ConnId.ConnId}
+use Rattle.npf_core.specs.{declared.reply.Reply.TheVariants.{Nothing, ToClaim}, History.{IsPrefix, state_of}, Machine.{Machine, IsClaimed}, NextState.is_id}
+use Rattle.npf_core.proofs.{EqualityLemmas.is_id-Decides, HistoryLemmas.state_of-append}
+use Rattle.npf_connections.specs.{Answered.without, Beginning.IsFullBetween, Entries.end_entries, Stay.GoesOn}
+use Rattle.npf_flow.specs.{declared.flow.Flow.Flow, Flows.flow_law}
 use Rattle.npf_saved.specs.declared.saved.Saved.{Saved}
-use Rattle.npf_connsave.specs.Loading.{AllClaimed, AreFree, FlowEntry, LeavesOne, RefusesKeys, StartsOne, StaysSole, View, entry, key_entries}
+use Rattle.npf_connsave.specs.Loads.{AllClaimed, AreFree, FlowEntry, LeavesOne, RefusesKeys, StartsOne, StaysSole, View, entry, key_entries}
 use Rattle.npf_connsave.proofs.KeysLemmas.{three_behind}
 
 -- a call that goes on in this way leaves the pass with its table

@@ -1,8 +1,6 @@
 -- A list that has all numbers below a bound is as long as the bound at least.
 use Rattle.std.proofs.Common.{◌≡◌, ◌≢◌, ◌<◌, ◌≤◌, ◌==◌, ℕ, zero, suc, Bool, true, false, not, cond, List, [], ◌∷◌, Contains, length, get_or, refl, sym, ◌∙◌, arith}
-use Rattle.std.specs.List.{filter}
-use Rattle.std.proofs.lemmas.Bool.{eqb-true}
-use Rattle.std.proofs.lemmas.Bool.Decides.{Decides-eqb}
+use Rattle.std.{specs.List.filter, proofs.lemmas.Bool.{eqb-true, Decides.Decides-eqb}}
 
 -- all but this number
 abbrev without : ℕ → List ℕ → List ℕ

@@ -1,27 +1,15 @@
 -- The connections of all slots, by their forward keys.
-use Rattle.std.proofs.Common.{◌≡◌, ◌≢◌, ◌<◌, ℕ, false, List, length, get_or, refl, sym, ap, ◌∙◌, true≢false, arith}
-use Rattle.std.specs.Cmp.Lexicographic.{slice_cmp}
-use Rattle.std.specs.List.Sorted.{IsPermutation, IsSortedByKey}
-use Rattle.std.specs.Ordering.{nat_cmp, is_lt, ordering_reverse}
-use Rattle.std.specs.declared.cmp.Ordering.{Ordering}
-use Rattle.std.specs.declared.cmp.Ordering.TheVariants.{Less, Equal, Greater}
-use Rattle.std.proofs.lemmas.List.{get_or-map, length-map}
-use Rattle.std.proofs.lemmas.List.Elements.{All-weaker}
-use Rattle.std.proofs.lemmas.List.Sorted.{All-permutation, Contains-permutation, IsPermutation-map, ranks_by, sorted_far}
-use Rattle.std.proofs.lemmas.Map.Keys.{IsDistinct-IsPermutation}
-use Rattle.std.proofs.lemmas.Map.Lookups.{exact_bytes}
-use Rattle.std.proofs.lemmas.Map.Made.{AllPairs-from_IsDistinct, IsDistinct-from_AllPairs}
-use Rattle.npf_types.specs.declared.key.Key.{Key}
-use Rattle.npf_types.specs.contracts.key.KeyEq.TheImpl.Laws.{laws-law}
-use Rattle.npf_types.specs.contracts.key.KeyOrd.TheImpl.Laws.{total-law}
-use Rattle.npf_core.specs.declared.conn_id.ConnId.{ConnId}
-use Rattle.npf_core.specs.Machine.{Machine, stage_of, is_key, IsLive}
-use Rattle.npf_core.proofs.EqualityLemmas.{is_key-Decides}
+use Rattle.std.{proofs.Common.{◌≡◌, ◌≢◌, ◌<◌, ℕ, false, List, length, get_or, refl, sym, ap, ◌∙◌, true≢false, arith}, specs.Cmp.Lexicographic.slice_cmp}
+use Rattle.std.specs.{List.Sorted.{IsPermutation, IsSortedByKey}, Ordering.{nat_cmp, is_lt, ordering_reverse}, declared.cmp.Ordering.Ordering}
+use Rattle.std.{specs.declared.cmp.Ordering.TheVariants.{Less, Equal, Greater}, proofs.lemmas.List.{get_or-map, length-map, Elements.All-weaker}}
+use Rattle.std.proofs.lemmas.{List.Sorted.{All-permutation, Contains-permutation, IsPermutation-map, ranks_by, sorted_far}, Map.Keys.IsDistinct-IsPermutation}
+use Rattle.std.proofs.lemmas.Map.{Lookups.exact_bytes, Made.{AllPairs-from_IsDistinct, IsDistinct-from_AllPairs}}
+use Rattle.npf_types.specs.{declared.key.Key.Key, contracts.key.{KeyEq.TheImpl.Laws.laws-law, KeyOrd.TheImpl.Laws.total-law}}
+use Rattle.npf_core.{specs.{declared.conn_id.ConnId.ConnId, Machine.{Machine, stage_of, is_key, IsLive}}, proofs.EqualityLemmas.is_key-Decides}
 use Rattle.npf_flow.specs.declared.flow.Flow.{Flow}
 use Rattle.npf_saved.specs.declared.saved.Saved.{Saved}
 use Rattle.npf_saved_file.specs.Conns.{AreDistinct, AreRising}
-use Rattle.npf_connsave.specs.Copied.{AreCopied, IsCopied, forward_keys}
-use Rattle.npf_connsave.specs.Saving.{AreSavedOf, IsSavedOf}
+use Rattle.npf_connsave.specs.{Copied.{AreCopied, IsCopied, forward_keys}, Saves.{AreSavedOf, IsSavedOf}}
 
 -- different keys stay different in another order
 distinct_again : (keys others : List Key) → IsPermutation keys others → AreDistinct keys → AreDistinct others

@@ -1,28 +1,16 @@
 -- Connections loaded one behind the other.
-use Rattle.std.proofs.Common.{◌≡◌, ◌<◌, ◌≤◌, ◌+◌, ℕ, zero, suc, Option, Some, None, List, [], ◌∷◌, ◌++◌, Contains, length, take, drop, get_or, refl, sym, ap, subst, ◌∙◌, append-nil, append_assoc, arith}
-use Rattle.std.specs.List.{flat_map}
-use Rattle.std.proofs.lemmas.List.{drop_more, get_or-append-add, length-append, length-take-le, map-append, take-append-drop, take_more}
-use Rattle.std.proofs.lemmas.List.Concat.{flat_map-append}
+use Rattle.std.proofs.Common.{◌≡◌, ◌<◌, ◌≤◌, ◌+◌, ℕ, zero, suc, Option, Some, None, List, [], ◌∷◌, ◌++◌, Contains, length, take, drop}
+use Rattle.std.{proofs.Common.{get_or, refl, sym, ap, subst, ◌∙◌, append-nil, append_assoc, arith}, specs.List.flat_map}
+use Rattle.std.proofs.lemmas.List.{drop_more, get_or-append-add, length-append, length-take-le, map-append, take-append-drop, take_more, Concat.flat_map-append}
 use Rattle.std.proofs.lemmas.List.Elements.{All-nil, All-get_or, Contains-append_left, Contains-append_right}
-use Rattle.npf_types.specs.declared.key.Key.{Key}
-use Rattle.npf_types.specs.declared.key.Way.{Way}
-use Rattle.npf_types.specs.declared.key.Way.TheVariants.{Forward, Backward, Port}
-use Rattle.npf_core.specs.declared.conn_id.ConnId.{ConnId}
-use Rattle.npf_core.specs.declared.found.Found.{Found}
-use Rattle.npf_core.specs.History.{IsPrefix, Legal, LegalFrom, state_of}
-use Rattle.npf_core.specs.Machine.{Machine, opening}
-use Rattle.npf_core.proofs.HistoryLemmas.{LegalFrom-rest, state_from-append}
-use Rattle.npf_core.proofs.HolderLemmas.{claim_with_none}
-use Rattle.npf_flow.specs.declared.flow.Flow.{Flow}
-use Rattle.npf_flow.specs.Flows.{flow_law}
-use Rattle.npf_saved.specs.declared.saved.Saved.{Saved}
-use Rattle.npf_saved.specs.Fields.{FitsSaved}
+use Rattle.npf_types.specs.declared.key.{Key.Key, Way.{Way, TheVariants.{Forward, Backward, Port}}}
+use Rattle.npf_core.specs.{declared.{conn_id.ConnId.ConnId, found.Found.Found}, History.{IsPrefix, Legal, LegalFrom, state_of}, Machine.{Machine, opening}}
+use Rattle.npf_core.proofs.{HistoryLemmas.{LegalFrom-rest, state_from-append}, HolderLemmas.claim_with_none}
+use Rattle.npf_flow.specs.{declared.flow.Flow.Flow, Flows.flow_law}
+use Rattle.npf_saved.specs.{declared.saved.Saved.Saved, Fields.FitsSaved}
 use Rattle.npf_saved_file.specs.Conns.{AreDistinct, AreSavedConns, key_list, saved_keys}
-use Rattle.npf_connsave.specs.Loading.{AllClaimed, AreFree, FlowEntry, LeavesFront, LeavesOne, StartsOne, StaysSole, View, key_entries, left_entries, load_entries, loaded_conns, loaded_entries}
-use Rattle.npf_connsave.specs.Saving.{AreSavedOf, IsSavedOf}
-use Rattle.npf_connsave.proofs.BuiltLemmas.{AreLoaded, way_key}
-use Rattle.npf_connsave.proofs.KeysLemmas.{parted}
-use Rattle.npf_connsave.proofs.LoadLemmas.{loads_one}
+use Rattle.npf_connsave.specs.Loads.{AllClaimed, AreFree, FlowEntry, LeavesFront, LeavesOne, StartsOne, StaysSole, View, key_entries, left_entries, load_entries, loaded_conns, loaded_entries}
+use Rattle.npf_connsave.{specs.Saves.{AreSavedOf, IsSavedOf}, proofs.{BuiltLemmas.{AreLoaded, way_key}, KeysLemmas.parted, LoadLemmas.loads_one}}
 use Rattle.npf_connsave.proofs.RoomLemmas.{has_all}
 
 -- these were loaded since, and nothing else

@@ -2,17 +2,13 @@
 use Rattle.std.proofs.Common.{◌≡◌, ℕ, List, [], ◌++◌, false, true, refl, sym, ap, subst, ◌∙◌, append-nil, arith}
 use Rattle.npf_types.specs.declared.name.Name.{Name}
 use Rattle.npf_core.specs.History.{IsPrefix, state_of}
-use Rattle.npf_connections.specs.Adding.{Adds}
-use Rattle.npf_connections.specs.Pass.{IsPass, all_places}
-use Rattle.npf_connections.specs.Stay.{GoesOn}
-use Rattle.npf_connections.proofs.AddLemmas.{adds_alone}
+use Rattle.npf_connections.{specs.{Adding.Adds, Pass.{IsPass, all_places}, Stay.GoesOn}, proofs.AddLemmas.adds_alone}
 use Rattle.npf_flow.specs.Flows.{flow_law}
 use Rattle.npf_saved.specs.declared.saved.Saved.{Saved}
-use Rattle.npf_saved_file.specs.declared.fault.SavedFault.{SavedFault}
-use Rattle.npf_saved_file.specs.declared.fault.SavedFault.TheVariants.{BadSaved, OtherInterfaces, TooManySaved, SavedNoNode, NoMemory}
+use Rattle.npf_saved_file.specs.declared.fault.SavedFault.{SavedFault, TheVariants.{BadSaved, OtherInterfaces, TooManySaved, SavedNoNode, NoMemory}}
 use Rattle.npf_saved_file.specs.Refusal.{MayLoad, RefusesSaved}
-use Rattle.npf_connsave.specs.Loading.{FlowEntry, LeavesFront, LoadsSaved, RefusesLoaded, StartsAll, StaysSole, View, key_entries, left_entries, loaded_entries}
-use Rattle.npf_connsave.specs.Saving.{AreSavedOf}
+use Rattle.npf_connsave.specs.Loads.{FlowEntry, LeavesFront, LoadsSaved, RefusesLoaded, StartsAll, StaysSole, View, key_entries, left_entries, loaded_entries}
+use Rattle.npf_connsave.specs.Saves.{AreSavedOf}
 
 -- a text that isn't read leaves the table as it was
 pub not_read : (names : List Name) (text : List ℕ) (pass : View) (fault : SavedFault) → RefusesSaved text names pass.slots fault → RefusesLoaded names text pass pass fault

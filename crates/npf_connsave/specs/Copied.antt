@@ -9,7 +9,7 @@ use Rattle.npf_core.specs.Machine.{Machine, stage_of, IsLive, Holds}
 use Rattle.npf_flow.specs.declared.flow.Flow.{Flow}
 use Rattle.npf_saved.specs.declared.saved.Saved.{Saved}
 use Rattle.npf_saved_file.specs.Conns.{AreDistinct}
-use Rattle.npf_connsave.specs.Saving.{IsSavedAs, saved_flow}
+use Rattle.npf_connsave.specs.Saves.{IsSavedAs, saved_flow}
 
 abbrev pub saved_by : Kept Flow → Option Key → Option Saved
 saved_by kept None = None

@@ -3,8 +3,8 @@ use Rattle.std.specs.Prelude.{◌≡◌, ℕ, List}
 use Rattle.npf_types.specs.declared.name.Name.{Name}
 use Rattle.npf_core.specs.History.{Legal, state_of}
 use Rattle.npf_flow.specs.Flows.{flow_law}
-use Rattle.npf_connsave.specs.Loading.{FlowEntry, LoadsSaved, View}
-use Rattle.npf_connsave.specs.Saving.{IsSavedText}
+use Rattle.npf_connsave.specs.Loads.{FlowEntry, LoadsSaved, View}
+use Rattle.npf_connsave.specs.Saves.{IsSavedText}
 
 -- after each legal history a table has one text
 abbrev pub OneSavedText : Type 0

@@ -1,4 +1,4 @@
 pub mod Copied
 pub mod Laws
-pub mod Loading
-pub mod Saving
+pub mod Loads
+pub mod Saves

@@ -15,8 +15,8 @@
 #![tactic(auto)]
 
 pub mod laws;
-mod loading;
-mod saving;
+mod loads;
+mod saves;
 
-pub use loading::load;
-pub use saving::save;
+pub use loads::load;
+pub use saves::save;

@@ -10,7 +10,7 @@ use npf_connections::Connections;
 use npf_connections_fixtures::NewTable;
 use npf_connsave::load;
 use npf_flow::FlowLaw;
-use npf_saved_file::MAX_SAVED_BYTES;
+use npf_types::limits::MAX_SAVED_BYTES;
 use std::alloc::Global;
 use std::fmt::Write;
 use std::sync::Wait;

@@ -1,30 +1,13 @@
 -- What other seats, and entries that free nothing, leave alone.
-use Rattle.std.proofs.Common.{◌≡◌, ℕ, Bool, true, false, ◌==◌, List, [], ◌∷◌, Option, Some, cond, refl, sym, ◌∙◌, ◌+◌}
-use Rattle.std.specs.List.{filter}
-use Rattle.std.proofs.lemmas.Bool.Decides.{Decides-eqb, not_from_Decides}
-use Rattle.npf_types.specs.declared.key.Key.{Key}
-use Rattle.npf_types.specs.declared.key.Way.{Way}
-use Rattle.npf_core.specs.declared.act.Act.TheVariants.{Free}
-use Rattle.npf_core.specs.declared.conn_id.ConnId.{ConnId}
-use Rattle.npf_core.specs.declared.entry.Entry.{Entry}
-use Rattle.npf_core.specs.declared.found.Found.{Found}
-use Rattle.npf_core.specs.declared.stage.Stage.TheVariants.{Building}
-use Rattle.npf_core.specs.BuildingLaw.{ClaimsBuild, StaysBuilding, IsGivenNone}
-use Rattle.npf_core.specs.ClaimedLaw.{StaysClaimed}
-use Rattle.npf_core.specs.History.{MayFollow, after, is_free}
-use Rattle.npf_core.specs.Machine.{Machine, stage_of, HoldsNone}
-use Rattle.npf_core.specs.Meaning.{Meaning}
+use Rattle.std.proofs.{Common.{◌≡◌, ℕ, true, false, ◌==◌, [], ◌∷◌, Option, Some, refl, sym, ◌∙◌, ◌+◌}, lemmas.Bool.Decides.{Decides-eqb, not_from_Decides}}
+use Rattle.npf_types.specs.declared.key.{Key.Key, Way.Way}
+use Rattle.npf_shelf.proofs.ListLemmas.{filter-cons_nil}
+use Rattle.npf_core.specs.declared.{act.Act.TheVariants.Free, conn_id.ConnId.ConnId, entry.Entry.Entry, found.Found.Found, stage.Stage.TheVariants.Building}
+use Rattle.npf_core.specs.{BuildingLaw.{ClaimsBuild, StaysBuilding, IsGivenNone}, ClaimedLaw.StaysClaimed, History.{MayFollow, after, is_free}}
+use Rattle.npf_core.specs.{Machine.{Machine, stage_of, HoldsNone}, Meaning.Meaning}
 use Rattle.npf_core.proofs.HolderLemmas.{Passes, rests, gives, loses, passes, may_hold, claimed_by}
 use Rattle.npf_core.proofs.LifeLemmas.{Life, stage_in, stage_of-is, Moves, keeps, claims, starts, steps, abandons, expires, frees as is_freed, entry_moves}
 use Rattle.npf_core.proofs.EqualityLemmas.{is_id-Decides}
-
--- where a filter keeps nothing the first item fails its test, and it keeps nothing of the others
-none_first : {X : Type 0} (p : X → Bool) (x : X) (xs : List X) → filter p (x ∷ xs) ≡ [] → (p x ≡ false) × (filter p xs ≡ [])
-none_first p x xs e = at_test (p x) refl e
-  where
-    at_test : (keep : Bool) → p x ≡ keep → cond keep (x ∷ filter p xs) (filter p xs) ≡ [] → (p x ≡ false) × (filter p xs ≡ [])
-    at_test true t e = absurd cc
-    at_test false t e = (t, e)
 
 module _ {S A R : Type 0} (m : Meaning S A R) (slots : ℕ) where
   module _ (k : Machine S) (entry : Entry S A R) (seat : ℕ) (id : ConnId) (follows : MayFollow m slots k entry) (other : ¬ (entry.seat ≡ seat)) where
@@ -62,14 +45,14 @@ module _ {S A R : Type 0} (m : Meaning S A R) (slots : ℕ) where
   pub builds_after : StaysBuilding m slots
   builds_after k [] seat id legal none e = e
   builds_after k (entry ∷ entries) seat id legal none e =
-      let first = none_first (λ (x : Entry S A R). x.seat == seat) entry entries none in
+      let first = filter-cons_nil (λ (x : Entry S A R). x.seat == seat) entry entries none in
       builds_after (after m k entry) entries seat id legal.1 first.1 (builds_by k entry seat id legal.0 (others entry seat first.0) e)
 
   -- and give it no key
   pub holds_none_after : IsGivenNone m slots
   holds_none_after k [] seat id way legal none e h = h
   holds_none_after k (entry ∷ entries) seat id way legal none e h =
-      let first = none_first (λ (x : Entry S A R). x.seat == seat) entry entries none in
+      let first = filter-cons_nil (λ (x : Entry S A R). x.seat == seat) entry entries none in
       let other = others entry seat first.0 in
       holds_none_after (after m k entry) entries seat id way legal.1 first.1 (builds_by k entry seat id legal.0 other e) (holds_none_by k entry seat id legal.0 other e way h)
 
@@ -81,7 +64,7 @@ module _ {S A R : Type 0} (m : Meaning S A R) (slots : ℕ) where
   pub claimed_after : StaysClaimed m slots
   claimed_after k [] id legal none h = h
   claimed_after k (entry ∷ entries) id legal none h =
-      let first = none_first (λ (x : Entry S A R). is_free id x.act) entry entries none in
+      let first = filter-cons_nil (λ (x : Entry S A R). is_free id x.act) entry entries none in
       claimed_after (after m k entry) entries id legal.1 first.1 (claimed_by m slots k entry id legal.0 (not_freed entry id first.0) h)
 
 -- what a claim of a slot gives is Building under the seat

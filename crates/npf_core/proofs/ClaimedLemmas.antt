@@ -1,19 +1,11 @@
 -- A claimed identity was claimed by an entry, and one that is claimed before and after some entries wasn't freed by them.
-use Rattle.std.proofs.Common.{◌≡◌, ℕ, Bool, true, false, List, [], ◌∷◌, ◌++◌, cond, refl, ap}
-use Rattle.std.proofs.lemmas.List.Elements.{Contains-append_left, Contains-push}
-use Rattle.npf_core.specs.declared.act.Act.{Act}
-use Rattle.npf_core.specs.declared.act.Act.TheVariants.{Claim, Look, Hold, Start, Step, Kill, Unhold, Free}
-use Rattle.npf_core.specs.declared.conn_id.ConnId.{ConnId}
-use Rattle.npf_core.specs.declared.entry.Entry.{Entry}
-use Rattle.npf_core.specs.declared.stage.Stage.TheVariants.{Vacant}
-use Rattle.npf_core.specs.ClaimedLaw.{WasNotFreed, HasClaim, WasClaimed}
-use Rattle.npf_core.specs.History.{after, state_from, is_free, frees}
-use Rattle.npf_core.specs.Machine.{Machine, opening, stage_of, IsClaimed}
-use Rattle.npf_core.specs.Meaning.{Meaning}
-use Rattle.npf_core.proofs.EqualityLemmas.{is_id-Decides}
-use Rattle.npf_core.proofs.HistoryLemmas.{by_entries}
+use Rattle.std.proofs.{Common.{◌≡◌, ℕ, Bool, true, false, List, [], ◌∷◌, ◌++◌, cond, refl, ap}, lemmas.List.Elements.{Contains-append_left, Contains-push}}
+use Rattle.npf_core.specs.declared.{act.Act.{Act, TheVariants.{Claim, Look, Hold, Start, Step, Kill, Unhold, Free}}, conn_id.ConnId.ConnId, entry.Entry.Entry}
+use Rattle.npf_core.specs.{declared.stage.Stage.TheVariants.Vacant, ClaimedLaw.{WasNotFreed, HasClaim, WasClaimed}, History.{after, state_from, is_free, frees}}
+use Rattle.npf_core.{specs.{Machine.{Machine, opening, stage_of, IsClaimed}, Meaning.Meaning}, proofs.{EqualityLemmas.is_id-Decides, HistoryLemmas.by_entries}}
 use Rattle.npf_core.proofs.HolderLemmas.{claimed_by}
-use Rattle.npf_core.proofs.LifeLemmas.{Life, gone, life_of, life_of-opening, stage_in, stage_of-is, Touch, own, apart, touch, Moves, keeps, claims, starts, steps, abandons, expires, frees as is_freed, entry_moves}
+use Rattle.npf_core.proofs.LifeLemmas.{Life, gone, life_of, life_of-opening, stage_in, stage_of-is, Touch, own, apart, touch, Moves, keeps, claims}
+use Rattle.npf_core.proofs.LifeLemmas.{starts, steps, abandons, expires, frees as is_freed, entry_moves}
 
 module _ {S A R : Type 0} (m : Meaning S A R) (id : ConnId) (past : List (Entry S A R)) (entry : Entry S A R) where
   claimed_earlier : HasClaim past id → HasClaim (past ++ entry ∷ []) id

@@ -1,16 +1,8 @@
 -- The tests of the definitions decide equality.
-use Rattle.std.proofs.Common.{◌≡◌, ℕ, true, ◌==◌, refl, ap, sym, List, [], ◌∷◌}
-use Rattle.std.specs.Prelude.{nat_eq}
-use Rattle.std.specs.Bool.{Decides}
-use Rattle.std.proofs.lemmas.Bool.Decides.{Decides-and, Decides-eqb, Decides-like}
-use Rattle.std.specs.Cmp.Lexicographic.{pointwise, same_text}
-use Rattle.npf_types.specs.declared.key.Key.{Key}
-use Rattle.npf_types.specs.declared.key.Way.{Way}
-use Rattle.npf_types.specs.declared.key.Way.TheVariants.{Forward, Backward, Port}
-use Rattle.npf_core.specs.declared.conn_id.ConnId.{ConnId}
-use Rattle.npf_core.specs.declared.found.Found.{Found}
-use Rattle.npf_core.specs.Machine.{is_key}
-use Rattle.npf_core.specs.NextState.{is_way, is_id, is_found}
+use Rattle.std.{proofs.Common.{◌≡◌, ℕ, true, ◌==◌, refl, ap, sym, List, [], ◌∷◌}, specs.{Prelude.nat_eq, Bool.Decides}}
+use Rattle.std.{proofs.lemmas.Bool.Decides.{Decides-and, Decides-eqb, Decides-like}, specs.Cmp.Lexicographic.{pointwise, same_text}}
+use Rattle.npf_types.specs.declared.key.{Key.Key, Way.{Way, TheVariants.{Forward, Backward, Port}}}
+use Rattle.npf_core.specs.{declared.{conn_id.ConnId.ConnId, found.Found.Found}, Machine.is_key, NextState.{is_way, is_id, is_found}}
 
 pub same_conn_id : (a b : ConnId) → (a.slot ≡ b.slot) × (a.inc ≡ b.inc) → a ≡ b
 same_conn_id a b e = λ i. record { slot = e.0 i; inc = e.1 i }

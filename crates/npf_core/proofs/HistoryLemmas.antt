@@ -1,16 +1,9 @@
 -- Parts of a history.
-use Rattle.std.proofs.Common.{◌≡◌, ℕ, List, [], ◌∷◌, ◌++◌, refl, ap, sym, ◌∙◌, append_assoc, append-nil}
-use Rattle.std.specs.Prelude.{◌==◌}
+use Rattle.std.{proofs.Common.{◌≡◌, ℕ, List, [], ◌∷◌, ◌++◌, refl, ap, sym, ◌∙◌, append_assoc, append-nil}, specs.Prelude.◌==◌}
 use Rattle.std.proofs.lemmas.List.Elements.{filter-append}
-use Rattle.npf_core.specs.declared.entry.Entry.{Entry}
-use Rattle.npf_core.specs.declared.conn_id.ConnId.{ConnId}
-use Rattle.npf_core.specs.declared.replaying.Asked.{Asked}
+use Rattle.npf_core.specs.declared.{entry.Entry.Entry, conn_id.ConnId.ConnId, replays.Asked.Asked}
 use Rattle.npf_core.specs.History.{MayFollow, after, Legal, LegalFrom, state_from, state_of, IsPrefix, by, frees, is_free}
-use Rattle.npf_core.specs.HistoryLaw.{GoesOnLegally, ActsDecide}
-use Rattle.npf_core.specs.Machine.{Machine, opening}
-use Rattle.npf_core.specs.Meaning.{Meaning}
-use Rattle.npf_core.specs.NextState.{after_act}
-use Rattle.npf_core.specs.Replaying.{asked_in}
+use Rattle.npf_core.specs.{HistoryLaw.{GoesOnLegally, ActsDecide}, Machine.{Machine, opening}, Meaning.Meaning, NextState.after_act, Replays.asked_in}
 use Rattle.npf_core.specs.Replies.{reply_of}
 
 -- the state after entries goes on from the state after the first of them

@@ -1,25 +1,14 @@
 -- Who holds a key, and how an entry changes it.
-use Rattle.std.proofs.Common.{◌≡◌, ℕ, ◌+◌, Bool, true, false, [], Option, Some, None, cond, refl, ap, sym, ◌∙◌, arith}
-use Rattle.npf_types.specs.declared.key.Key.{Key}
-use Rattle.npf_types.specs.declared.key.Way.{Way}
-use Rattle.npf_core.specs.declared.act.Act.{Act}
-use Rattle.npf_core.specs.declared.act.Act.TheVariants.{Claim, Look, Hold, Start, Step, Kill, Unhold, Free}
-use Rattle.npf_core.specs.declared.conn_id.ConnId.{ConnId}
-use Rattle.npf_core.specs.declared.entry.Entry.{Entry}
-use Rattle.npf_core.specs.declared.found.Found.{Found}
-use Rattle.npf_core.specs.declared.slot.Slot.{Slot}
-use Rattle.npf_core.specs.declared.stage.Stage.TheVariants.{Vacant}
-use Rattle.npf_core.specs.Allowed.{Allows, MayHold, MayUnhold, MayFree}
-use Rattle.npf_core.specs.History.{MayFollow, after, state_of}
-use Rattle.npf_core.specs.HolderLaw.{HoldersAreClaimed, UnclaimedHoldNone, HoldsOneAWay, ClaimsWithNone, InEachState}
-use Rattle.npf_core.specs.Machine.{Machine, opening, stage_at, stage_of, is_key, IsClaimed, Holds}
-use Rattle.npf_core.specs.Meaning.{Meaning}
-use Rattle.npf_core.specs.NextState.{is_found, holder_or, holder_after}
-use Rattle.npf_core.specs.Replies.{claimed_id}
-use Rattle.npf_core.proofs.HistoryLemmas.{by_entries}
+use Rattle.std.proofs.{Common.{◌≡◌, ℕ, ◌+◌, Bool, true, false, [], Option, Some, None, cond, refl, ap, sym, ◌∙◌, arith, ◌≢◌}, lemmas.Bool.Decides.nat_tests}
+use Rattle.npf_types.specs.declared.key.{Key.Key, Way.Way}
+use Rattle.npf_shelf.proofs.OptionLemmas.{Some-injective}
+use Rattle.npf_core.specs.declared.{act.Act.{Act, TheVariants.{Claim, Look, Hold, Start, Step, Kill, Unhold, Free}}, conn_id.ConnId.ConnId, entry.Entry.Entry}
+use Rattle.npf_core.specs.{declared.{found.Found.Found, slot.Slot.Slot, stage.Stage.TheVariants.Vacant}, Allowed.{Allows, MayHold, MayUnhold, MayFree}}
+use Rattle.npf_core.specs.{History.{MayFollow, after, state_of}, HolderLaw.{HoldersAreClaimed, UnclaimedHoldNone, HoldsOneAWay, ClaimsWithNone, InEachState}}
+use Rattle.npf_core.specs.{Machine.{Machine, opening, stage_at, stage_of, is_key, IsClaimed, Holds}, Meaning.Meaning}
+use Rattle.npf_core.{specs.{NextState.{is_found, holder_or, holder_after, given_up}, Replies.claimed_id}, proofs.HistoryLemmas.by_entries}
 use Rattle.npf_core.proofs.LifeLemmas.{Life, stage_in, stage_of-is, life_of, Moves, keeps, claims, starts, steps, abandons, expires, frees, entry_moves}
 use Rattle.npf_core.proofs.EqualityLemmas.{is_key-Decides, is_found-Decides}
-use Rattle.std.proofs.lemmas.Bool.Decides.{nat_tests}
 
 -- what an act makes of a key's holder
 pub data Passes {S A : Type 0} (act : Act S A) (key : Key) : Option Found → Option Found → Type 0 where
@@ -150,3 +139,14 @@ module _ {S A R : Type 0} (m : Meaning S A R) (slots : ℕ) where
   claim_with_none history legal slot way =
       let k = state_of m history in
       unclaimed_hold_none history legal (claimed_id k slot) way (next_vacant (k.slot slot))
+
+-- what is given up is nobody's, and what isn't somebody's doesn't become so
+pub given_up_gone : (holder : Option Found) (found : Found) → given_up holder found ≢ Some found
+given_up_gone None found e = absurd cc
+given_up_gone (Some other) found e = by_found (is_found other found) refl e
+  where
+    by_found : (same : Bool) → is_found other found ≡ same → cond same None (Some other) ≡ Some found → ⊥
+    by_found true same f = absurd cc
+    by_found false same f =
+        let yes : is_found other found ≡ true = (is_found-Decides other found).1 (Some-injective other found f) in
+        absurd (let no : false ≡ true = sym same ∙ yes in let never : ⊥ = cc in never)

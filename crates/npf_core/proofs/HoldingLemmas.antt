@@ -1,15 +1,9 @@
 -- Lists of holdings.
-use Rattle.std.proofs.Common.{◌≡◌, Bool, true, false, ◌&&◌, ◌||◌, not, List, [], ◌∷◌, ◌++◌, Option, Some, None, cond, refl, ap, sym, ◌∙◌}
-use Rattle.std.specs.Prelude.{IsTrue, is_none, option_map, find, filter}
-use Rattle.std.specs.List.{list_any}
-use Rattle.std.proofs.lemmas.Bool.Decides.{not_from_Decides}
+use Rattle.std.proofs.Common.{◌≡◌, Bool, true, false, ◌||◌, not, List, [], ◌∷◌, ◌++◌, Option, Some, None, cond, refl, ap, sym, ◌∙◌}
+use Rattle.std.{specs.{Prelude.{IsTrue, is_none, option_map, find, filter}, List.list_any}, proofs.lemmas.Bool.{Decides.not_from_Decides, and_parts}}
 use Rattle.npf_types.specs.declared.key.Key.{Key}
-use Rattle.npf_core.specs.declared.found.Found.{Found}
-use Rattle.npf_core.specs.declared.holding.Holding.{Holding}
-use Rattle.npf_core.specs.Holding.{holder_in, is_each_once}
-use Rattle.npf_core.specs.Machine.{is_key}
-use Rattle.npf_core.specs.NextState.{is_found, holder_or, given_up}
-use Rattle.npf_core.proofs.EqualityLemmas.{is_key-Decides}
+use Rattle.npf_core.specs.{declared.{found.Found.Found, hold.Holding.Holding}, Hold.{holder_in, is_each_once}, Machine.is_key}
+use Rattle.npf_core.{specs.NextState.{is_found, holder_or, given_up}, proofs.EqualityLemmas.is_key-Decides}
 
 -- the first of a list holds its key, and hides no other
 holder_in-cons : (x : Holding) (xs : List Holding) (key : Key) → holder_in (x ∷ xs) key ≡ cond (is_key x.key key) (Some x.found) (holder_in xs key)
@@ -32,17 +26,13 @@ holder_in-push (x ∷ xs) h key =
     rw (holder_in-cons x (xs ++ h ∷ []) key, holder_in-cons x xs key)
     (pushed_first (is_key x.key key) (is_key h.key key) x.found h.found (holder_in xs key) (holder_in (xs ++ h ∷ []) key) (holder_in-push xs h key))
 
-both : (a b : Bool) → (a && b) ≡ true → (a ≡ true) × (b ≡ true)
-both true b e = (refl, e)
-both false b e = absurd cc
-
 none_is : (x : Option Found) → is_none x ≡ true → x ≡ None
 none_is None e = refl
 none_is (Some found) e = absurd cc
 
 -- of a list with each key once: the first key has no other holding, and the rest has each once
 pub first_once : (x : Holding) (xs : List Holding) → is_each_once (x ∷ xs) ≡ true → (holder_in xs x.key ≡ None) × (is_each_once xs ≡ true)
-first_once x xs e = let parts = both (is_none (holder_in xs x.key)) (is_each_once xs) e in (none_is (holder_in xs x.key) parts.0, parts.1)
+first_once x xs e = let parts = and_parts (is_none (holder_in xs x.key)) (is_each_once xs) e in (none_is (holder_in xs x.key) parts.0, parts.1)
 
 cons_once : (x : Holding) (xs : List Holding) → holder_in xs x.key ≡ None → is_each_once xs ≡ true → is_each_once (x ∷ xs) ≡ true
 cons_once x xs n e = rw (n, e) refl

@@ -2,20 +2,10 @@
 use Rattle.std.proofs.Common.{◌≡◌, ℕ, ◌+◌, ◌-◌, ◌^◌, ◌<◌, Bool, true, false, ◌==◌, cond, List, [], ◌∷◌, ◌++◌, refl, ap, sym, ◌∙◌, arith}
 use Rattle.std.proofs.lemmas.Bool.Decides.{Decides-eqb}
 use Rattle.npf_types.specs.declared.key.Way.{Way}
-use Rattle.npf_core.specs.declared.act.Act.{Act}
-use Rattle.npf_core.specs.declared.act.Act.TheVariants.{Claim, Look, Hold, Start, Step, Kill, Unhold, Free}
-use Rattle.npf_core.specs.declared.conn_id.ConnId.{ConnId}
-use Rattle.npf_core.specs.declared.entry.Entry.{Entry}
-use Rattle.npf_core.specs.declared.reply.Reply.TheVariants.{ToClaim}
-use Rattle.npf_core.specs.declared.slot.Slot.{Slot}
-use Rattle.npf_core.specs.declared.stage.Stage.{Stage}
-use Rattle.npf_core.specs.declared.stage.Stage.TheVariants.{Vacant, Building, Live, Dead}
-use Rattle.npf_core.specs.Allowed.{Allows}
-use Rattle.npf_core.specs.History.{after, LegalFrom, state_of, state_from}
-use Rattle.npf_core.specs.IdentityLaw.{ClaimsOnce, IncarnationFits, CountsIncarnations}
-use Rattle.npf_core.specs.Machine.{Machine, opening}
-use Rattle.npf_core.specs.Meaning.{Meaning}
-use Rattle.npf_core.specs.NextState.{stepped, after_act}
+use Rattle.npf_core.specs.declared.{act.Act.{Act, TheVariants.{Claim, Look, Hold, Start, Step, Kill, Unhold, Free}}, conn_id.ConnId.ConnId, entry.Entry.Entry}
+use Rattle.npf_core.specs.declared.{reply.Reply.TheVariants.ToClaim, slot.Slot.Slot, stage.Stage.{Stage, TheVariants.{Vacant, Building, Live, Dead}}}
+use Rattle.npf_core.specs.{Allowed.Allows, History.{after, LegalFrom, state_of, state_from}, IdentityLaw.{ClaimsOnce, IncarnationFits, CountsIncarnations}}
+use Rattle.npf_core.specs.{Machine.{Machine, opening}, Meaning.Meaning, NextState.{stepped, after_act}}
 use Rattle.npf_core.proofs.HistoryLemmas.{LegalFrom-front, LegalFrom-rest, by_entries}
 use Rattle.npf_core.proofs.LifeLemmas.{IsClaimed-last, IsClaimed-is, Life, to_come, built, lives, killed, gone, life_of, Moves, keeps, claims, starts, steps, abandons, expires, frees, entry_moves}
 

@@ -1,17 +1,9 @@
 -- The key law.
 use Rattle.std.proofs.Common.{◌≡◌, ℕ, true, List, [], ◌∷◌, ◌++◌, Option, Some, None, cond, refl, ap, sym, ◌∙◌, append_assoc}
 use Rattle.npf_types.specs.declared.key.Key.{Key}
-use Rattle.npf_core.specs.declared.entry.Entry.{Entry}
-use Rattle.npf_core.specs.declared.found.Found.{Found}
-use Rattle.npf_core.specs.declared.held.Held.{Held}
-use Rattle.npf_core.specs.declared.reply.Reply.TheVariants.{ToHold}
-use Rattle.npf_core.specs.declared.stage.Stage.TheVariants.{Building}
-use Rattle.npf_core.specs.History.{MayFollow, after, Legal, LegalFrom, state_of, state_from}
-use Rattle.npf_core.specs.KeyLaw.{Gives, KeepsKeys, SharesNoKey, WasGiven, StaysHolder}
-use Rattle.npf_core.specs.Machine.{Machine, opening, stage_of, is_key, IsAlive}
-use Rattle.npf_core.specs.Meaning.{Meaning}
-use Rattle.npf_core.specs.NextState.{holder_or}
-use Rattle.npf_core.specs.Replies.{held_by}
+use Rattle.npf_core.specs.declared.{entry.Entry.Entry, found.Found.Found, held.Held.Held, reply.Reply.TheVariants.ToHold, stage.Stage.TheVariants.Building}
+use Rattle.npf_core.specs.{History.{MayFollow, after, Legal, LegalFrom, state_of, state_from}, KeyLaw.{Gives, KeepsKeys, SharesNoKey, WasGiven, StaysHolder}}
+use Rattle.npf_core.specs.{Machine.{Machine, opening, stage_of, is_key, IsAlive}, Meaning.Meaning, NextState.holder_or, Replies.held_by}
 use Rattle.npf_core.proofs.HistoryLemmas.{state_from-append, LegalFrom-rest, MayFollow-split, by_entries}
 use Rattle.npf_core.proofs.HolderLemmas.{Passes, rests, gives, loses, passes, may_hold, may_unhold, after_hold}
 use Rattle.npf_core.proofs.LifeLemmas.{Life, to_come, built, lives, killed, gone, stage_in, stage_of-is, life_of, Moves, keeps, claims, starts, steps, abandons, expires, frees, entry_moves}

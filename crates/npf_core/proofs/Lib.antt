@@ -11,3 +11,4 @@ pub mod LookUpLemmas
 pub mod PlainMachineLemmas
 pub mod ReplayingLemmas
 pub mod ReplayLemmas
+pub mod SlotLemmas

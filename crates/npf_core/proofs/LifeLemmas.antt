@@ -1,26 +1,12 @@
 -- The life of an identity, from before its claim to after it was freed, and how an entry moves it.
 use Rattle.std.proofs.Common.{◌≡◌, ℕ, ◌+◌, ◌-◌, ◌^◌, ◌<◌, min, Bool, true, false, ◌&&◌, ◌==◌, cond, None, IsTrue, refl, ap, sym, ◌∙◌, arith}
-use Rattle.std.specs.Prelude.{nat_lt, if◌then◌else◌}
-use Rattle.std.proofs.lemmas.Bool.Decides.{nat_tests, Decides-eqb, Decides-ltb, not_from_Decides}
+use Rattle.std.{specs.Prelude.{nat_lt, if◌then◌else◌}, proofs.lemmas.Bool.{Decides.{nat_tests, Decides-eqb, Decides-ltb, not_from_Decides}, and_right}}
 use Rattle.npf_types.specs.declared.key.Way.{Way}
-use Rattle.npf_core.specs.declared.act.Act.{Act}
-use Rattle.npf_core.specs.declared.act.Act.TheVariants.{Claim, Look, Hold, Start, Step, Kill, Unhold, Free}
-use Rattle.npf_core.specs.declared.act.Why.TheVariants.{Abandoned, Expired}
-use Rattle.npf_core.specs.declared.conn_id.ConnId.{ConnId}
-use Rattle.npf_core.specs.declared.entry.Entry.{Entry}
-use Rattle.npf_core.specs.declared.reply.Reply.{Reply}
-use Rattle.npf_core.specs.declared.reply.Reply.TheVariants.{Nothing, ToClaim, ToStep}
-use Rattle.npf_core.specs.declared.slot.Slot.{Slot}
-use Rattle.npf_core.specs.declared.stage.Stage.{Stage}
-use Rattle.npf_core.specs.declared.stage.Stage.TheVariants.{Vacant, Building, Live, Dead}
-use Rattle.npf_core.specs.declared.stepped.Stepped.{Stepped}
-use Rattle.npf_core.specs.Allowed.{Allows, IsDue}
-use Rattle.npf_core.specs.History.{MayFollow, after}
-use Rattle.npf_core.specs.Machine.{opening, Machine, stage_at, stage_of, IsClaimed}
-use Rattle.npf_core.specs.Meaning.{Meaning}
-use Rattle.npf_core.specs.NextState.{is_id, stepped, after_act}
-use Rattle.npf_core.specs.Replies.{claimed_id, step_answer, reply_of}
-use Rattle.npf_core.specs.ReplayLaw.{start_of, step_of}
+use Rattle.npf_core.specs.declared.act.{Act.{Act, TheVariants.{Claim, Look, Hold, Start, Step, Kill, Unhold, Free}}, Why.TheVariants.{Abandoned, Expired}}
+use Rattle.npf_core.specs.declared.{conn_id.ConnId.ConnId, entry.Entry.Entry, reply.Reply.{Reply, TheVariants.{Nothing, ToClaim, ToStep}}, slot.Slot.Slot}
+use Rattle.npf_core.specs.{declared.{stage.Stage.{Stage, TheVariants.{Vacant, Building, Live, Dead}}, stepped.Stepped.Stepped}, Allowed.{Allows, IsDue}}
+use Rattle.npf_core.specs.{History.{MayFollow, after}, Machine.{opening, Machine, stage_at, stage_of, IsClaimed}, Meaning.Meaning}
+use Rattle.npf_core.specs.{NextState.{is_id, stepped, after_act}, Replies.{claimed_id, step_answer, reply_of}, ReplayLaw.{start_of, step_of}}
 use Rattle.npf_core.proofs.EqualityLemmas.{same_conn_id}
 
 -- not claimed yet, Building under a seat, Live with a flow and a count of steps, Dead, or freed
@@ -93,10 +79,6 @@ stage_at-last x inc h = grind (arith, nat_tests)
 life_at-stage : {S : Type 0} (x : Slot S) (stage : Stage S) (inc : ℕ) → (x.inc == inc) ≡ false → life_at (record x { stage = stage }) inc ≡ life_at x inc
 life_at-stage x stage inc e = rw e refl
 
-and-false : (a b : Bool) → b ≡ false → (a && b) ≡ false
-and-false true b e = e
-and-false false b e = refl
-
 -- an act on `other` is an act on this very identity, or leaves its life alone
 pub data Touch {S : Type 0} (other id : ConnId) (was now before next : Life S) : Type 0 where
   own : other ≡ id → before ≡ was → next ≡ now → Touch other id was now before next
@@ -121,7 +103,7 @@ module _ {S : Type 0} (k : Machine S) (other id : ConnId) (f : Stage S → Stage
   at_slot slots false e =
       let x = k.slot id.slot in
       let here : x.inc ≡ other.inc = sym (ap (λ (y : Slot S). y.inc) (ap k.slot slots)) ∙ last in
-      apart (and-false (other.slot == id.slot) (other.inc == id.inc) e) (life_at-stage x (f x.stage) id.inc (ap (λ n. n == id.inc) here ∙ e))
+      apart (and_right (other.slot == id.slot) (other.inc == id.inc) e) (life_at-stage x (f x.stage) id.inc (ap (λ n. n == id.inc) here ∙ e))
 
   pub touch : Touched (life_at (cond (other.slot == id.slot) (record (k.slot id.slot) { stage = f (k.slot id.slot).stage }) (k.slot id.slot)) id.inc)
   touch = by_slot (other.slot == id.slot) refl
@@ -169,7 +151,7 @@ life_at-vacant x inc e h = last_or (x.inc == inc) refl
 pub IsClaimed-is : {S : Type 0} (stage x : Stage S) → stage ≡ x → IsClaimed x → IsClaimed stage
 IsClaimed-is stage x e h = rw e h
 
-IsDue-claimed : {S A R : Type 0} (m : Meaning S A R) (now : ℕ) (stage : Stage S) → IsDue m now stage → IsClaimed stage
+pub IsDue-claimed : {S A R : Type 0} (m : Meaning S A R) (now : ℕ) (stage : Stage S) → IsDue m now stage → IsClaimed stage
 IsDue-claimed m now Vacant h = h
 IsDue-claimed m now (Building seat) h = tt
 IsDue-claimed m now (Live flow n) h = tt

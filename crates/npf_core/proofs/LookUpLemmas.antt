@@ -1,21 +1,11 @@
 -- The stale look-up law.
 use Rattle.std.proofs.Common.{◌≡◌, ◌⊎◌, ℕ, List, [], ◌∷◌, ◌++◌, Some, refl, ap, inl, inr}
-use Rattle.npf_types.specs.declared.key.Key.{Key}
-use Rattle.npf_types.specs.declared.key.Way.{Way}
-use Rattle.npf_core.specs.declared.conn_id.ConnId.{ConnId}
-use Rattle.npf_core.specs.declared.entry.Entry.{Entry}
-use Rattle.npf_core.specs.declared.found.Found.{Found}
-use Rattle.npf_core.specs.declared.reply.Reply.TheVariants.{ToLook, ToStep}
-use Rattle.npf_core.specs.declared.stage.Stage.{Stage}
-use Rattle.npf_core.specs.declared.stage.Stage.TheVariants.{Vacant, Building, Live, Dead}
-use Rattle.npf_core.specs.declared.stepped.Stepped.{Stepped}
-use Rattle.npf_core.specs.History.{MayFollow, after, LegalFrom, state_of, state_from}
-use Rattle.npf_core.specs.LookUpLaw.{Finds, FindsNotLive, LooksUpStale}
-use Rattle.npf_core.specs.Machine.{Machine, opening, stage_of, IsAlive, IsLive, HasNoLive}
-use Rattle.npf_core.specs.Meaning.{Meaning}
-use Rattle.npf_core.specs.Replies.{step_answer}
-use Rattle.npf_core.proofs.HistoryLemmas.{state_from-append, LegalFrom-front, LegalFrom-rest}
-use Rattle.npf_core.proofs.KeyLemmas.{holder_stays}
+use Rattle.npf_types.specs.declared.key.{Key.Key, Way.Way}
+use Rattle.npf_core.specs.declared.{conn_id.ConnId.ConnId, entry.Entry.Entry, found.Found.Found, reply.Reply.TheVariants.{ToLook, ToStep}, stage.Stage.Stage}
+use Rattle.npf_core.specs.declared.{stage.Stage.TheVariants.{Vacant, Building, Live, Dead}, stepped.Stepped.Stepped}
+use Rattle.npf_core.specs.{History.{MayFollow, after, LegalFrom, state_of, state_from}, LookUpLaw.{Finds, FindsNotLive, LooksUpStale}}
+use Rattle.npf_core.specs.{Machine.{Machine, opening, stage_of, IsAlive, IsLive, HasNoLive}, Meaning.Meaning, Replies.step_answer}
+use Rattle.npf_core.proofs.{HistoryLemmas.{state_from-append, LegalFrom-front, LegalFrom-rest}, KeyLemmas.holder_stays}
 
 live_or_not : {S : Type 0} (stage : Stage S) → IsLive stage ⊎ (¬ IsLive stage)
 live_or_not Vacant = inr (λ h. h)

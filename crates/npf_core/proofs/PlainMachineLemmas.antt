@@ -1,30 +1,20 @@
 -- What a plain machine's lists make of its state.
-use Rattle.std.proofs.Common.{◌≡◌, ℕ, Bool, true, false, List, ◌∷◌, [], ◌++◌, Some, cond, refl, ap, sym, ◌∙◌}
-use Rattle.std.specs.Prelude.{◌==◌, IsTrue, filter, ◌↔◌}
-use Rattle.std.specs.List.{list_any}
-use Rattle.std.proofs.lemmas.Bool.Decides.{Decides-eqb}
-use Rattle.npf_types.specs.declared.key.Key.{Key}
-use Rattle.npf_types.specs.declared.key.Way.{Way}
-use Rattle.npf_core.specs.declared.act.Act.TheVariants.{Hold, Free}
-use Rattle.npf_core.specs.declared.conn_id.ConnId.{ConnId}
-use Rattle.npf_core.specs.declared.found.Found.{Found}
-use Rattle.npf_core.specs.declared.holding.Holding.{Holding}
-use Rattle.npf_core.specs.declared.stage.Stage.{Stage}
-use Rattle.npf_core.specs.declared.stage.Stage.TheVariants.{Vacant, Dead}
-use Rattle.npf_core.specs.Holding.{holder_in, is_each_once}
-use Rattle.npf_core.specs.Machine.{Machine, stage_of, is_key, IsClaimed, HoldsSome, HoldsNone}
-use Rattle.npf_core.specs.Meaning.{Meaning}
-use Rattle.npf_core.specs.NextState.{is_found, is_id, holder_or, given_up, after_act}
-use Rattle.npf_core.specs.PlainMachine.{at_stage}
-use Rattle.npf_core.proofs.HoldingLemmas.{holder_in-push, holder_in-filter, is_other, held_by_any, any_by_held}
-use Rattle.npf_core.proofs.LifeLemmas.{IsClaimed-last, IsClaimed-is}
+use Rattle.std.{proofs.Common.{◌≡◌, ℕ, Bool, true, false, List, ◌∷◌, [], ◌++◌, Some, cond, refl, ap, sym, ◌∙◌}, specs.Prelude.{◌==◌, IsTrue, filter, ◌↔◌}}
+use Rattle.std.{specs.List.list_any, proofs.lemmas.Bool.Decides.Decides-eqb}
+use Rattle.npf_types.specs.declared.key.{Key.Key, Way.Way}
+use Rattle.npf_core.specs.declared.{act.Act.TheVariants.{Hold, Free}, conn_id.ConnId.ConnId, found.Found.Found, hold.Holding.Holding, stage.Stage.Stage}
+use Rattle.npf_core.specs.{declared.stage.Stage.TheVariants.{Vacant, Dead}, Hold.{holder_in, is_each_once}}
+use Rattle.npf_core.specs.{Machine.{Machine, stage_of, is_key, IsClaimed, HoldsSome, HoldsNone}, Meaning.Meaning}
+use Rattle.npf_core.specs.{NextState.{is_found, is_id, holder_or, given_up, after_act}, PlainMachine.at_stage}
+use Rattle.npf_core.proofs.{HoldingLemmas.{holder_in-push, holder_in-filter, is_other, held_by_any, any_by_held}, LifeLemmas.{IsClaimed-last, IsClaimed-is}}
 use Rattle.npf_core.proofs.EqualityLemmas.{is_key-Decides, is_found-Decides, is_id-Decides}
 
 -- a machine is its slots and its holders
 pub same_machine : {S : Type 0} (k l : Machine S) → ((s : ℕ) → k.slot s ≡ l.slot s) → ((key : Key) → k.holder key ≡ l.holder key) → k ≡ l
 same_machine k l slots holders = λ i. record { slot = λ s. slots s i; holder = λ key. holders key i }
 
-pub given_state : (xs : List Holding) (key : Key) (found : Found) → holder_in (xs ++ record { key = key; found = found } ∷ []) ≡ (λ other. cond (is_key key other) (holder_or (holder_in xs other) found) (holder_in xs other))
+pub given_state : (xs : List Holding) (key : Key) (found : Found) →
+    holder_in (xs ++ record { key = key; found = found } ∷ []) ≡ (λ other. cond (is_key key other) (holder_or (holder_in xs other) found) (holder_in xs other))
 given_state xs key found = λ i other. holder_in-push xs (record { key = key; found = found }) other i
 
 pub taken_state : (xs : List Holding) (found : Found) → IsTrue (is_each_once xs) → holder_in (filter (is_other found) xs) ≡ (λ key. given_up (holder_in xs key) found)

@@ -1,25 +1,14 @@
 -- The replay law.
 use Rattle.std.proofs.Common.{◌≡◌, ℕ, ◌+◌, ◌-◌, ◌^◌, min, true, List, [], ◌∷◌, ◌++◌, length, Option, Some, None, refl, sym, ◌∙◌, arith, length-append, append-nil}
-use Rattle.std.specs.List.{filter_map}
-use Rattle.std.proofs.lemmas.List.Elements.{filter_map-append}
+use Rattle.std.{specs.List.filter_map, proofs.lemmas.List.Elements.filter_map-append}
 use Rattle.npf_types.specs.declared.key.Way.{Way}
-use Rattle.npf_core.specs.declared.act.Act.{Act}
-use Rattle.npf_core.specs.declared.act.Act.TheVariants.{Start, Step}
-use Rattle.npf_core.specs.declared.conn_id.ConnId.{ConnId}
-use Rattle.npf_core.specs.declared.entry.Entry.{Entry}
-use Rattle.npf_core.specs.declared.reply.Reply.{Reply}
-use Rattle.npf_core.specs.declared.reply.Reply.TheVariants.{ToStep}
-use Rattle.npf_core.specs.declared.stage.Stage.{Stage}
-use Rattle.npf_core.specs.declared.stage.Stage.TheVariants.{Vacant, Building, Live, Dead}
-use Rattle.npf_core.specs.declared.stepped.Stepped.{Stepped}
-use Rattle.npf_core.specs.History.{Legal, state_of}
-use Rattle.npf_core.specs.Machine.{opening, stage_of}
-use Rattle.npf_core.specs.Meaning.{Meaning}
-use Rattle.npf_core.specs.NextState.{is_id}
-use Rattle.npf_core.specs.Replies.{step_answer}
+use Rattle.npf_core.specs.declared.{act.Act.{Act, TheVariants.{Start, Step}}, conn_id.ConnId.ConnId, entry.Entry.Entry, reply.Reply.{Reply, TheVariants.ToStep}}
+use Rattle.npf_core.specs.{declared.{stage.Stage.{Stage, TheVariants.{Vacant, Building, Live, Dead}}, stepped.Stepped.Stepped}, History.{Legal, state_of}}
+use Rattle.npf_core.specs.{Machine.{opening, stage_of}, Meaning.Meaning, NextState.is_id, Replies.step_answer}
 use Rattle.npf_core.specs.ReplayLaw.{start_of, step_of, starts, done_steps, replay, IsReplay, ReplaysFlows, ReplaysAnswers}
 use Rattle.npf_core.proofs.HistoryLemmas.{LegalFrom-front, MayFollow-split, by_entries}
-use Rattle.npf_core.proofs.LifeLemmas.{Life, to_come, built, lives, killed, gone, stage_in, stage_of-is, life_of, IsSilent, Moves, keeps, claims, starts as is_start, steps as is_step, abandons, expires, frees, entry_moves, life_of-opening}
+use Rattle.npf_core.proofs.LifeLemmas.{Life, to_come, built, lives, killed, gone, stage_in, stage_of-is, life_of, IsSilent, Moves, keeps, claims}
+use Rattle.npf_core.proofs.LifeLemmas.{starts as is_start, steps as is_step, abandons, expires, frees, entry_moves, life_of-opening}
 use Rattle.npf_core.proofs.EqualityLemmas.{is_id-Decides}
 
 passed : {X Y : Type 0} (h : X → Option Y) (xs : List X) (x : X) → h x ≡ None → filter_map h (xs ++ x ∷ []) ≡ filter_map h xs

@@ -1,19 +1,8 @@
 -- A history that is made act by act.
 use Rattle.std.proofs.Common.{◌≡◌, ℕ, ◌+◌, ◌<◌, List, [], ◌∷◌, ◌++◌, length, take, get_or, Option, Some, None, refl, ap, sym, ◌∙◌, add-one}
-use Rattle.std.specs.Prelude.{slice_get}
-use Rattle.std.proofs.lemmas.List.{map-append}
-use Rattle.std.proofs.lemmas.Option.{slice_get-get_or}
-use Rattle.std.proofs.Math.Seq.{take-suc}
-use Rattle.npf_core.specs.declared.act.Act.{Act}
-use Rattle.npf_core.specs.declared.entry.Entry.{Entry}
-use Rattle.npf_core.specs.declared.replaying.Asked.{Asked}
-use Rattle.npf_core.specs.declared.reply.Reply.{Reply}
-use Rattle.npf_core.specs.Allowed.{Allows}
-use Rattle.npf_core.specs.History.{Legal, state_of}
-use Rattle.npf_core.specs.Machine.{Machine}
-use Rattle.npf_core.specs.Meaning.{Meaning}
-use Rattle.npf_core.specs.Playing.{IsPlayed, Plays}
-use Rattle.npf_core.specs.Replaying.{asked_in, ReplayStopsAt}
+use Rattle.std.{specs.Prelude.slice_get, proofs.{lemmas.{List.map-append, Option.slice_get-get_or}, Math.Seq.take-suc}}
+use Rattle.npf_core.specs.{declared.{act.Act.Act, entry.Entry.Entry, replays.Asked.Asked, reply.Reply.Reply}, Allowed.Allows, History.{Legal, state_of}}
+use Rattle.npf_core.specs.{Machine.Machine, Meaning.Meaning, Plays.{IsPlayed, Plays}, Replays.{asked_in, ReplayStopsAt}}
 use Rattle.npf_core.proofs.HistoryLemmas.{Legal-append, state_of-append}
 
 read_at : {X : Type 0} (xs : List X) (i : ℕ) (x : X) → i < length xs → x ≡ get_or xs i x → slice_get xs i ≡ Some x

@@ -3,7 +3,7 @@ use Rattle.std.specs.Prelude.{◌≡◌, ℕ, ◌↔◌, List, [], ◌∷◌, �
 use Rattle.npf_core.specs.declared.entry.Entry.{Entry}
 use Rattle.npf_core.specs.History.{MayFollow, after, Legal, state_of, IsPrefix, by}
 use Rattle.npf_core.specs.Meaning.{Meaning}
-use Rattle.npf_core.specs.Replaying.{asked_in}
+use Rattle.npf_core.specs.Replays.{asked_in}
 
 -- a prefix of a legal history is legal
 abbrev pub PrefixesAreLegal : {S A R : Type 0} → Meaning S A R → ℕ → Type 0

@@ -5,7 +5,7 @@ pub mod Copying
 pub mod History
 pub mod HistoryLaw
 pub mod HolderLaw
-pub mod Holding
+pub mod Hold
 pub mod IdentityLaw
 pub mod KeyLaw
 pub mod LookUpLaw
@@ -13,8 +13,8 @@ pub mod Machine
 pub mod Meaning
 pub mod NextState
 pub mod PlainMachine
-pub mod Playing
-pub mod Replaying
+pub mod Plays
+pub mod Replays
 pub mod ReplayLaw
 pub mod Replies
 pub mod Slot

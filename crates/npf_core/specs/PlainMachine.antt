@@ -6,7 +6,7 @@ use Rattle.npf_core.specs.declared.found.Found.{Found}
 use Rattle.npf_core.specs.declared.plain_machine.PlainMachine.{PlainMachine}
 use Rattle.npf_core.specs.declared.stage.Stage.{Stage}
 use Rattle.npf_core.specs.Allowed.{MayClaim}
-use Rattle.npf_core.specs.Holding.{holder_in}
+use Rattle.npf_core.specs.Hold.{holder_in}
 use Rattle.npf_core.specs.Machine.{Machine, is_key}
 use Rattle.npf_core.specs.NextState.{holder_or, given_up}
 use Rattle.npf_core.specs.Slot.{slot_in}

@@ -1,11 +1,11 @@
 // The machine as a plain value, for tests: a look-up walks its list of keys, so it isn't meant for many connections.
 ghost use Rattle.std.specs.Prelude.{◌≡◌, ℕ, ◌<◌, ◌-◌, ◌^◌, ◌↔◌, length, slice_get, IsTrue, IfOk, IfSome, IfNone, OnOk, OnErr};
-ghost use Rattle.npf_core.specs.Holding.{is_each_once};
+ghost use Rattle.npf_core.specs.Hold.{is_each_once};
 ghost use Rattle.npf_core.specs.Slot.{NextIncarnationsFit};
 
 use crate::conn_id::ConnId;
 use crate::found::Found;
-use crate::holding::{Holding, drop_held, holder_in, is_held, is_held_by};
+use crate::hold::{Holding, drop_held, holder_in, is_held, is_held_by};
 use crate::slot::Slot;
 use crate::stage::Stage;
 use npf_types::{Key, NoMemory, Way};

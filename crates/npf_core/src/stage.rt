@@ -1,3 +1,5 @@
+// The stages of a connection's life.
+
 /// What a slot is at.
 ///
 /// What can no longer be asked of a connection isn't kept: its seat once it is Live, its flow and its count once it is Dead.

@@ -1,3 +1,5 @@
+// What a step of a connection came to.
+
 /// What a step of a connection is answered.
 #[derive(Debug, PartialEq, Eq, Drop)]
 pub enum Stepped<R> {

@@ -1,14 +1,14 @@
 // Rows of stores: the connections of a run as one value, by the law `Datagrams`.
 ghost use Rattle.std.specs.Prelude.{◌≡◌, IfOk};
 ghost use Rattle.npf_oneturn_store.specs.Store.{phase_of};
-ghost use Rattle.npf_oneturn_store.specs.declared.phase.Phase.{Phase};
+ghost use Rattle.npf_oneturn_store.specs.declared.phase.SlotPhase.{SlotPhase};
 
 use crate::datagrams::{Datagrams, Talk};
 use crate::replies::Told;
 use crate::words::{parse_id, parse_way};
 use anyhow::{Context, Result, anyhow};
 use npf_core::{ConnId, Found, Held, Reply, Stepped};
-use npf_oneturn_store::{Phase, Store, step};
+use npf_oneturn_store::{SlotPhase, Store, step};
 use npf_types::{Key, Way};
 use std::alloc::Global;
 
@@ -92,7 +92,7 @@ fn open(store: &mut Store<Talk>, port: u64) -> Result<ConnId> {
 
 fn hold(store: &mut Store<Talk>, id: ConnId, key: Key, way: Way) -> Result<Held> {
     match (store.phase(id), store.held(id, way)) {
-        (Phase::Vacant, _) => Err(anyhow!("not claimed")),
+        (SlotPhase::Vacant, _) => Err(anyhow!("not claimed")),
         (_, Some(_)) => Err(anyhow!("it holds a key of that way")),
         (_, None) => Ok(store.hold(id, key, way)),
     }
@@ -100,8 +100,8 @@ fn hold(store: &mut Store<Talk>, id: ConnId, key: Key, way: Way) -> Result<Held>
 
 fn kill(store: &mut Store<Talk>, id: ConnId) -> Result<Reply<bool>> {
     match store.phase(id) {
-        Phase::Vacant | Phase::Dead => Err(anyhow!("neither building nor live")),
-        Phase::Building | Phase::Live { .. } => {
+        SlotPhase::Vacant | SlotPhase::Dead => Err(anyhow!("neither building nor live")),
+        SlotPhase::Building | SlotPhase::Live { .. } => {
             store.kill(id);
             Ok(Reply::Nothing)
         }

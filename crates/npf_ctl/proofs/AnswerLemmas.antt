@@ -1,16 +1,12 @@
 -- What the program answers, by how the work on its words ended.
-use Rattle.std.proofs.Common.{◌≡◌, ◌≢◌, ◌⊎◌, ◌∙◌, ⊎_elim, inl, inr, ℕ, false, List, [], sym, arith}
-use Rattle.std.proofs.lemmas.Bool.{false≢true}
+use Rattle.std.proofs.{Common.{◌≡◌, ◌≢◌, ◌⊎◌, ◌∙◌, inl, inr, ℕ, false, List, [], refl, sym, ap, subst, arith}, lemmas.Bool.false≢true}
 use Rattle.npf_outside.specs.Sink.{Appends, SinkMoment}
 use Rattle.npf_ctl_messages.specs.declared.fault.CommandFault.{CommandFault}
 use Rattle.npf_ctl_messages.specs.declared.fault.CommandFault.TheVariants.{Usage, Configuration, Unread, Long, Saved, Capture, Line, Many, Unwritten, OutputUnwritten, NoMemory}
 use Rattle.npf_ctl_messages.specs.Message.{status_of_fault}
 use Rattle.npf_ctl_words.specs.CommandLine.{is_command_line}
-use Rattle.npf_ctl.specs.Ends.{AnswersWords, SaysFault}
-use Rattle.npf_ctl.specs.Faults.{ChangesNoFile, IsBetweenFiles, IsFaulted, IsUntouched, KeepsFiles, LeavesFiles, MeetsFault, PutsFront, PutsNothing}
-use Rattle.npf_ctl.specs.Running.{Moment}
-use Rattle.npf_ctl.specs.Top.{HasStatus, DoesWords, IsQuiet, RanOutOfNodes}
-use Rattle.npf_ctl.proofs.EndLemmas.{reported_front}
+use Rattle.npf_ctl.specs.{Ends.{AnswersWords, SaysFault}, Faults.{ChangesNoFile, IsFaulted, IsUntouched, LeavesFiles, MeetsFault, PutsFront, PutsNothing}}
+use Rattle.npf_ctl.{specs.{Run.Moment, Top.{HasStatus, DoesWords, IsQuiet, RanOutOfNodes}}, proofs.EndLemmas.reported_front}
 
 -- no fault has the status of work that was done
 never_zero : (fault : CommandFault) → status_of_fault fault ≢ 0
@@ -35,35 +31,23 @@ module _ (words : List (List ℕ)) (before after : Moment) where
   put_before _ (MeetsFault.in_loading said loaded comes untouched) = inl untouched.put
   put_before _ (MeetsFault.in_workload said holds comes untouched) = inl untouched.put
   put_before _ (MeetsFault.in_output rose same front) = inr front
-  put_before _ (MeetsFault.in_writing {run = run} {plan = plan} {outputs = outputs} {outcomes = outcomes} said named rose reports passed) =
-      inr (reported_front words before after run plan said outputs outcomes reports)
-  put_before _ (MeetsFault.in_saving {run = run} {plan = plan} {outputs = outputs} {outcomes = outcomes} said named rose reports written passed) =
-      inr (reported_front words before after run plan said outputs outcomes reports)
+  put_before _ (MeetsFault.in_writing {run = run} {plan = plan} {outputs = outputs} {outcomes = outcomes} fails reports passed) =
+      inr (reported_front words before after run plan fails.said outputs outcomes reports)
+  put_before _ (MeetsFault.in_saving {run = run} {plan = plan} {outputs = outputs} {outcomes = outcomes} fails passed) =
+      inr (reported_front words before after run plan fails.said outputs outcomes fails.reports)
   put_before _ (MeetsFault.in_memory put kept) = put
 
-  -- nor did a file change before any, unless a write failed or memory ran out between two
-  pub kept_before : (fault : CommandFault) → MeetsFault words before after fault → KeepsFiles before after ⊎ IsBetweenFiles words before after
-  kept_before _ (MeetsFault.in_words not untouched) = inl (inl untouched.files)
-  kept_before _ (MeetsFault.in_run said comes untouched) = inl (inl untouched.files)
-  kept_before _ (MeetsFault.in_nodes said named prepared lacks put same) = inl (inl same)
-  kept_before _ (MeetsFault.in_loading said loaded comes untouched) = inl (inl untouched.files)
-  kept_before _ (MeetsFault.in_workload said holds comes untouched) = inl (inl untouched.files)
-  kept_before _ (MeetsFault.in_output rose same front) = inl (inl same)
-  kept_before _ (MeetsFault.in_writing said named rose reports passed) = inl (inr rose)
-  kept_before _ (MeetsFault.in_saving said named rose reports written passed) = inl (inr rose)
-  kept_before _ (MeetsFault.in_memory put kept) = kept
-
-  -- with any status but 1 memory didn't run out
-  leaves_by : (status : ℕ) (fault : CommandFault) → MeetsFault words before after fault → status ≡ status_of_fault fault → LeavesFiles words before after status
-  leaves_by status _ (MeetsFault.in_words not untouched) is = inl (inl untouched.files)
-  leaves_by status _ (MeetsFault.in_run said comes untouched) is = inl (inl untouched.files)
-  leaves_by status _ (MeetsFault.in_nodes said named prepared lacks put same) is = inl (inl same)
-  leaves_by status _ (MeetsFault.in_loading said loaded comes untouched) is = inl (inl untouched.files)
-  leaves_by status _ (MeetsFault.in_workload said holds comes untouched) is = inl (inl untouched.files)
-  leaves_by status _ (MeetsFault.in_output rose same front) is = inl (inl same)
-  leaves_by status _ (MeetsFault.in_writing said named rose reports passed) is = inl (inr rose)
-  leaves_by status _ (MeetsFault.in_saving said named rose reports written passed) is = inl (inr rose)
-  leaves_by status _ (MeetsFault.in_memory put kept) is = ⊎_elim inl (λ between. inr (is, between)) kept
+  -- nor did a file change before any, unless a write failed, or memory ran out between two, and then the status is 1
+  pub leaves : (status : ℕ) (fault : CommandFault) → MeetsFault words before after fault → (fault ≡ NoMemory → status ≡ 1) → LeavesFiles words before after status
+  leaves status _ (MeetsFault.in_words not untouched) memory = LeavesFiles.unchanged untouched.files
+  leaves status _ (MeetsFault.in_run said comes untouched) memory = LeavesFiles.unchanged untouched.files
+  leaves status _ (MeetsFault.in_nodes said named prepared lacks put same) memory = LeavesFiles.unchanged same
+  leaves status _ (MeetsFault.in_loading said loaded comes untouched) memory = LeavesFiles.unchanged untouched.files
+  leaves status _ (MeetsFault.in_workload said holds comes untouched) memory = LeavesFiles.unchanged untouched.files
+  leaves status _ (MeetsFault.in_output rose same front) memory = LeavesFiles.unchanged same
+  leaves status _ (MeetsFault.in_writing fails reports passed) memory = LeavesFiles.at_first fails
+  leaves status _ (MeetsFault.in_saving fails passed) memory = LeavesFiles.at_second fails
+  leaves status _ (MeetsFault.in_memory put kept) memory = subst (LeavesFiles words before after) (sym (memory refl)) kept
 
   -- with a quiet status nothing was put, no file changed, and the table of connections was asked nothing, unless it had no node
   pub record StaysQuiet (status : ℕ) : Type 0 where
@@ -82,8 +66,8 @@ module _ (words : List (List ℕ)) (before after : Moment) where
   quiet_by status _ (MeetsFault.in_loading said loaded comes untouched) is quiet = stays_quiet untouched
   quiet_by status _ (MeetsFault.in_workload said holds comes untouched) is quiet = stays_quiet untouched
   quiet_by status _ (MeetsFault.in_output rose same front) is quiet = absurd (quiet.2 is)
-  quiet_by status _ (MeetsFault.in_writing said named rose reports passed) is quiet = absurd (quiet.2 is)
-  quiet_by status _ (MeetsFault.in_saving said named rose reports written passed) is quiet = absurd (quiet.2 is)
+  quiet_by status _ (MeetsFault.in_writing fails reports passed) is quiet = absurd (quiet.2 is)
+  quiet_by status _ (MeetsFault.in_saving fails passed) is quiet = absurd (quiet.2 is)
   quiet_by status _ (MeetsFault.in_memory put kept) is quiet = absurd (quiet.1 is)
 
   module _ (old new : SinkMoment) (status : ℕ) where
@@ -94,8 +78,8 @@ module _ (words : List (List ℕ)) (before after : Moment) where
     said_fault fault cause (SaysFault.untold memory put) = AnswersWords.refused (record {
       fault = NoMemory;
       status_is = memory;
-      cause = MeetsFault.in_memory (put_before fault cause) (kept_before fault cause);
-      line = inr (record { memory = memory; put = ⊎_elim inl (λ whole. inr (fault, (cause, whole))) put });
+      cause = MeetsFault.in_memory (put_before fault cause) (leaves 1 fault cause (λ e. refl));
+      line = inr (record { memory = memory; put = put });
       flushed = λ not. absurd (not memory);
     })
 
@@ -113,7 +97,7 @@ module _ (words : List (List ℕ)) (before after : Moment) where
 
     pub was_kept : AnswersWords words before after old new status → status ≢ 0 → LeavesFiles words before after status
     was_kept (AnswersWords.done zero does flushed silent) not = absurd (not zero)
-    was_kept (AnswersWords.refused faulted) not = leaves_by status faulted.fault faulted.cause faulted.status_is
+    was_kept (AnswersWords.refused faulted) not = leaves status faulted.fault faulted.cause (λ e. faulted.status_is ∙ ap status_of_fault e)
 
     -- words that are no command line are refused
     pub refuses_usage : is_command_line words ≡ false → AnswersWords words before after old new status → HasStatus 2 status
@@ -126,6 +110,6 @@ module _ (words : List (List ℕ)) (before after : Moment) where
       by _ (MeetsFault.in_loading said loaded comes untouched) is = absurd (false≢true (sym not ∙ said.taken))
       by _ (MeetsFault.in_workload said holds comes untouched) is = absurd (false≢true (sym not ∙ said.taken))
       by _ (MeetsFault.in_output rose same front) is = absurd (false≢true (sym not ∙ front.said.taken))
-      by _ (MeetsFault.in_writing said named rose reports passed) is = absurd (false≢true (sym not ∙ said.taken))
-      by _ (MeetsFault.in_saving said named rose reports written passed) is = absurd (false≢true (sym not ∙ said.taken))
+      by _ (MeetsFault.in_writing fails reports passed) is = absurd (false≢true (sym not ∙ fails.said.taken))
+      by _ (MeetsFault.in_saving fails passed) is = absurd (false≢true (sym not ∙ fails.said.taken))
       by _ (MeetsFault.in_memory put kept) is = inr is

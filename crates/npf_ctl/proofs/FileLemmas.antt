@@ -2,16 +2,12 @@
 use Rattle.std.proofs.Common.{◌≡◌, ◌≢◌, ◌∙◌, ℕ, List, [], Option, Some, None, refl, sym, ap, subst, arith, append-nil}
 use Rattle.npf_config.specs.Reading.{OnlyReads}
 use Rattle.npf_ctl_input.specs.Around.{Around}
-use Rattle.npf_outside.specs.Files.{FilesMoment, Has, SameFiles, SameOthers, Tree}
-use Rattle.npf_outside.specs.Sink.{Appends, AppendsFront, SinkMoment}
+use Rattle.npf_outside.specs.{Files.{FilesMoment, Has, SameFiles, SameOthers, Tree}, Sink.{Appends, AppendsFront, SinkMoment}}
 use Rattle.npf_packet.specs.declared.extent.IpExtent.{IpExtent}
-use Rattle.npf_ctl_output.specs.Extents.{AreExtentsOf}
+use Rattle.npf_ctl_output.specs.{Extents.AreExtentsOf, File.{HasReadOn, KeepsUnnamed}}
 use Rattle.npf_traffic.specs.declared.packet.Packet.{Packet}
 use Rattle.npf_outside.proofs.SinkLemmas.{Appends-nothing, IsPutTo-stops}
-use Rattle.npf_ctl_output.specs.Writing.{HasReadOn, KeepsUnnamed}
-use Rattle.npf_ctl.specs.Faults.{IsUntouched}
-use Rattle.npf_ctl.specs.Running.{Moment}
-use Rattle.npf_ctl.specs.Top.{KeepsOtherFiles, NamesOutput}
+use Rattle.npf_ctl.specs.{Faults.IsUntouched, Run.Moment, Top.{KeepsOtherFiles, NamesOutput}}
 
 pub same_as_itself : (contents : Option Tree) → SameFiles contents contents
 same_as_itself None = tt
@@ -73,6 +69,15 @@ same_through None None (Some new) one two = absurd two
 same_through None (Some now) new one two = absurd one
 same_through (Some old) None new one two = absurd one
 same_through (Some old) (Some now) None one two = absurd two
+
+-- the others stay while no file is written
+pub others_on : (name : List ℕ) (old now new : Option Tree) → SameOthers old now name → SameFiles now new → SameOthers old new name
+others_on name None None None one two = tt
+others_on name (Some old) (Some now) (Some new) one two = λ other not. two other ∙ one other not
+others_on name None None (Some new) one two = absurd two
+others_on name None (Some now) new one two = absurd one
+others_on name (Some old) None new one two = absurd one
+others_on name (Some old) (Some now) None one two = absurd two
 
 pub others_itself : (contents : Option Tree) (file : List ℕ) → SameOthers contents contents file
 others_itself None file = tt

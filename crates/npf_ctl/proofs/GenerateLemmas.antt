@@ -2,29 +2,20 @@
 use Rattle.std.proofs.Common.{◌≡◌, inl, refl, ℕ, List, Ok, Err, Result, OnOk, IfErr}
 use Rattle.npf_engine.specs.declared.outcome.Outcome.{Outcome}
 use Rattle.npf_ctl_messages.specs.declared.fault.CommandFault.{CommandFault}
-use Rattle.npf_outside.specs.Files.{SameFiles}
-use Rattle.npf_outside.specs.Sink.{Appends, AppendsFront}
+use Rattle.npf_outside.specs.{Files.SameFiles, Sink.{Appends, AppendsFront}}
 use Rattle.npf_connsave.proofs.KeysLemmas.{sole_self}
-use Rattle.npf_ctl_output.specs.Putting.{HasPutFault}
-use Rattle.npf_ctl_prepare.specs.declared.prepare.Prepared.{Prepared}
-use Rattle.npf_ctl_prepare.specs.View.{run_plan_of}
+use Rattle.npf_ctl_output.specs.SinkText.{HasPutFault}
+use Rattle.npf_ctl_prepare.specs.{declared.prepare.Prepared.Prepared, View.run_plan_of}
 use Rattle.npf_report.specs.TotalText.{total_text}
-use Rattle.npf_traffic.specs.declared.packet.Packet.{Packet}
-use Rattle.npf_runner.specs.declared.phase.Spread.TheVariants.{Rr}
+use Rattle.npf_traffic.specs.declared.{packet.Packet.Packet, phase.Spread.TheVariants.Rr}
 use Rattle.npf_runner.specs.Plays.{PlaysPhases}
-use Rattle.npf_ctl_words.specs.declared.command.Command.TheVariants.{Gen}
-use Rattle.npf_ctl_words.specs.CommandLine.{SaysCommand}
-use Rattle.npf_ctl.specs.Ends.{EndsIn, PreparesGenerated}
-use Rattle.npf_ctl.specs.Faults.{IsUntouched, MeetsFault}
-use Rattle.npf_ctl.specs.Fragments.{HasWholePackets}
-use Rattle.npf_ctl.specs.Generated.{PreparesOf}
-use Rattle.npf_ctl.specs.Running.{Moment}
-use Rattle.npf_ctl.specs.Texts.{TextOf}
-use Rattle.npf_ctl.proofs.EndLemmas.{early, text_ends}
+use Rattle.npf_ctl_words.specs.{declared.command.Invocation.TheVariants.Gen, CommandLine.SaysCommand}
+use Rattle.npf_ctl.specs.{Ends.{EndsIn, PreparesGenerated}, Faults.{IsUntouched, LeavesFiles, MeetsFault}, Fragments.HasWholePackets, Generated.PreparesOf}
+use Rattle.npf_ctl.{specs.{Run.Moment, Texts.TextOf}, proofs.EndLemmas.{early, text_ends}}
 
 module _ (words : List (List ℕ)) (before after : Moment) (number : ℕ) (said : SaysCommand words (Gen number)) where
   pub unprepared : IsUntouched before after → (fault : CommandFault) → PreparesGenerated number (Err fault) → MeetsFault words before after fault
-  unprepared untouched _ PreparesGenerated.unmade = MeetsFault.in_memory (inl untouched.put) (inl (inl untouched.files))
+  unprepared untouched _ PreparesGenerated.unmade = MeetsFault.in_memory (inl untouched.put) (LeavesFiles.unchanged untouched.files)
   unprepared untouched fault (PreparesGenerated.made {tree = tree} holds comes) =
       early words before after (λ why. PreparesOf tree (Err why)) (λ why says. MeetsFault.in_workload said holds says untouched) untouched.put untouched.files fault comes
 

@@ -1,40 +1,21 @@
 -- What must be refused is, and what can be done is done, where contents are told and no read fails.
-use Rattle.std.proofs.Common.{◌≡◌, ◌∙◌, ◌⊎◌, ⊎_elim, inl, inr, ℕ, true, List, Some, None, Ok, Err, Result, refl, sym, subst, arith}
-use Rattle.std.proofs.lemmas.Bool.{false≢true}
-use Rattle.npf_config_law.specs.Answers.{AreOne}
-use Rattle.npf_config_law.specs.Entries.{AreOneConfiguration}
-use Rattle.npf_outside.specs.Counts.{StoodStill}
-use Rattle.npf_outside.specs.Files.{Tree}
-use Rattle.npf_outside.specs.Sink.{SinkMoment}
-use Rattle.npf_ctl_input.specs.File.{ReadsWell, told_files}
+use Rattle.std.proofs.{Common.{◌≡◌, ◌∙◌, ◌⊎◌, ⊎_elim, inl, inr, ℕ, true, List, Some, None, Ok, Err, Result, refl, sym, subst, arith}, lemmas.Bool.false≢true}
+use Rattle.npf_config_law.specs.{Answers.AreOne, Entries.AreOneConfiguration}
+use Rattle.npf_outside.specs.{Counts.{Rose, StoodStill}, Files.Tree, Sink.SinkMoment}
+use Rattle.npf_ctl_input.specs.{File.{ReadsWell, told_files}, Laws.{FilesAreOfContents, LoadsAreOfContents}, Loads.LoadsAlone}
 use Rattle.npf_engine.specs.declared.outcome.Outcome.{Outcome}
 use Rattle.npf_traffic.specs.declared.packet.Packet.{Packet}
-use Rattle.npf_ctl_input.specs.Laws.{FilesAreOfContents, LoadsAreOfContents}
-use Rattle.npf_ctl_input.specs.Loading.{LoadsAlone}
-use Rattle.npf_ctl_messages.specs.declared.fault.CommandFault.{CommandFault}
-use Rattle.npf_ctl_messages.specs.Message.{status_of_fault}
+use Rattle.npf_ctl_messages.specs.{declared.fault.CommandFault.CommandFault, Message.status_of_fault}
 use Rattle.npf_model.specs.Configuration.{Configuration}
-use Rattle.npf_ctl_prepare.specs.Laws.{RunsAreOfContents}
-use Rattle.npf_ctl_prepare.specs.Prepares.{RunPlan}
-use Rattle.npf_ctl_prepare_law.specs.Laws.{OneLoadAlone, OneRun}
-use Rattle.npf_ctl_prepare_law.specs.Readings.{AreOnePlan}
-use Rattle.npf_ctl_words.specs.declared.command.Command.{Command}
-use Rattle.npf_ctl_words.specs.declared.command.Command.TheVariants as Words
-use Rattle.npf_ctl_words.specs.declared.command.Load.{Load}
-use Rattle.npf_ctl_words.specs.declared.command.Run.{Run}
-use Rattle.npf_ctl_words.specs.CommandLine.{SaysCommand, given_text, is_command_line}
+use Rattle.npf_ctl_prepare.specs.{Laws.RunsAreOfContents, Prepares.RunPlan}
+use Rattle.npf_ctl_prepare_law.specs.{Laws.{OneLoadAlone, OneRun}, Readings.AreOnePlan}
+use Rattle.npf_ctl_words.specs.{declared.command.{Invocation.Invocation, Load.Load, RunWords.RunWords}, CommandLine.{SaysCommand, given_text, is_command_line}}
+use Rattle.npf_ctl_words.specs.declared.command.Invocation.TheVariants as Words
 use Rattle.npf_ctl_words.specs.Laws.{IsSameCommand, IsSameLoad, IsSameRun, OneCommand}
-use Rattle.npf_ctl.specs.Commands.{loaded_by, names_of_run, spread_said}
-use Rattle.npf_ctl.specs.Generated.{HoldsWorkload, PreparesOf, generated_names}
-use Rattle.npf_ctl.specs.Ends.{AnswersWords}
-use Rattle.npf_ctl.specs.Faults.{MeetsFault, PutsFront}
-use Rattle.npf_ctl.specs.Running.{Moment, PlaysWords}
-use Rattle.npf_ctl.specs.Starting.{StartsRun}
-use Rattle.npf_ctl.specs.Texts.{TextOf}
-use Rattle.npf_ctl.specs.Top.{HasStatus, CanDo, DoesCommand, DoesWords, IsOk, MustRefuse, RanOutOfNodes}
-use Rattle.npf_ctl.proofs.EndLemmas.{reported_front}
-use Rattle.npf_ctl.proofs.OneStartLemmas.{HaveOneStatus, one_start, told_alike}
-use Rattle.npf_ctl.proofs.StartLemmas.{started, started_without, starts_of_contents}
+use Rattle.npf_ctl.specs.{Commands.{loaded_by, names_of_run, spread_said}, Generated.{HoldsWorkload, PreparesOf, generated_names}, Ends.AnswersWords}
+use Rattle.npf_ctl.specs.{Faults.{MeetsFault, PutsFront}, Run.{Moment, PlaysWords}, Starting.StartsRun, Texts.TextOf}
+use Rattle.npf_ctl.{specs.Top.{HasStatus, CanDo, DoesCommand, DoesWords, IsOk, MustRefuse, RanOutOfNodes}, proofs.EndLemmas.reported_front}
+use Rattle.npf_ctl.proofs.{OneStartLemmas.{HaveOneStatus, one_start, told_alike}, StartLemmas.{started, started_without, starts_of_contents}}
 
 -- what a reading that came to something agrees with came to something
 ok_of : {A : Type 0} (Same : A → A → Type 0) (a : A) (result : Result A CommandFault) → AreOne Same HaveOneStatus (Ok a) result → IsOk result
@@ -47,11 +28,11 @@ module _ (words : List (List ℕ)) (before after : Moment) (A : Type 0) (ComesTo
     taken : is_command_line words ≡ true
     does : DoesWords words before after → (a : A) × ComesTo (Ok a)
     front : PutsFront words before after → (a : A) × ComesTo (Ok a)
-    runs : {run : Run} {fault : CommandFault} → SaysCommand words (Words.Run run) →
+    runs : {run : RunWords} {fault : CommandFault} → SaysCommand words (Words.Run run) →
         StartsRun before.files after.files (names_of_run run) (given_text run.load) before.pass.slots (Err fault) → ComesTo (Err fault)
-    nodes : {run : Run} {plan : RunPlan} → SaysCommand words (Words.Run run) →
+    nodes : {run : RunWords} {plan : RunPlan} → SaysCommand words (Words.Run run) →
         StartsRun before.files after.files (names_of_run run) (given_text run.load) before.pass.slots (Ok plan) → (a : A) × ComesTo (Ok a)
-    loads : {command : Command} {load : Load} {fault : CommandFault} → SaysCommand words command → loaded_by command ≡ Some load →
+    loads : {command : Invocation} {load : Load} {fault : CommandFault} → SaysCommand words command → loaded_by command ≡ Some load →
         LoadsAlone before.files after.files (given_text load.ifaces) load.conf.now (Err fault) → ComesTo (Err fault)
     generated : {number : ℕ} {tree : Tree} {fault : CommandFault} → SaysCommand words (Words.Gen number) → HoldsWorkload number tree → PreparesOf tree (Err fault) →
         ComesTo (Err fault)
@@ -76,19 +57,22 @@ module _ (words : List (List ℕ)) (before after : Moment) (A : Type 0) (ComesTo
       by other (MeetsFault.in_loading said loaded comes untouched) at = same other (is.loads said loaded comes) at
       by other (MeetsFault.in_workload said holds comes untouched) at = same other (is.generated said holds comes) at
       by _ (MeetsFault.in_output rose unchanged front) at = never (is.front front)
-      by _ (MeetsFault.in_writing {run = run} {plan = plan} {outputs = outputs} {outcomes = outcomes} said named rose reports passed) at =
-          never (is.front (reported_front words before after run plan said outputs outcomes reports))
-      by _ (MeetsFault.in_saving {run = run} {plan = plan} {outputs = outputs} {outcomes = outcomes} said named rose reports written passed) at =
-          never (is.front (reported_front words before after run plan said outputs outcomes reports))
+      by _ (MeetsFault.in_writing {run = run} {plan = plan} {outputs = outputs} {outcomes = outcomes} fails reports passed) at =
+          never (is.front (reported_front words before after run plan fails.said outputs outcomes reports))
+      by _ (MeetsFault.in_saving {run = run} {plan = plan} {outputs = outputs} {outcomes = outcomes} fails passed) at =
+          never (is.front (reported_front words before after run plan fails.said outputs outcomes fails.reports))
       by _ (MeetsFault.in_memory put kept) at = inr at
 
     -- no fault can be told, unless the table has no node for a connection that a run loads
-    none : (Lacks : Type 0) → ((run : Run) → SaysCommand words (Words.Run run) → RanOutOfNodes before.pass after.pass status → Lacks) →
+    none : (Lacks : Type 0) → ((run : RunWords) → SaysCommand words (Words.Run run) → RanOutOfNodes before.pass after.pass status → Lacks) →
         ((result : Result A CommandFault) → ComesTo result → IsOk result) → StoodStill before.out.faults after.out.faults →
-        ((run : Run) → SaysCommand words (Words.Run run) → StoodStill before.files.write_faults after.files.write_faults) → AnswersWords words before after old new status →
+        ((run : RunWords) → SaysCommand words (Words.Run run) → StoodStill before.files.write_faults after.files.write_faults) → AnswersWords words before after old new status →
         HasStatus 0 status ⊎ Lacks
     none Lacks lacking can puts writes (AnswersWords.done zero does flushed silent) = inl (inl zero)
     none Lacks lacking can puts writes (AnswersWords.refused faulted) = by faulted.fault faulted.cause faulted.status_is where
+      unfailed : (run : RunWords) → SaysCommand words (Words.Run run) → Rose before.files.write_faults after.files.write_faults → ⊥
+      unfailed run said rose = let still = writes run said in omega (arith, rose, still.0, still.1)
+
       by : (other : CommandFault) → MeetsFault words before after other → status ≡ status_of_fault other → HasStatus 0 status ⊎ Lacks
       by _ (MeetsFault.in_words not untouched) at = absurd (false≢true (sym not ∙ is.taken))
       by other (MeetsFault.in_run said comes untouched) at = absurd (can (Err other) (is.runs said comes))
@@ -96,19 +80,19 @@ module _ (words : List (List ℕ)) (before after : Moment) (A : Type 0) (ComesTo
       by other (MeetsFault.in_loading said loaded comes untouched) at = absurd (can (Err other) (is.loads said loaded comes))
       by other (MeetsFault.in_workload said holds comes untouched) at = absurd (can (Err other) (is.generated said holds comes))
       by _ (MeetsFault.in_output rose same front) at = absurd (omega (arith, rose, puts.0, puts.1))
-      by _ (MeetsFault.in_writing {run = run} said named rose reports passed) at = absurd (let still = writes run said in omega (arith, rose, still.0, still.1))
-      by _ (MeetsFault.in_saving {run = run} said named rose reports written passed) at = absurd (let still = writes run said in omega (arith, rose, still.0, still.1))
+      by _ (MeetsFault.in_writing {run = run} fails reports passed) at = absurd (unfailed run fails.said fails.failed)
+      by _ (MeetsFault.in_saving {run = run} fails passed) at = absurd (unfailed run fails.said fails.failed)
       by _ (MeetsFault.in_memory put kept) at = inl (inr at)
 
 module _ (words : List (List ℕ)) (before after : Moment) (tree : Tree) (told : before.files.contents ≡ Some tree) (well : ReadsWell before.files after.files) (one : OneCommand) where
-  module _ (of_runs : RunsAreOfContents) (of_files : FilesAreOfContents) (run : Run) (said : SaysCommand words (Words.Run run)) where
+  module _ (of_runs : RunsAreOfContents) (of_files : FilesAreOfContents) (run : RunWords) (said : SaysCommand words (Words.Run run)) where
     abbrev OfRun : Result RunPlan CommandFault → Type 0
     OfRun = StartsRun (told_files tree) (told_files tree) (names_of_run run) (given_text run.load) before.pass.slots
 
-    same_names : (b : Run) → IsSameRun run b → names_of_run b ≡ names_of_run run
+    same_names : (b : RunWords) → IsSameRun run b → names_of_run b ≡ names_of_run run
     same_names b same = rw (same.conf, same.script, same.ifaces) refl
 
-    starts : (b : Run) → SaysCommand words (Words.Run b) → (result : Result RunPlan CommandFault) →
+    starts : (b : RunWords) → SaysCommand words (Words.Run b) → (result : Result RunPlan CommandFault) →
         StartsRun before.files after.files (names_of_run b) (given_text b.load) before.pass.slots result → OfRun result
     starts b said_b result comes =
         let same = one words (Words.Run run) (Words.Run b) said said_b in
@@ -116,7 +100,7 @@ module _ (words : List (List ℕ)) (before after : Moment) (tree : Tree) (told :
         (subst (λ load. StartsRun before.files after.files (names_of_run run) load before.pass.slots result) (sym same.load)
         (subst (λ names. StartsRun before.files after.files names (given_text b.load) before.pass.slots result) (same_names b same) comes))
 
-    plays_so : (b : Run) → SaysCommand words (Words.Run b) → (plan : RunPlan) (outputs : List Packet) (outcomes : List Outcome) → PlaysWords b before after plan outputs outcomes →
+    plays_so : (b : RunWords) → SaysCommand words (Words.Run b) → (plan : RunPlan) (outputs : List Packet) (outcomes : List Outcome) → PlaysWords b before after plan outputs outcomes →
         (plan : RunPlan) × OfRun (Ok plan)
     plays_so b said_b plan outputs outcomes plays = (
       plays.read,
@@ -124,21 +108,21 @@ module _ (words : List (List ℕ)) (before after : Moment) (tree : Tree) (told :
           (started (names_of_run b) (given_text b.load) b.workers (spread_said b.spread) before.files after.files before.pass after.pass plan outputs outcomes plays),
     )
 
-    run_text : (command : Command) (text : List ℕ) → SaysCommand words command → TextOf before after command text → (plan : RunPlan) × OfRun (Ok plan)
+    run_text : (command : Invocation) (text : List ℕ) → SaysCommand words command → TextOf before after command text → (plan : RunPlan) × OfRun (Ok plan)
     run_text _ _ said_b (TextOf.report {run = b} {plan = plan} {outputs = outputs} {outcomes = outcomes} plays) = plays_so b said_b plan outputs outcomes plays
     run_text _ _ said_b (TextOf.count {load = load} loads) = absurd (one words (Words.Run run) (Words.Validate load) said said_b)
     run_text _ _ said_b (TextOf.model {load = load} loads) = absurd (one words (Words.Run run) (Words.Show load) said said_b)
     run_text _ _ said_b (TextOf.programs {load = load} loads within) = absurd (one words (Words.Run run) (Words.Debug load) said said_b)
     run_text _ _ said_b (TextOf.total {number = number} holds plays) = absurd (one words (Words.Run run) (Words.Gen number) said said_b)
 
-    run_does : (command : Command) → SaysCommand words command → DoesCommand command before after → (plan : RunPlan) × OfRun (Ok plan)
+    run_does : (command : Invocation) → SaysCommand words command → DoesCommand command before after → (plan : RunPlan) × OfRun (Ok plan)
     run_does (Words.Run b) said_b does = plays_so b said_b does.plan does.outputs does.outcomes does.reports.played
     run_does (Words.Validate load) said_b does = run_text _ _ said_b does.of
     run_does (Words.Show load) said_b does = run_text _ _ said_b does.of
     run_does (Words.Debug load) said_b does = run_text _ _ said_b does.of
     run_does (Words.Gen number) said_b does = run_text _ _ said_b does.of
 
-    no_loads : {X : Type 0} (command : Command) (load : Load) → SaysCommand words command → loaded_by command ≡ Some load → X
+    no_loads : {X : Type 0} (command : Invocation) (load : Load) → SaysCommand words command → loaded_by command ≡ Some load → X
     no_loads (Words.Run b) load said_b loaded = cc
     no_loads (Words.Validate l) load said_b loaded = absurd (one words (Words.Run run) (Words.Validate l) said said_b)
     no_loads (Words.Show l) load said_b loaded = absurd (one words (Words.Run run) (Words.Show l) said said_b)
@@ -156,12 +140,12 @@ module _ (words : List (List ℕ)) (before after : Moment) (tree : Tree) (told :
       generated = λ {number} {tree} {fault} said_b holds comes. absurd (one words (Words.Run run) (Words.Gen number) said said_b);
     }
 
-  module _ (of_loads : LoadsAreOfContents) (command : Command) (load : Load) (said : SaysCommand words command) (loaded : loaded_by command ≡ Some load) where
+  module _ (of_loads : LoadsAreOfContents) (command : Invocation) (load : Load) (said : SaysCommand words command) (loaded : loaded_by command ≡ Some load) where
     abbrev OfLoad : Result Configuration CommandFault → Type 0
     OfLoad = LoadsAlone (told_files tree) (told_files tree) (given_text load.ifaces) load.conf.now
 
     -- another command of the same words loads the same
-    same_loaded : (a b : Command) → IsSameCommand a b → loaded_by a ≡ Some load → (other : Load) → loaded_by b ≡ Some other → IsSameLoad load other
+    same_loaded : (a b : Invocation) → IsSameCommand a b → loaded_by a ≡ Some load → (other : Load) → loaded_by b ≡ Some other → IsSameLoad load other
     same_loaded (Words.Validate l) (Words.Validate m) same e other f = let p : l ≡ load = cc in let q : m ≡ other = cc in subst (λ x. IsSameLoad x other) p (subst (IsSameLoad l) q same)
     same_loaded (Words.Show l) (Words.Show m) same e other f = let p : l ≡ load = cc in let q : m ≡ other = cc in subst (λ x. IsSameLoad x other) p (subst (IsSameLoad l) q same)
     same_loaded (Words.Debug l) (Words.Debug m) same e other f = let p : l ≡ load = cc in let q : m ≡ other = cc in subst (λ x. IsSameLoad x other) p (subst (IsSameLoad l) q same)
@@ -169,7 +153,7 @@ module _ (words : List (List ℕ)) (before after : Moment) (tree : Tree) (told :
     same_loaded (Words.Gen l) b same e other f = cc
     same_loaded _ _ same e other f = absurd same
 
-    loads_so : (b : Command) (other : Load) → SaysCommand words b → loaded_by b ≡ Some other → (result : Result Configuration CommandFault) →
+    loads_so : (b : Invocation) (other : Load) → SaysCommand words b → loaded_by b ≡ Some other → (result : Result Configuration CommandFault) →
         LoadsAlone before.files after.files (given_text other.ifaces) other.conf.now result → OfLoad result
     loads_so b other said_b loaded_b result comes =
         let same = same_loaded command b (one words command b said said_b) loaded other loaded_b in
@@ -177,9 +161,9 @@ module _ (words : List (List ℕ)) (before after : Moment) (tree : Tree) (told :
         (subst (λ conf. LoadsAlone before.files after.files (given_text load.ifaces) conf result) (sym same.conf)
         (subst (λ ifaces. LoadsAlone before.files after.files ifaces other.conf.now result) (sym same.ifaces) comes))
 
-    not_other : {X : Type 0} (b : Command) → SaysCommand words b → loaded_by b ≡ None → X
+    not_other : {X : Type 0} (b : Invocation) → SaysCommand words b → loaded_by b ≡ None → X
     not_other {X} b said_b none = by command b (one words command b said said_b) loaded none where
-      by : (a b : Command) → IsSameCommand a b → loaded_by a ≡ Some load → loaded_by b ≡ None → X
+      by : (a b : Invocation) → IsSameCommand a b → loaded_by a ≡ Some load → loaded_by b ≡ None → X
       by (Words.Run l) b same e f = cc
       by (Words.Gen l) b same e f = cc
       by (Words.Validate l) (Words.Validate m) same e f = cc
@@ -187,14 +171,14 @@ module _ (words : List (List ℕ)) (before after : Moment) (tree : Tree) (told :
       by (Words.Debug l) (Words.Debug m) same e f = cc
       by _ _ same e f = absurd same
 
-    load_text : (b : Command) (text : List ℕ) → SaysCommand words b → TextOf before after b text → (config : Configuration) × OfLoad (Ok config)
+    load_text : (b : Invocation) (text : List ℕ) → SaysCommand words b → TextOf before after b text → (config : Configuration) × OfLoad (Ok config)
     load_text _ _ said_b (TextOf.report {run = b} plays) = not_other (Words.Run b) said_b refl
     load_text _ _ said_b (TextOf.count {load = l} {config = config} loads) = (config, loads_so (Words.Validate l) l said_b refl (Ok config) loads.loads)
     load_text _ _ said_b (TextOf.model {load = l} {config = config} loads) = (config, loads_so (Words.Show l) l said_b refl (Ok config) loads.loads)
     load_text _ _ said_b (TextOf.programs {load = l} {config = config} loads within) = (config, loads_so (Words.Debug l) l said_b refl (Ok config) loads.loads)
     load_text _ _ said_b (TextOf.total {number = number} holds plays) = not_other (Words.Gen number) said_b refl
 
-    load_does : (b : Command) → SaysCommand words b → DoesCommand b before after → (config : Configuration) × OfLoad (Ok config)
+    load_does : (b : Invocation) → SaysCommand words b → DoesCommand b before after → (config : Configuration) × OfLoad (Ok config)
     load_does (Words.Run b) said_b does = not_other (Words.Run b) said_b refl
     load_does (Words.Validate l) said_b does = load_text _ _ said_b does.of
     load_does (Words.Show l) said_b does = load_text _ _ said_b does.of
@@ -227,7 +211,8 @@ module _ (words : List (List ℕ)) (before after : Moment) (tree : Tree) (told :
         none words before after RunPlan (OfRun of_runs of_files run said) (run_told of_runs of_files run said) old new status (RanOutOfNodes before.pass after.pass status) (λ b said_b lacks. lacks)
         (λ result comes. ok_of AreOnePlan plan result (one_start tree one_run (names_of_run run) (given_text run.load) before.pass.slots (Ok plan) result can comes)) puts (λ b said_b. writes)
     does_all (CanDo.load {command = command} {load_of = load} {config = config} said loaded can) puts writes =
-        none words before after Configuration (OfLoad of_loads command load said loaded) (load_told of_loads command load said loaded) old new status (RanOutOfNodes before.pass after.pass status) (λ b said_b lacks. lacks)
+        none words before after Configuration (OfLoad of_loads command load said loaded) (load_told of_loads command load said loaded) old new status
+        (RanOutOfNodes before.pass after.pass status) (λ b said_b lacks. lacks)
         (λ result comes. ok_of AreOneConfiguration config result
         (told_alike AreOneConfiguration (Ok config) result (one_load tree (given_text load.ifaces) load.conf.now (Ok config) result can comes))) puts (λ b said_b. writes)
 
@@ -236,9 +221,9 @@ module _ (words : List (List ℕ)) (before after : Moment) (one : OneCommand) (n
   OfGenerated result = (held : Tree) × HoldsWorkload number held × PreparesOf held result
 
   -- these words say no other command
-  no_other : {X : Type 0} (command : Command) → SaysCommand words command → ((other : ℕ) → command ≡ Words.Gen other → ⊥) → X
+  no_other : {X : Type 0} (command : Invocation) → SaysCommand words command → ((other : ℕ) → command ≡ Words.Gen other → ⊥) → X
   no_other {X} command said_b not = by command (one words (Words.Gen number) command said said_b) not where
-    by : (c : Command) → IsSameCommand (Words.Gen number) c → ((other : ℕ) → c ≡ Words.Gen other → ⊥) → X
+    by : (c : Invocation) → IsSameCommand (Words.Gen number) c → ((other : ℕ) → c ≡ Words.Gen other → ⊥) → X
     by (Words.Gen other) same not = absurd (not other refl)
     by (Words.Run r) same not = absurd same
     by (Words.Validate l) same not = absurd same
@@ -249,21 +234,21 @@ module _ (words : List (List ℕ)) (before after : Moment) (one : OneCommand) (n
   holds_so other said_b held holds =
       subst (λ n. HoldsWorkload n held) (sym (one words (Words.Gen number) (Words.Gen other) said said_b)) holds
 
-  generated_text : (command : Command) (text : List ℕ) → SaysCommand words command → TextOf before after command text → (plan : RunPlan) × OfGenerated (Ok plan)
+  generated_text : (command : Invocation) (text : List ℕ) → SaysCommand words command → TextOf before after command text → (plan : RunPlan) × OfGenerated (Ok plan)
   generated_text _ _ said_b (TextOf.report {run = b} plays) = no_other (Words.Run b) said_b (λ other e. cc)
   generated_text _ _ said_b (TextOf.count {load = load} loads) = no_other (Words.Validate load) said_b (λ other e. cc)
   generated_text _ _ said_b (TextOf.model {load = load} loads) = no_other (Words.Show load) said_b (λ other e. cc)
   generated_text _ _ said_b (TextOf.programs {load = load} loads within) = no_other (Words.Debug load) said_b (λ other e. cc)
   generated_text _ _ said_b (TextOf.total {number = other} {tree = held} {plan = plan} holds plays) = (plays.read, (held, holds_so other said_b held holds, plays.prepared))
 
-  generated_does : (command : Command) → SaysCommand words command → DoesCommand command before after → (plan : RunPlan) × OfGenerated (Ok plan)
+  generated_does : (command : Invocation) → SaysCommand words command → DoesCommand command before after → (plan : RunPlan) × OfGenerated (Ok plan)
   generated_does (Words.Run b) said_b does = no_other (Words.Run b) said_b (λ other e. cc)
   generated_does (Words.Validate load) said_b does = generated_text _ _ said_b does.of
   generated_does (Words.Show load) said_b does = generated_text _ _ said_b does.of
   generated_does (Words.Debug load) said_b does = generated_text _ _ said_b does.of
   generated_does (Words.Gen other) said_b does = generated_text _ _ said_b does.of
 
-  not_loading : {X : Type 0} (command : Command) (load : Load) → SaysCommand words command → loaded_by command ≡ Some load → X
+  not_loading : {X : Type 0} (command : Invocation) (load : Load) → SaysCommand words command → loaded_by command ≡ Some load → X
   not_loading command load said_b loaded = no_other command said_b (λ other e. (let l = subst (λ c. loaded_by c ≡ Some load) e loaded in cc))
 
   generated_told : IsToldBy words before after RunPlan OfGenerated
@@ -283,4 +268,5 @@ module _ (words : List (List ℕ)) (before after : Moment) (one : OneCommand) (n
       ⊎_elim (λ is. is) (λ lacks. absurd lacks)
       (none words before after RunPlan OfGenerated generated_told old new status ⊥ (λ run said_b lacks. no_other (Words.Run run) said_b (λ other e. cc))
       (λ result comes. let plan = can comes.0 comes.1 in
-      ok_of AreOnePlan plan.0 result (told_alike AreOnePlan (Ok plan.0) result (one_run comes.0 generated_names (Ok plan.0) result plan.1 comes.2))) puts (λ run said_b. no_other (Words.Run run) said_b (λ other e. cc)) answers)
+      ok_of AreOnePlan plan.0 result (told_alike AreOnePlan (Ok plan.0) result (one_run comes.0 generated_names (Ok plan.0) result plan.1 comes.2))) puts
+      (λ run said_b. no_other (Words.Run run) said_b (λ other e. cc)) answers)

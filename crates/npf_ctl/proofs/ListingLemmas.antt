@@ -1,8 +1,7 @@
 -- What is said of a configuration's rules, rule by rule.
 use Rattle.std.proofs.Common.{◌≡◌, ◌∙◌, ℕ, ◌+◌, ◌<◌, ◌≤◌, suc, List, [], ◌∷◌, ◌++◌, length, get_or, drop, refl, sym, ap, append_assoc, append-nil}
 use Rattle.std.proofs.lemmas.List.{drop_more, drop_all}
-use Rattle.npf_ruleset.specs.declared.flat.FlatRule.{FlatRule}
-use Rattle.npf_ruleset.specs.Flat.{programs_of}
+use Rattle.npf_ruleset.specs.{declared.flat.FlatRule.FlatRule, Flat.programs_of}
 use Rattle.npf_ctl.specs.Texts.{program_text, programs_text}
 
 -- there are as many programs as rules

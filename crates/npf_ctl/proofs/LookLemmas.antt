@@ -2,26 +2,21 @@
 use Rattle.std.proofs.Common.{◌≡◌, ℕ, List, Some, refl, sym, subst}
 use Rattle.npf_model.specs.Configuration.{Configuration}
 use Rattle.npf_ctl_words.specs.declared.command.Load.{Load}
-use Rattle.npf_ctl.specs.declared.looking.Look.{Look}
-use Rattle.npf_ctl.specs.declared.looking.Look.TheVariants.{Count, Model, Programs}
-use Rattle.npf_ctl.specs.Commands.{loaded_by}
-use Rattle.npf_ctl.specs.Looking.{IsLookText, looking_command}
-use Rattle.npf_ctl.specs.Running.{Moment}
-use Rattle.npf_ctl.specs.Texts.{IsLoadedFor, TextOf}
-use Rattle.npf_ctl.specs.Top.{DoesCommand, PutsText}
+use Rattle.npf_ctl.specs.{declared.inspection.ConfigText.{ConfigText, TheVariants.{Count, Model, Programs}}, Commands.loaded_by}
+use Rattle.npf_ctl.specs.{Inspection.{IsLookText, looking_command}, Run.Moment, Texts.{IsLoadedFor, TextOf}, Top.{DoesCommand, PutsText}}
 
-pub look_loads : (look : Look) (load : Load) → loaded_by (looking_command look load) ≡ Some load
+pub look_loads : (look : ConfigText) (load : Load) → loaded_by (looking_command look load) ≡ Some load
 look_loads Count load = refl
 look_loads Model load = refl
 look_loads Programs load = refl
 
 module _ (before after : Moment) (load : Load) where
-  pub look_does : (look : Look) → PutsText (looking_command look load) before after → DoesCommand (looking_command look load) before after
+  pub look_does : (look : ConfigText) → PutsText (looking_command look load) before after → DoesCommand (looking_command look load) before after
   look_does Count puts = puts
   look_does Model puts = puts
   look_does Programs puts = puts
 
-  pub text_of_look : (look : Look) (config : Configuration) (text : List ℕ) → IsLoadedFor before after load config → IsLookText look config.model text →
+  pub text_of_look : (look : ConfigText) (config : Configuration) (text : List ℕ) → IsLoadedFor before after load config → IsLookText look config.model text →
       TextOf before after (looking_command look load) text
   text_of_look Count config text loads is = subst (TextOf before after (looking_command Count load)) (sym is) (TextOf.count loads)
   text_of_look Model config text loads is = subst (TextOf before after (looking_command Model load)) (sym is) (TextOf.model loads)

@@ -1,23 +1,16 @@
 -- Over told files, of which no read fails, what a run is started from is one plan, or faults of one status.
 use Rattle.std.proofs.Common.{◌≡◌, ℕ, Option, Some, None, Result, Ok, Err, List, length, slice_get, refl, sym, ap, subst, arith}
-use Rattle.npf_types.specs.declared.name.Name.{Name}
-use Rattle.npf_types.specs.Stages.{◌andthen◌, gives}
+use Rattle.npf_types.specs.{declared.{name.Name.Name, limits.TheConstants.MAX_SAVED_BYTES}, Stages.{◌andthen◌, gives}}
 use Rattle.npf_outside.specs.Files.{Tree}
-use Rattle.npf_config_law.specs.Answers.{AreOne}
-use Rattle.npf_config_law.proofs.AnswerLemmas.{one_behind}
+use Rattle.npf_config_law.{specs.Answers.AreOne, proofs.AnswerLemmas.one_behind}
 use Rattle.npf_model.specs.declared.iface.Iface.{Iface}
 use Rattle.npf_saved.specs.declared.saved.Saved.{Saved}
-use Rattle.npf_saved_file.specs.declared.reading.TheConstants.{MAX_SAVED_BYTES}
-use Rattle.npf_saved_file.specs.File.{IsNoSavedFile}
-use Rattle.npf_saved_file.specs.Refusal.{HasOtherInterfaces, HasTooMany, MayLoad}
-use Rattle.npf_ctl_messages.specs.declared.fault.CommandFault.{CommandFault}
-use Rattle.npf_ctl_messages.specs.Message.{status_of_fault}
+use Rattle.npf_saved_file.specs.{File.IsNoSavedFile, Refusal.{HasOtherInterfaces, HasTooMany, MayLoad}}
+use Rattle.npf_ctl_messages.specs.{declared.fault.CommandFault.CommandFault, Message.status_of_fault}
 use Rattle.npf_ctl_input.specs.File.{ReadsFile, told_files}
 use Rattle.npf_ctl_prepare.specs.Prepares.{PreparesRun, RunNames, RunPlan}
-use Rattle.npf_ctl_prepare_law.specs.Laws.{OneRun}
-use Rattle.npf_ctl_prepare_law.specs.Readings.{AreOnePlan, EndAlike, bad_lines, equal, in_text, on_line}
-use Rattle.npf_ctl_prepare_law.proofs.InputLemmas.{one_file}
-use Rattle.npf_ctl_saved.specs.Loading.{ListsConnections, ReadsConnections, bad, interface_names, listed, many, other}
+use Rattle.npf_ctl_prepare_law.{specs.{Laws.OneRun, Readings.{AreOnePlan, EndAlike, bad_lines, equal, in_text, on_line}}, proofs.InputLemmas.one_file}
+use Rattle.npf_ctl_saved.specs.Loads.{ListsConnections, ReadsConnections, bad, interface_names, listed, many, other}
 use Rattle.npf_ctl.specs.Starting.{StartsRun}
 
 -- the program answers one status to both

@@ -1,25 +1,16 @@
 -- The pass with which a run's first phase begins.
 use Rattle.std.proofs.Common.{◌≡◌, ◌≤◌, ◌∙◌, ℕ, false, List, [], ◌∷◌, ◌++◌, Option, Some, None, All, refl, sym, subst, arith}
-use Rattle.std.proofs.lemmas.List.Elements.{All-append, All-cons, All-contains, All-nil}
-use Rattle.std.proofs.lemmas.Bool.{ne_eqb}
-use Rattle.npf_types.specs.declared.key.Key.{Key}
-use Rattle.npf_types.specs.declared.key.Way.{Way}
-use Rattle.npf_types.specs.declared.key.Way.TheVariants.{Forward, Backward, Port}
-use Rattle.npf_types.specs.declared.name.Name.{Name}
-use Rattle.npf_core.specs.declared.act.Act.TheVariants.{Claim, Start}
-use Rattle.npf_core.specs.declared.conn_id.ConnId.{ConnId}
-use Rattle.npf_core.specs.declared.reply.Reply.TheVariants.{Nothing, ToClaim}
-use Rattle.npf_core.specs.History.{IsPrefix}
-use Rattle.npf_connections.specs.Pass.{Pass}
-use Rattle.npf_connections.specs.Stay.{IsLater}
-use Rattle.npf_connsave.specs.Loading.{StaysSole, entry, hold_entries_of, key_entries, load_entries, loaded_entries}
+use Rattle.std.proofs.lemmas.{List.Elements.{All-append, All-cons, All-contains, All-nil}, Bool.ne_eqb}
+use Rattle.npf_types.specs.declared.{key.{Key.Key, Way.{Way, TheVariants.{Forward, Backward, Port}}}, name.Name.Name}
+use Rattle.npf_core.specs.{declared.{act.Act.TheVariants.{Claim, Start}, conn_id.ConnId.ConnId, reply.Reply.TheVariants.{Nothing, ToClaim}}, History.IsPrefix}
+use Rattle.npf_connections.specs.{Pass.Pass, Stay.IsLater}
+use Rattle.npf_connsave.specs.Loads.{StaysSole, entry, hold_entries_of, key_entries, load_entries, loaded_entries}
 use Rattle.npf_engine.specs.Histories.{FlowEntry, carries}
 use Rattle.npf_outside.specs.Files.{FilesMoment}
 use Rattle.npf_runner.specs.Plays.{IsUnnumbered}
 use Rattle.npf_saved.specs.declared.saved.Saved.{Saved}
-use Rattle.npf_ctl_saved.specs.Loading.{BeginsLoaded}
-use Rattle.npf_ctl.specs.Ends.{IsFresh, MayBegin}
-use Rattle.npf_ctl.proofs.EndLemmas.{unnumbered_first}
+use Rattle.npf_ctl_saved.specs.Loads.{BeginsLoaded}
+use Rattle.npf_ctl.{specs.Ends.{IsFresh, MayBegin}, proofs.EndLemmas.unnumbered_first}
 
 -- the entry carries the number of no packet
 abbrev IsOfNone : FlowEntry → Type 0
@@ -34,7 +25,8 @@ module _ (seat : ℕ) (id : ConnId) where
   load_of_none saved =
       All-cons IsOfNone (entry seat (Claim 0 id.slot) (ToClaim id)) (key_entries seat id saved ++ entry seat (Start id 0 saved.flow) Nothing ∷ []) (λ n some. ne_eqb 0 n (λ same. omega arith))
       (All-append IsOfNone (key_entries seat id saved) (entry seat (Start id 0 saved.flow) Nothing ∷ [])
-      (All-append IsOfNone (hold_entries_of seat id Forward (Some saved.forward)) (hold_entries_of seat id Port saved.port ++ hold_entries_of seat id Backward saved.backward) (holds_of_none Forward (Some saved.forward))
+      (All-append IsOfNone (hold_entries_of seat id Forward (Some saved.forward)) (hold_entries_of seat id Port saved.port ++
+      hold_entries_of seat id Backward saved.backward) (holds_of_none Forward (Some saved.forward))
       (All-append IsOfNone (hold_entries_of seat id Port saved.port) (hold_entries_of seat id Backward saved.backward) (holds_of_none Port saved.port) (holds_of_none Backward saved.backward)))
       (All-cons IsOfNone (entry seat (Start id 0 saved.flow) Nothing) [] (λ n some. ne_eqb 0 n (λ same. omega arith)) (All-nil IsOfNone)))
 

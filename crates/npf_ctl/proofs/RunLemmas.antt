@@ -1,29 +1,22 @@
 -- A run: what was loaded, reported, written and saved.
-use Rattle.std.proofs.Common.{◌≡◌, ◌≢◌, ◌∙◌, ⊎_elim, inl, inr, ℕ, List, Option, Some, None, Ok, Err, Result, IfSome, OnOk, IfErr, refl, sym, subst}
+use Rattle.std.proofs.Common.{◌≡◌, ◌≢◌, ◌∙◌, ⊎_elim, inr, ℕ, List, Option, Some, None, Ok, Err, Result, IfSome, OnOk, IfErr, refl, sym, subst}
 use Rattle.npf_types.specs.Stages.{goes_on, stops}
 use Rattle.npf_config.specs.Reading.{OnlyReads}
 use Rattle.npf_connections.specs.Pass.{Pass}
-use Rattle.npf_engine.specs.declared.outcome.Outcome.{Outcome}
-use Rattle.npf_engine.specs.Histories.{FlowEntry}
-use Rattle.npf_outside.specs.Counts.{Rose}
-use Rattle.npf_outside.specs.Files.{FilesMoment, SameFiles}
-use Rattle.npf_outside.specs.Sink.{SinkMoment}
-use Rattle.npf_ctl_messages.specs.declared.fault.CommandFault.{CommandFault}
-use Rattle.npf_ctl_messages.specs.declared.fault.CommandFault.TheVariants.{NoMemory, Unwritten}
+use Rattle.npf_engine.specs.{declared.outcome.Outcome.Outcome, Histories.FlowEntry}
+use Rattle.npf_outside.specs.{Counts.Rose, Files.{FilesMoment, SameFiles, SameOthers}, Sink.SinkMoment}
+use Rattle.npf_ctl_messages.specs.declared.fault.CommandFault.{CommandFault, TheVariants.{NoMemory, Unwritten}}
 use Rattle.npf_ctl_input.specs.Unless.{IfTold}
-use Rattle.npf_ctl_output.specs.Writing.{IsUnwritten, KeepsUnnamed}
+use Rattle.npf_ctl_output.specs.File.{IsUnwritten, KeepsUnnamed}
 use Rattle.npf_ctl_prepare.specs.Prepares.{PreparesRun, RunPlan}
-use Rattle.npf_ctl_saved.specs.Loading.{FailsLoad, interface_names}
+use Rattle.npf_ctl_saved.specs.Loads.{FailsLoad, interface_names}
 use Rattle.npf_traffic.specs.declared.packet.Packet.{Packet}
-use Rattle.npf_ctl_words.specs.declared.command.Command.TheVariants.{Run}
-use Rattle.npf_ctl_words.specs.declared.command.Run.{Run as RunWords}
-use Rattle.npf_ctl_words.specs.CommandLine.{SaysCommand, given_text}
-use Rattle.npf_ctl.specs.Commands.{names_of_run}
-use Rattle.npf_ctl.specs.Ends.{EndsIn, FailsPlan, FailsSave, FollowsPlan, IsPutOut}
-use Rattle.npf_ctl.specs.Faults.{ChangesNoFile, IsUntouched, MeetsFault, PutsFront, PutsNothing}
-use Rattle.npf_ctl.specs.Running.{IsReported, IsSavedTo, IsWrittenTo, Moment, WritesPassed}
+use Rattle.npf_ctl_words.specs.{declared.command.{Invocation.TheVariants.Run, RunWords.RunWords}, CommandLine.{SaysCommand, given_text}}
+use Rattle.npf_ctl.specs.{Commands.names_of_run, Ends.{EndsIn, FailsPlan, FailsSave, FollowsPlan, IsPutOut}}
+use Rattle.npf_ctl.specs.Faults.{ChangesNoFile, FailsSecond, IsUntouched, LeavesFiles, MeetsFault, PutsFront, PutsNothing}
+use Rattle.npf_ctl.specs.Run.{IsReported, IsSavedTo, IsWrittenTo, Moment, WritesPassed}
 use Rattle.npf_ctl.proofs.EndLemmas.{Starts, early, plays_run, reported_front, unreported, unwritten, unwritten_since}
-use Rattle.npf_ctl.proofs.FileLemmas.{has_on, same_through}
+use Rattle.npf_ctl.proofs.FileLemmas.{has_on, others_on, same_through}
 
 module _ (words : List (List ℕ)) (before after : Moment) (run : RunWords) (said : SaysCommand words (Run run)) where
   pub run_unprepared : IsUntouched before after → (fault : CommandFault) → IfTold (λ why. PreparesRun before.files after.files (names_of_run run) (Err why)) fault →
@@ -54,13 +47,15 @@ module _ (words : List (List ℕ)) (before after : Moment) (run : RunWords) (sai
       }
 
       -- its plan wasn't followed, from files that were only read before
-      pub run_unfollowed : (read : FilesMoment) → OnlyReads before.files read → (fault : CommandFault) →
+      pub run_unfollowed : (read : FilesMoment) → OnlyReads before.files read → KeepsUnnamed (given_text run.output) read.contents after.files.contents → (fault : CommandFault) →
           FailsPlan run plan begun after.pass before.out after.out read after.files fault → MeetsFault words before after fault
-      run_unfollowed read reads fault (FailsPlan.unreported same why) =
+      run_unfollowed read reads others fault (FailsPlan.unreported same why) =
           unreported words before after run plan said (subst (λ contents. SameFiles contents after.files.contents) reads.contents same) begun starts fault why
-      run_unfollowed read reads fault (FailsPlan.unwritten {name = name} {outputs = outputs} {outcomes = outcomes} named put why) =
-          unwritten words before after run plan said outputs outcomes (reports_of outputs outcomes put) put.flushed name named fault
-          (unwritten_since before.files read after.files name reads.write_faults reads.contents fault why)
+      run_unfollowed read reads others fault (FailsPlan.unwritten {name = name} {outputs = outputs} {outcomes = outcomes} named put why) =
+          unwritten words before after run plan said outputs outcomes (reports_of outputs outcomes put) name named
+          (subst (λ contents. SameOthers contents after.files.contents name) reads.contents
+          (subst (λ (given : Option (List ℕ)). KeepsUnnamed given read.contents after.files.contents) named others))
+          put.flushed fault (unwritten_since before.files read after.files name reads.write_faults reads.contents fault why)
 
       module _ (read mid : FilesMoment) (reads : OnlyReads before.files read) (faultless : mid.write_faults ≡ read.write_faults)
           (wrote : KeepsUnnamed (given_text run.output) read.contents mid.contents)
@@ -80,37 +75,52 @@ module _ (words : List (List ℕ)) (before after : Moment) (run : RunWords) (sai
             holds = has_on (given_text run.save) mid.contents after.files.contents name _ others not written.holds;
           }
 
-        rose_since : Rose mid.write_faults after.files.write_faults → Rose before.files.write_faults after.files.write_faults
-        rose_since = subst (λ (faults : ℕ). Rose faults after.files.write_faults) (faultless ∙ reads.write_faults)
+        -- no file but the first changed until the connections were to be saved
+        wrote_first : KeepsUnnamed (given_text run.output) before.files.contents mid.contents
+        wrote_first = subst (λ contents. KeepsUnnamed (given_text run.output) contents mid.contents) reads.contents wrote
+
+        fails_second : KeepsUnnamed (given_text run.save) mid.contents after.files.contents → (name : List ℕ) → given_text run.save ≡ Some name →
+            Rose mid.write_faults after.files.write_faults → FailsSecond words before after run plan follows.outputs follows.outcomes name
+        fails_second others name named rose = record {
+          said = said;
+          named = named;
+          failed = subst (λ (faults : ℕ). Rose faults after.files.write_faults) (faultless ∙ reads.write_faults) rose;
+          reports = reports;
+          written = passed_on others;
+          between = mid.contents;
+          first = wrote_first;
+          second = subst (λ (given : Option (List ℕ)). KeepsUnnamed given mid.contents after.files.contents) named others;
+        }
 
         -- the connections weren't saved
         unsaved : KeepsUnnamed (given_text run.save) mid.contents after.files.contents → (name : List ℕ) → given_text run.save ≡ Some name → (fault : CommandFault) →
             IsUnwritten mid after.files name fault → MeetsFault words before after fault
         unsaved others name named (Unwritten file) why =
             subst (λ (n : List ℕ). MeetsFault words before after (Unwritten n)) (sym why.0)
-            (MeetsFault.in_saving said named (rose_since why.1) reports (passed_on others) follows.reports.flushed)
-        unsaved others name named NoMemory why = ⊎_elim (λ same. kept (given_text run.output) refl same) (λ rose. MeetsFault.in_memory (inr front) (inl (inr (rose_since rose)))) why where
-          front : PutsFront words before after
-          front = reported_front words before after run plan said follows.outputs follows.outcomes reports
+            (MeetsFault.in_saving (fails_second others name named why.1) follows.reports.flushed)
+        unsaved others name named NoMemory why = ⊎_elim (λ same. kept (given_text run.output) refl same)
+            (λ rose. MeetsFault.in_memory (inr front) (LeavesFiles.at_second (fails_second others name named rose))) why where
+              front : PutsFront words before after
+              front = reported_front words before after run plan said follows.outputs follows.outcomes reports
 
-          kept : (given : Option (List ℕ)) → given_text run.output ≡ given → SameFiles mid.contents after.files.contents → MeetsFault words before after NoMemory
-          kept None is same =
-              let first = subst (λ (o : Option (List ℕ)). KeepsUnnamed o read.contents mid.contents) is wrote in
-              MeetsFault.in_memory (inr front) (inl (inl (same_through before.files.contents mid.contents after.files.contents
-              (subst (λ contents. SameFiles contents mid.contents) reads.contents first) same)))
-          kept (Some output) is same = MeetsFault.in_memory (inr front) (inr (record {
-            run = run;
-            said = said;
-            output = output;
-            first = is;
-            save = name;
-            second = named;
-            plan = plan;
-            outputs = follows.outputs;
-            outcomes = follows.outcomes;
-            reports = reports;
-            written = passed_on others;
-          }))
+              kept : (given : Option (List ℕ)) → given_text run.output ≡ given → SameFiles mid.contents after.files.contents → MeetsFault words before after NoMemory
+              kept None is same = MeetsFault.in_memory (inr front) (LeavesFiles.unchanged (same_through before.files.contents mid.contents after.files.contents
+                  (subst (λ (o : Option (List ℕ)). KeepsUnnamed o before.files.contents mid.contents) is wrote_first) same))
+              kept (Some output) is same = MeetsFault.in_memory (inr front) (LeavesFiles.between refl (record {
+                run = run;
+                said = said;
+                output = output;
+                first = is;
+                save = name;
+                second = named;
+                plan = plan;
+                outputs = follows.outputs;
+                outcomes = follows.outcomes;
+                reports = reports;
+                written = passed_on others;
+                others = others_on output before.files.contents mid.contents after.files.contents
+                    (subst (λ (o : Option (List ℕ)). KeepsUnnamed o before.files.contents mid.contents) is wrote_first) same;
+              }))
         unsaved others name named _ why = absurd why
 
         -- the connections were saved, where a file is named for them, or weren't

@@ -3,14 +3,13 @@ use Rattle.std.proofs.Common.{◌≡◌, ℕ, List, Option, Some, Ok, Err, Resul
 use Rattle.npf_types.specs.declared.name.Name.{Name}
 use Rattle.npf_core.specs.History.{state_of}
 use Rattle.npf_connections.specs.Pass.{Pass}
-use Rattle.npf_connsave.specs.Saving.{IsSavedText}
+use Rattle.npf_connsave.specs.Saves.{IsSavedText}
 use Rattle.npf_engine.specs.Histories.{FlowEntry}
 use Rattle.npf_flow.specs.Flows.{flow_law}
 use Rattle.npf_outside.specs.Files.{FilesMoment, Has}
 use Rattle.npf_ctl_messages.specs.declared.fault.CommandFault.{CommandFault}
-use Rattle.npf_ctl_output.specs.Writing.{IsUnwritten}
-use Rattle.npf_ctl.specs.Ends.{FailsSave}
-use Rattle.npf_ctl.specs.Running.{IsSavedTo}
+use Rattle.npf_ctl_output.specs.File.{IsUnwritten}
+use Rattle.npf_ctl.specs.{Ends.FailsSave, Run.IsSavedTo}
 
 -- where the file has the connections' text, they are saved to it
 pub saved_to : (files : FilesMoment) (pass : Pass FlowEntry) (names : List Name) (name text : List ℕ) → IsSavedText (state_of flow_law pass.history) names text →

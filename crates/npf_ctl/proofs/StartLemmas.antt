@@ -1,23 +1,16 @@
 -- What a run is started from.
 use Rattle.std.proofs.Common.{◌≡◌, ℕ, Option, Some, None, List, Ok, refl, sym, ap, subst}
-use Rattle.npf_types.specs.declared.name.Name.{Name}
-use Rattle.npf_types.specs.Stages.{◌andthen◌, gives, goes_on}
-use Rattle.npf_types.proofs.StageLemmas.{andthen_lasts}
+use Rattle.npf_types.{specs.{declared.name.Name.Name, Stages.{◌andthen◌, gives, goes_on}}, proofs.StageLemmas.andthen_lasts}
 use Rattle.npf_connections.specs.Pass.{Pass}
-use Rattle.npf_engine.specs.declared.outcome.Outcome.{Outcome}
-use Rattle.npf_engine.specs.Histories.{FlowEntry}
+use Rattle.npf_engine.specs.{declared.outcome.Outcome.Outcome, Histories.FlowEntry}
 use Rattle.npf_outside.specs.Files.{FilesMoment}
-use Rattle.npf_runner.specs.declared.phase.Spread.{Spread}
-use Rattle.npf_traffic.specs.declared.packet.Packet.{Packet}
+use Rattle.npf_traffic.specs.declared.{phase.Spread.Spread, packet.Packet.Packet}
 use Rattle.npf_saved.specs.declared.saved.Saved.{Saved}
-use Rattle.npf_saved_file.specs.declared.reading.TheConstants.{MAX_SAVED_BYTES}
-use Rattle.npf_ctl_input.specs.File.{ReadsFile, told_files}
-use Rattle.npf_ctl_input.specs.Laws.{FilesAreOfContents, IsOfContents}
-use Rattle.npf_ctl_prepare.specs.Laws.{RunsAreOfContents}
-use Rattle.npf_ctl_prepare.specs.Prepares.{PreparesRun, RunNames, RunPlan}
-use Rattle.npf_ctl_saved.specs.Loading.{BeginsLoaded, LacksNode, ListsConnections, ReadsConnections, interface_names}
-use Rattle.npf_ctl.specs.Running.{PlaysRun}
-use Rattle.npf_ctl.specs.Starting.{StartsRun}
+use Rattle.npf_types.specs.declared.limits.TheConstants.{MAX_SAVED_BYTES}
+use Rattle.npf_ctl_input.specs.{File.{ReadsFile, told_files}, Laws.{FilesAreOfContents, IsOfContents}}
+use Rattle.npf_ctl_prepare.specs.{Laws.RunsAreOfContents, Prepares.{PreparesRun, RunNames, RunPlan}}
+use Rattle.npf_ctl_saved.specs.Loads.{BeginsLoaded, LacksNode, ListsConnections, ReadsConnections, interface_names}
+use Rattle.npf_ctl.specs.{Run.PlaysRun, Starting.StartsRun}
 
 -- connections that a run began with were read
 loaded : (before after : FilesMoment) (load : Option (List ℕ)) (old begun : Pass FlowEntry) (read : RunPlan) → BeginsLoaded before after load (interface_names read.ifaces) old begun →

@@ -10,21 +10,21 @@ use Rattle.npf_ctl_input.specs.Unless.{UnlessMemory}
 use Rattle.npf_outside.specs.Counts.{Rose}
 use Rattle.npf_outside.specs.Files.{FilesMoment, SameFiles, Tree}
 use Rattle.npf_outside.specs.Sink.{Appends, AppendsFront, SinkMoment}
-use Rattle.npf_ctl_output.specs.Putting.{HasPutFault}
+use Rattle.npf_ctl_output.specs.SinkText.{HasPutFault}
 use Rattle.npf_ctl_output.specs.Report.{report_text}
-use Rattle.npf_ctl_output.specs.Writing.{IsUnwritten}
+use Rattle.npf_ctl_output.specs.File.{IsUnwritten}
 use Rattle.npf_ctl_prepare.specs.declared.prepare.Prepared.{Prepared}
 use Rattle.npf_ctl_prepare.specs.Prepares.{RunPlan}
 use Rattle.npf_ctl_prepare.specs.View.{run_plan_of}
 use Rattle.npf_traffic.specs.declared.packet.Packet.{Packet}
-use Rattle.npf_runner.specs.declared.phase.Spread.{Spread}
+use Rattle.npf_traffic.specs.declared.phase.Spread.{Spread}
 use Rattle.npf_runner.specs.Plays.{IsUnnumbered, PlaysPhases}
-use Rattle.npf_ctl_words.specs.declared.command.Run.{Run}
+use Rattle.npf_ctl_words.specs.declared.command.RunWords.{RunWords}
 use Rattle.npf_ctl_words.specs.CommandLine.{given_text}
 use Rattle.npf_ctl.specs.Commands.{spread_said}
 use Rattle.npf_ctl.specs.Faults.{IsFaulted, MeetsFault, PutsLine}
 use Rattle.npf_ctl.specs.Generated.{HoldsWorkload, PreparesOf}
-use Rattle.npf_ctl.specs.Running.{IsWrittenTo, Moment}
+use Rattle.npf_ctl.specs.Run.{IsWrittenTo, Moment}
 use Rattle.npf_ctl.specs.Top.{DoesWords}
 
 -- a pass that owns all of its table, which nothing was asked yet
@@ -45,20 +45,20 @@ pub data FailsReport (plan : RunPlan) (workers : ℕ) (spread : Spread) (old new
       AppendsFront before.held after.held (report_text plan.ifaces plan.packets outcomes) → FailsReport plan workers spread old new before after fault
 
 -- a plan was played as the words say, and its report was put and flushed
-pub record IsPutOut (run : Run) (plan : RunPlan) (old new : Pass FlowEntry) (before after : SinkMoment) (outputs : List Packet) (outcomes : List Outcome) : Type 0 where
+pub record IsPutOut (run : RunWords) (plan : RunPlan) (old new : Pass FlowEntry) (before after : SinkMoment) (outputs : List Packet) (outcomes : List Outcome) : Type 0 where
   pub played : PlaysPhases plan.configs run.workers (spread_said run.spread) old new plan.phases plan.packets outputs outcomes
   pub reported : Appends before.held after.held (report_text plan.ifaces plan.packets outcomes)
   pub flushed : after.waiting ≡ 0
 
 -- and what passed was written where a file is named for it
-pub record FollowsPlan (run : Run) (plan : RunPlan) (old new : Pass FlowEntry) (before after : SinkMoment) (files : FilesMoment) : Type 0 where
+pub record FollowsPlan (run : RunWords) (plan : RunPlan) (old new : Pass FlowEntry) (before after : SinkMoment) (files : FilesMoment) : Type 0 where
   pub outputs : List Packet
   pub outcomes : List Outcome
   pub reports : IsPutOut run plan old new before after outputs outcomes
   pub written : IfSome (given_text run.output) (IsWrittenTo files plan.packets outputs outcomes)
 
 -- why it wasn't: it isn't reported, and no file changed; or it is, and what passed isn't written
-pub data FailsPlan (run : Run) (plan : RunPlan) (old new : Pass FlowEntry) (before after : SinkMoment) (first last : FilesMoment) (fault : CommandFault) : Type 0 where
+pub data FailsPlan (run : RunWords) (plan : RunPlan) (old new : Pass FlowEntry) (before after : SinkMoment) (first last : FilesMoment) (fault : CommandFault) : Type 0 where
   unreported : SameFiles first.contents last.contents → FailsReport plan run.workers (spread_said run.spread) old new before after fault →
       FailsPlan run plan old new before after first last fault
   unwritten : {name : List ℕ} {outputs : List Packet} {outcomes : List Outcome} → given_text run.output ≡ Some name →
@@ -81,12 +81,12 @@ abbrev pub EndsIn : List (List ℕ) → Moment → Moment → Result (Unit {0}) 
 EndsIn words before after (Ok _) = DoesWords words before after × (after.out.waiting ≡ 0)
 EndsIn words before after (Err fault) = MeetsFault words before after fault
 
--- the fault's line was put and flushed, or a front of it where the sink failed, and the status is the fault's; or memory was wanting for it, and nothing or
--- that line was put
+-- the fault's line was put and flushed, or a front of it where the sink failed, and the status is the fault's; or memory was wanting for it, and nothing was
+-- put
 pub data SaysFault (old new : SinkMoment) (fault : CommandFault) (status : ℕ) : Type 0 where
   told : status ≡ status_of_fault fault → PutsLine old new (message_line fault) → (new.waiting ≡ 0) ⊎ Rose old.faults new.faults →
       SaysFault old new fault status
-  untold : status ≡ 1 → Appends old.held new.held [] ⊎ Appends old.held new.held (message_line fault) → SaysFault old new fault status
+  untold : status ≡ 1 → Appends old.held new.held [] → SaysFault old new fault status
 
 -- the words were answered with this status
 pub data AnswersWords (words : List (List ℕ)) (before after : Moment) (old new : SinkMoment) (status : ℕ) : Type 0 where

@@ -4,8 +4,8 @@ pub mod Faults
 pub mod Fragments
 pub mod Generated
 pub mod Limits
-pub mod Looking
-pub mod Running
+pub mod Inspection
+pub mod Run
 pub mod Starting
 pub mod Texts
 pub mod Top

@@ -4,7 +4,7 @@ use Rattle.npf_types.specs.Stages.{Stage, ◌andthen◌, gives}
 use Rattle.npf_outside.specs.Files.{FilesMoment}
 use Rattle.npf_ctl_messages.specs.declared.fault.CommandFault.{CommandFault}
 use Rattle.npf_ctl_prepare.specs.Prepares.{PreparesRun, RunNames, RunPlan}
-use Rattle.npf_ctl_saved.specs.Loading.{ReadsConnections, interface_names}
+use Rattle.npf_ctl_saved.specs.Loads.{ReadsConnections, interface_names}
 
 -- What is prepared of a run's files and then, where the words name one, read of its file of saved connections for a table of so many slots. The
 -- first fault ends it.

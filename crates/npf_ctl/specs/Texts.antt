@@ -6,7 +6,7 @@ use Rattle.npf_bpf.specs.declared.insn.Insn.{Insn}
 use Rattle.npf_engine.specs.declared.outcome.Outcome.{Outcome}
 use Rattle.npf_outside.specs.Files.{Tree}
 use Rattle.npf_ctl_input.specs.File.{told_files}
-use Rattle.npf_ctl_input.specs.Loading.{LoadsAlone}
+use Rattle.npf_ctl_input.specs.Loads.{LoadsAlone}
 use Rattle.npf_ctl_prepare.specs.Prepares.{RunPlan}
 use Rattle.npf_model.specs.declared.model.Model.{Model}
 use Rattle.npf_model.specs.Configuration.{Configuration}
@@ -15,16 +15,16 @@ use Rattle.npf_report.specs.TotalText.{total_text}
 use Rattle.npf_ctl_output.specs.Report.{report_text}
 use Rattle.npf_ruleset.specs.Refusal.{IsWithinLimits}
 use Rattle.npf_traffic.specs.declared.packet.Packet.{Packet}
-use Rattle.npf_runner.specs.declared.phase.Spread.TheVariants.{Rr}
+use Rattle.npf_traffic.specs.declared.phase.Spread.TheVariants.{Rr}
 use Rattle.npf_show.specs.Piece.{spelled}
 use Rattle.npf_show.specs.Model.{model_pieces}
-use Rattle.npf_ctl_words.specs.declared.command.Command.{Command}
-use Rattle.npf_ctl_words.specs.declared.command.Command.TheVariants as Words
+use Rattle.npf_ctl_words.specs.declared.command.Invocation.{Invocation}
+use Rattle.npf_ctl_words.specs.declared.command.Invocation.TheVariants as Words
 use Rattle.npf_ctl_words.specs.declared.command.Load.{Load}
-use Rattle.npf_ctl_words.specs.declared.command.Run.{Run}
+use Rattle.npf_ctl_words.specs.declared.command.RunWords.{RunWords}
 use Rattle.npf_ctl_words.specs.CommandLine.{given_text}
 use Rattle.npf_ctl.specs.Generated.{HoldsWorkload, generated_names}
-use Rattle.npf_ctl.specs.Running.{Moment, PlaysRun, PlaysWords}
+use Rattle.npf_ctl.specs.Run.{Moment, PlaysRun, PlaysWords}
 
 -- how many rules a configuration has
 abbrev pub valid_text : Model → List ℕ
@@ -49,8 +49,8 @@ pub record IsLoadedFor (before after : Moment) (load : Load) (config : Configura
   pub idle : after.pass ≡ before.pass
 
 -- the text of a command
-pub data TextOf (before after : Moment) : Command → List ℕ → Type 0 where
-  report : {run : Run} {plan : RunPlan} {outputs : List Packet} {outcomes : List Outcome} → PlaysWords run before after plan outputs outcomes →
+pub data TextOf (before after : Moment) : Invocation → List ℕ → Type 0 where
+  report : {run : RunWords} {plan : RunPlan} {outputs : List Packet} {outcomes : List Outcome} → PlaysWords run before after plan outputs outcomes →
       TextOf before after (Words.Run run) (report_text plan.ifaces plan.packets outcomes)
   count : {load : Load} {config : Configuration} → IsLoadedFor before after load config → TextOf before after (Words.Validate load) (valid_text config.model)
   model : {load : Load} {config : Configuration} → IsLoadedFor before after load config →

@@ -5,42 +5,42 @@ use Rattle.npf_outside.specs.Files.{Tree}
 use Rattle.npf_outside.specs.Sink.{Appends}
 use Rattle.npf_model.specs.Configuration.{Configuration}
 use Rattle.npf_ctl_input.specs.File.{told_files}
-use Rattle.npf_ctl_input.specs.Loading.{LoadsAlone}
+use Rattle.npf_ctl_input.specs.Loads.{LoadsAlone}
 use Rattle.npf_connections.specs.Pass.{Pass}
 use Rattle.npf_engine.specs.Histories.{FlowEntry}
 use Rattle.npf_ctl_prepare.specs.Prepares.{RunPlan}
 use Rattle.npf_ctl_messages.specs.declared.fault.CommandFault.{CommandFault}
-use Rattle.npf_ctl_words.specs.declared.command.Command.{Command}
-use Rattle.npf_ctl_words.specs.declared.command.Command.TheVariants as Words
+use Rattle.npf_ctl_words.specs.declared.command.Invocation.{Invocation}
+use Rattle.npf_ctl_words.specs.declared.command.Invocation.TheVariants as Words
 use Rattle.npf_ctl_words.specs.declared.command.Load.{Load}
-use Rattle.npf_ctl_words.specs.declared.command.Run.{Run}
+use Rattle.npf_ctl_words.specs.declared.command.RunWords.{RunWords}
 use Rattle.npf_ctl_words.specs.CommandLine.{SaysCommand, given_text}
 use Rattle.npf_ctl.specs.Commands.{loaded_by, names_of_run}
 use Rattle.npf_ctl.specs.Generated.{HoldsWorkload, PreparesOf}
-use Rattle.npf_ctl.specs.Running.{Moment, IsRun}
+use Rattle.npf_ctl.specs.Run.{Moment, IsRun}
 use Rattle.npf_ctl.specs.Starting.{StartsRun}
 use Rattle.npf_ctl.specs.Texts.{TextOf}
 
 -- the command's whole text was put on the output
-pub record PutsText (command : Command) (before after : Moment) : Type 0 where
+pub record PutsText (command : Invocation) (before after : Moment) : Type 0 where
   pub text : List ℕ
   pub of : TextOf before after command text
   pub put : Appends before.out.held after.out.held text
 
 -- what the command does was done
-abbrev pub DoesCommand : Command → Moment → Moment → Type 0
+abbrev pub DoesCommand : Invocation → Moment → Moment → Type 0
 DoesCommand (Words.Run run) before after = IsRun run before after
 DoesCommand command before after = PutsText command before after
 
 -- what the words say was done
 pub record DoesWords (words : List (List ℕ)) (before after : Moment) : Type 0 where
-  pub command : Command
+  pub command : Invocation
   pub said : SaysCommand words command
   pub does : DoesCommand command before after
 
 -- the words name this file to be written: that of the packets that pass, or of the connections that are saved
 pub record NamesOutput (words : List (List ℕ)) (name : List ℕ) : Type 0 where
-  pub run : Run
+  pub run : RunWords
   pub said : SaysCommand words (Words.Run run)
   pub named : (given_text run.output ≡ Some name) ⊎ (given_text run.save ≡ Some name)
 
@@ -71,16 +71,16 @@ IsOk (Err fault) = ⊥
 module _ (words : List (List ℕ)) (tree : Tree) (slots : ℕ) where
   -- the command's files end in this fault, and so in none of another status, and in no plan (npf_ctl_prepare_law)
   pub data MustRefuse (fault : CommandFault) : Type 0 where
-    run : {words_of : Run} → SaysCommand words (Words.Run words_of) →
+    run : {words_of : RunWords} → SaysCommand words (Words.Run words_of) →
         StartsRun (told_files tree) (told_files tree) (names_of_run words_of) (given_text words_of.load) slots (Err fault) → MustRefuse fault
-    load : {command : Command} {load_of : Load} → SaysCommand words command → loaded_by command ≡ Some load_of →
+    load : {command : Invocation} {load_of : Load} → SaysCommand words command → loaded_by command ≡ Some load_of →
         LoadsAlone (told_files tree) (told_files tree) (given_text load_of.ifaces) load_of.conf.now (Err fault) → MustRefuse fault
 
   -- the command's files are in their grammars and limits: they come to a plan, or to a configuration
   pub data CanDo : Type 0 where
-    run : {words_of : Run} {plan : RunPlan} → SaysCommand words (Words.Run words_of) →
+    run : {words_of : RunWords} {plan : RunPlan} → SaysCommand words (Words.Run words_of) →
         StartsRun (told_files tree) (told_files tree) (names_of_run words_of) (given_text words_of.load) slots (Ok plan) → CanDo
-    load : {command : Command} {load_of : Load} {config : Configuration} → SaysCommand words command → loaded_by command ≡ Some load_of →
+    load : {command : Invocation} {load_of : Load} {config : Configuration} → SaysCommand words command → loaded_by command ≡ Some load_of →
         LoadsAlone (told_files tree) (told_files tree) (given_text load_of.ifaces) load_of.conf.now (Ok config) → CanDo
 
 -- the words ask for a generated run, whose files, which stand in memory, are in their grammars and limits

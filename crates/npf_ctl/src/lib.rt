@@ -13,12 +13,12 @@
 
 mod fragments;
 mod generated_files;
-mod generating;
+mod generation;
+mod inspection;
 pub mod laws;
-mod listing;
-mod looking;
-mod running;
-mod saving;
+mod programs;
+mod run;
+mod saves;
 mod top;
 
 pub use top::{Status, npfctl_top};

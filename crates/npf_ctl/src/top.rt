@@ -12,17 +12,17 @@ ghost use Rattle.npf_ctl_words.specs.CommandLine.{is_command_line, word_texts};
 ghost use Rattle.npf_ctl_input.specs.File.{ReadsWell};
 ghost use Rattle.npf_ctl.specs.Ends.{EndsIn, AnswersWords, IsFresh, SaysFault};
 ghost use Rattle.npf_ctl.specs.Faults.{IsFaulted, LeavesFiles};
-ghost use Rattle.npf_ctl.specs.Running.{moment};
+ghost use Rattle.npf_ctl.specs.Run.{moment};
 ghost use Rattle.npf_ctl.specs.Top.{HasStatus, CanDo, CanGenerate, DoesWords, IsQuiet, KeepsOtherFiles, MustRefuse, RanOutOfNodes};
 
-use crate::generating::run_generated;
-use crate::looking::{Look, look_at};
-use crate::running::run;
+use crate::generation::run_generated;
+use crate::inspection::{ConfigText, look_at};
+use crate::run::run;
 use npf_connections::Connections;
 use npf_ctl_messages::{CommandFault, message};
 use npf_ctl_prepare_law::one_run;
 use npf_ctl_words::laws::one_command;
-use npf_ctl_words::{Command, WordsFault, read_words};
+use npf_ctl_words::{Invocation, WordsFault, read_words};
 use npf_flow::FlowLaw;
 use npf_outside::{Files, Sink, SinkFault};
 use npf_runner::Gate;
@@ -162,11 +162,11 @@ fn do_words<R: Threads + Wait + Sync, F: Files, O: Sink, C: Connections<FlowLaw>
         Err(WordsFault::NoMemory) => return Err(CommandFault::NoMemory),
     };
     match command {
-        Command::Run(words) => run(rt, alloc, words, files, out, conns, pass, gate),
-        Command::Validate(load) => look_at(alloc, Look::Count, load, files, out),
-        Command::Show(load) => look_at(alloc, Look::Model, load, files, out),
-        Command::Debug(load) => look_at(alloc, Look::Programs, load, files, out),
-        Command::Gen { number } => run_generated(rt, alloc, number, out, conns, pass, gate),
+        Invocation::Run(words) => run(rt, alloc, words, files, out, conns, pass, gate),
+        Invocation::Validate(load) => look_at(alloc, ConfigText::Count, load, files, out),
+        Invocation::Show(load) => look_at(alloc, ConfigText::Model, load, files, out),
+        Invocation::Debug(load) => look_at(alloc, ConfigText::Programs, load, files, out),
+        Invocation::Gen { number } => run_generated(rt, alloc, number, out, conns, pass, gate),
     }
 }
 
@@ -191,8 +191,7 @@ fn put_flushed<E: Sink>(bytes: &[u8], sink: &mut E) -> Result<(), SinkFault>
     ensures flushed { OnOk result ((E.moment sink.new).waiting ≡ 0) }
     ensures front { AppendsFront (E.moment sink.old).held (E.moment sink.new).held bytes.now }
     ensures failed { IsErrOf result SinkFault.Failed → Rose (E.moment sink.old).faults (E.moment sink.new).faults }
-    ensures memory { IsErrOf result SinkFault.NoMemory
-        → Appends (E.moment sink.old).held (E.moment sink.new).held [] ⊎ Appends (E.moment sink.old).held (E.moment sink.new).held bytes.now }
+    ensures memory { IsErrOf result SinkFault.NoMemory → Appends (E.moment sink.old).held (E.moment sink.new).held [] }
 {
     sink.put(bytes)?;
     sink.flush()

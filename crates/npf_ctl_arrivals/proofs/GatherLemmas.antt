@@ -1,20 +1,13 @@
 -- How the stages of gathering a capture come to what the code answers.
 use Rattle.std.proofs.Common.{◌≡◌, ◌≤◌, ◌+◌, ◌++◌, ℕ, Bool, true, false, cond, Ok, Err, List, [], ◌∷◌, length, All, refl, sym, ap, arith}
-use Rattle.std.proofs.lemmas.List.{flat_map_more, length-append}
-use Rattle.std.proofs.lemmas.List.Elements.{All-append}
-use Rattle.npf_types.specs.declared.limits.TheConstants.{MAX_BYTES_OF_CAPTURES, MAX_PACKETS}
-use Rattle.npf_types.specs.declared.link.Link.{Link}
-use Rattle.npf_types.specs.Stages.{asks_that, stops, goes_on}
-use Rattle.npf_pcap.specs.declared.capture.Record.{Record}
-use Rattle.npf_pcap.specs.Extent.{IsShort, IsTimely, records_at}
+use Rattle.std.proofs.lemmas.List.{flat_map_more, length-append, Elements.All-append}
+use Rattle.npf_types.specs.{declared.{limits.TheConstants.{MAX_BYTES_OF_CAPTURES, MAX_PACKETS}, link.Link.Link}, Stages.{asks_that, stops, goes_on}}
+use Rattle.npf_pcap.specs.{declared.capture.Record.Record, Extent.{IsShort, IsTimely, records_at}}
 use Rattle.npf_ctl_messages.specs.declared.fault.CommandFault.{CommandFault}
 use Rattle.npf_traffic.specs.Packet.{IsShortPacket}
-use Rattle.npf_ctl_arrivals.specs.declared.arrivals.Arrivals.{Arrivals}
-use Rattle.npf_ctl_arrivals.specs.declared.trace.Trace.{Trace}
-use Rattle.npf_ctl_arrivals.specs.Arrivals.{GathersCapture, Gathered, KeepsWithinRun, ReadsCapture, with_capture}
-use Rattle.npf_ctl_arrivals.specs.Gathering.{gathered_so_far}
-use Rattle.npf_ctl_arrivals.specs.Traces.{packets_in_traces, packets_of_trace}
-use Rattle.npf_ctl_arrivals.specs.Within.{CrossesOneOf, HasCaptureTime, IsInterfaceNumber, IsWithinRun}
+use Rattle.npf_ctl_arrivals.specs.declared.{arrivals.Arrivals.Arrivals, trace.Trace.Trace}
+use Rattle.npf_ctl_arrivals.specs.{Arrivals.{GathersCapture, Gathered, KeepsWithinRun, ReadsCapture, with_capture}, Gathering.gathered_so_far}
+use Rattle.npf_ctl_arrivals.specs.{Traces.{packets_in_traces, packets_of_trace}, Within.{CrossesOneOf, HasCaptureTime, IsInterfaceNumber, IsWithinRun}}
 use Rattle.npf_ctl_arrivals.proofs.PacketLemmas.{crossing_packets, length-packets_at, short_packets, timed_packets}
 
 pub asked_yes : {test : Bool} (fault : CommandFault) → test ≡ true → asks_that test fault (Ok tt)

@@ -1,16 +1,9 @@
 -- The packets that a capture has at its extents, and what is known of them.
-use Rattle.std.proofs.Common.{◌≡◌, ◌∙◌, ℕ, List, All, length, map, drop, arith}
-use Rattle.std.proofs.lemmas.List.{length-map, length-take}
-use Rattle.std.proofs.lemmas.List.Elements.{All-map, All-weaker}
-use Rattle.npf_types.specs.declared.direction.Dir.{Dir}
-use Rattle.npf_types.specs.declared.interface.IfId.{IfId}
-use Rattle.npf_types.specs.declared.link.Link.{Link}
-use Rattle.npf_pcap.specs.declared.extent.Extent.{Extent}
-use Rattle.npf_pcap.specs.Extent.{IsShort, IsTimely, record_at, records_at}
-use Rattle.npf_traffic.specs.declared.packet.Packet.{Packet}
-use Rattle.npf_traffic.specs.Packet.{IsShortPacket}
-use Rattle.npf_ctl_arrivals.specs.Arrivals.{packet_of}
-use Rattle.npf_ctl_arrivals.specs.Within.{CrossesOneOf, HasCaptureTime, IsInterfaceNumber}
+use Rattle.std.proofs.{Common.{◌≡◌, ◌∙◌, ℕ, List, All, length, map, drop, arith}, lemmas.List.{length-map, length-take, Elements.{All-map, All-weaker}}}
+use Rattle.npf_types.specs.declared.{direction.Dir.Dir, interface.IfId.IfId, link.Link.Link}
+use Rattle.npf_pcap.specs.{declared.extent.Extent.Extent, Extent.{IsShort, IsTimely, record_at, records_at}}
+use Rattle.npf_traffic.specs.{declared.packet.Packet.Packet, Packet.IsShortPacket}
+use Rattle.npf_ctl_arrivals.specs.{Arrivals.packet_of, Within.{CrossesOneOf, HasCaptureTime, IsInterfaceNumber}}
 
 module _ (link : Link) (ifid : IfId) (dir : Dir) (bytes : List ℕ) where
   abbrev pub packet_at : Extent → Packet

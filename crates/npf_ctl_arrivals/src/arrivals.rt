@@ -13,7 +13,7 @@ use crate::order::by_time;
 use crate::trace::{Tap, Trace, append_packets, read_named};
 use npf_ctl_messages::CommandFault;
 use npf_pcap::Extents;
-use npf_runner::Packet;
+use npf_traffic::Packet;
 use npf_types::limits::{MAX_CAPTURE_BYTES, MAX_PACKETS};
 use npf_types::{Dir, IfId, NoMemory};
 use std::alloc::Global;

@@ -4,7 +4,7 @@ ghost use Rattle.std.specs.List.Sorted.{IsSortedByKey};
 ghost use Rattle.std.specs.Ordering.{nat_cmp};
 ghost use Rattle.npf_ctl_arrivals.specs.Arrivals.{AreByTime};
 
-use npf_runner::Packet;
+use npf_traffic::Packet;
 use npf_types::NoMemory;
 
 /// The packets by time, and those of one time in their order. Those that stand so already are left as they are, with no memory taken.

@@ -6,7 +6,7 @@ ghost use Rattle.npf_ctl_arrivals.specs.Traces.{IsApart, packets_of_trace};
 
 use npf_ctl_messages::CommandFault;
 use npf_pcap::{CaptureFault, Extent, Extents, read_extents};
-use npf_runner::{Packet, PacketBytes};
+use npf_traffic::{Packet, PacketBytes};
 use npf_types::limits::MAX_CAPTURE_BYTES;
 use npf_types::{Dir, IfId, Link, List};
 use std::alloc::Global;

@@ -1,13 +1,10 @@
 -- A file and the interfaces are read alike between all moments that meet as much.
 use Rattle.std.proofs.Common.{ℕ, Option, Some, None, Result, List, length, subst}
-use Rattle.npf_types.specs.declared.limits.TheConstants.{MAX_TEXT_BYTES}
-use Rattle.npf_types.proofs.StageLemmas.{andthen_lasts}
+use Rattle.npf_types.{specs.declared.limits.TheConstants.MAX_TEXT_BYTES, proofs.StageLemmas.andthen_lasts}
 use Rattle.npf_model.specs.declared.iface.Iface.{Iface}
 use Rattle.npf_outside.specs.Files.{FilesMoment, Has, Tree}
 use Rattle.npf_ctl_messages.specs.declared.fault.CommandFault.{CommandFault}
-use Rattle.npf_ctl_input.specs.File.{ReadsFile, whole, longer, failed}
-use Rattle.npf_ctl_input.specs.Interfaces.{NamesInterfaces, ReadsInterfaces}
-use Rattle.npf_ctl_input.proofs.ReadingLemmas.{MeetsAll}
+use Rattle.npf_ctl_input.{specs.{File.{ReadsFile, whole, longer, failed}, Interfaces.{NamesInterfaces, ReadsInterfaces}}, proofs.ReadingLemmas.MeetsAll}
 
 module _ (old new before after : FilesMoment) (meets : MeetsAll old new before after) where
   pub file_lasts : (name : List ℕ) (most : ℕ) (result : Result (List ℕ) CommandFault) → ReadsFile old new name most result → ReadsFile before after name most result

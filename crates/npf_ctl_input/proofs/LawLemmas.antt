@@ -1,9 +1,6 @@
 -- Where contents are told and no read fails, each stage comes to what it would come to over the contents alone.
-use Rattle.npf_ctl_input.specs.File.{told_files}
-use Rattle.npf_ctl_input.specs.Laws.{ConfigurationsAreOfContents, FilesAreOfContents, InterfacesAreOfContents, LoadsAreOfContents}
-use Rattle.npf_ctl_input.proofs.FileLemmas.{file_lasts, interfaces_last}
-use Rattle.npf_ctl_input.proofs.LoadingLemmas.{alone_lasts, load_lasts}
-use Rattle.npf_ctl_input.proofs.ReadingLemmas.{meets_told}
+use Rattle.npf_ctl_input.specs.{File.told_files, Laws.{ConfigurationsAreOfContents, FilesAreOfContents, InterfacesAreOfContents, LoadsAreOfContents}}
+use Rattle.npf_ctl_input.proofs.{FileLemmas.{file_lasts, interfaces_last}, LoadingLemmas.{alone_lasts, load_lasts}, ReadingLemmas.meets_told}
 
 pub files_of_contents : FilesAreOfContents
 files_of_contents name most tree before after result told well =

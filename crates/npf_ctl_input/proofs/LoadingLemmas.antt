@@ -1,29 +1,18 @@
 -- A configuration is loaded alike between all moments that meet as much.
 use Rattle.std.proofs.Common.{ℕ, Option, Result, Err, List, subst}
-use Rattle.npf_types.specs.declared.limits.TheConstants.{MAX_TEXT_BYTES}
-use Rattle.npf_types.specs.declared.span.Span.{Span}
-use Rattle.npf_types.proofs.StageLemmas.{andthen_lasts}
+use Rattle.npf_types.{specs.declared.{limits.TheConstants.MAX_TEXT_BYTES, span.Span.Span}, proofs.StageLemmas.andthen_lasts}
 use Rattle.npf_faults.specs.declared.fault.ConfFault.{ConfFault}
-use Rattle.npf_model.specs.declared.iface.Iface.{Iface}
-use Rattle.npf_model.specs.declared.table.TableDecl.{TableDecl}
-use Rattle.npf_model.specs.Configuration.{Configuration}
-use Rattle.npf_model.specs.Describes.{Tables}
-use Rattle.npf_outside.specs.declared.files.FileFault.{FileFault}
+use Rattle.npf_model.specs.{declared.{iface.Iface.Iface, table.TableDecl.TableDecl}, Configuration.Configuration, Describes.Tables}
+use Rattle.npf_outside.specs.{declared.files.FileFault.FileFault, Files.{FilesMoment, Tree}}
 use Rattle.npf_outside.specs.declared.files.FileFault.TheVariants as IsFile
-use Rattle.npf_outside.specs.Files.{FilesMoment, Tree}
-use Rattle.npf_config.specs.declared.fault.LoadFault.{LoadFault}
+use Rattle.npf_config.specs.{declared.fault.LoadFault.LoadFault, FirstConfiguration.IsFirstConfiguration, Reading.{ComesTo, IsUnread}}
 use Rattle.npf_config.specs.declared.fault.LoadFault.TheVariants as Load
-use Rattle.npf_config.specs.FirstConfiguration.{IsFirstConfiguration}
-use Rattle.npf_config.specs.Reading.{ComesTo, IsUnread}
 use Rattle.npf_config.specs.Refusal.{RefusesConfiguration, RefusesLoad, RefusesTableFile, RefusesTables, bad_line, by_rules, by_tables, by_text, too_many}
 use Rattle.npf_config.specs.Tables.{AreFirstEntries, AreFirstTables, IsTableText}
 use Rattle.npf_ctl_messages.specs.declared.fault.CommandFault.{CommandFault}
-use Rattle.npf_ctl_input.specs.File.{ReadsFile}
-use Rattle.npf_ctl_input.specs.Interfaces.{ReadsInterfaces}
-use Rattle.npf_ctl_input.specs.Loading.{LoadsAlone, LoadsFile, LoadsText, loaded, longer, refused, told_load, unread}
-use Rattle.npf_ctl_input.specs.Unless.{IfTold}
-use Rattle.npf_ctl_input.proofs.FileLemmas.{file_lasts, interfaces_last}
-use Rattle.npf_ctl_input.proofs.ReadingLemmas.{MeetsAll}
+use Rattle.npf_ctl_input.specs.{File.ReadsFile, Interfaces.ReadsInterfaces}
+use Rattle.npf_ctl_input.specs.{Loads.{LoadsAlone, LoadsFile, LoadsText, loaded, longer, refused, told_load, unread}, Unless.IfTold}
+use Rattle.npf_ctl_input.proofs.{FileLemmas.{file_lasts, interfaces_last}, ReadingLemmas.MeetsAll}
 
 module _ (old new before after : FilesMoment) (meets : MeetsAll old new before after) where
   comes_last : (decls : List TableDecl) (decl : TableDecl) (tables : Tables) → ComesTo old decls decl tables → ComesTo before decls decl tables

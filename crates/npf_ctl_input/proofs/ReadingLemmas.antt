@@ -1,9 +1,7 @@
 -- What is met between two moments of the files is met between two others: around a call, and where contents are told and no read fails.
 use Rattle.std.proofs.Common.{◌≡◌, ℕ, ◌≤◌, Option, Some, None, List, subst, arith}
-use Rattle.npf_outside.specs.Counts.{Rose, StoodStill, count_after}
-use Rattle.npf_outside.specs.Files.{FilesMoment, IsLonger, Tree}
-use Rattle.npf_ctl_input.specs.Around.{Around}
-use Rattle.npf_ctl_input.specs.File.{ReadsWell, WasTaken, told_files}
+use Rattle.npf_outside.specs.{Counts.{Rose, StoodStill, count_after}, Files.{FilesMoment, IsLonger, Tree}}
+use Rattle.npf_ctl_input.specs.{Around.Around, File.{ReadsWell, WasTaken, told_files}}
 
 -- reads between `before` and `after` meet whatever reads between `old` and `new` do
 pub record MeetsAll (old new before after : FilesMoment) : Type 0 where

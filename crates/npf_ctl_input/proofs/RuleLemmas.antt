@@ -1,15 +1,10 @@
 -- A rule that a script adds is no longer than the script.
 use Rattle.std.proofs.Common.{◌≡◌, ℕ, zero, suc, ◌+◌, ◌≤◌, Bool, true, false, cond, Some, List, [], ◌∷◌, ◌++◌, All, length, length-drop, refl, subst, arith}
-use Rattle.std.specs.List.{onto_first, slice_split}
-use Rattle.std.proofs.lemmas.List.Elements.{All-cons, All-head, All-nil, All-pop, All-push, All-tail, All-weaker}
+use Rattle.std.{specs.List.{onto_first, slice_split}, proofs.lemmas.List.Elements.{All-cons, All-head, All-nil, All-pop, All-push, All-tail, All-weaker}}
 use Rattle.npf_types.specs.declared.limits.TheConstants.{MAX_TEXT_BYTES}
-use Rattle.npf_table.specs.Line.{after_blanks}
-use Rattle.npf_table.specs.TableFile.{is_line_feed, lines}
-use Rattle.npf_ctl_script.specs.declared.script.ScriptLine.{ScriptLine}
-use Rattle.npf_ctl_script.specs.declared.script.ScriptLine.TheVariants.{RuleAdd}
-use Rattle.npf_ctl_script.specs.Arguments.{IsForm, behind_change}
-use Rattle.npf_ctl_script.specs.Lines.{AreRead, IsScript, nothing, skipped, told}
-use Rattle.npf_ctl_script.specs.Words.{behind_word}
+use Rattle.npf_table.specs.{Line.after_blanks, TableFile.{is_line_feed, lines}}
+use Rattle.npf_ctl_script.specs.{declared.script.ScriptLine.{ScriptLine, TheVariants.RuleAdd}, Arguments.{IsForm, behind_change}}
+use Rattle.npf_ctl_script.specs.{Lines.{AreRead, IsScript, nothing, skipped, told}, Words.behind_word}
 use Rattle.npf_ctl_input.specs.Rules.{AddsShortRule}
 
 -- at most so many bytes

@@ -1,8 +1,7 @@
 -- What a call comes to, of which nothing is said where memory runs out, goes on to the stages behind it.
 use Rattle.std.specs.Prelude.{Result, Ok, Err}
 use Rattle.npf_types.specs.Stages.{Stage, ◌andthen◌, stops, goes_on}
-use Rattle.npf_ctl_messages.specs.declared.fault.CommandFault.{CommandFault}
-use Rattle.npf_ctl_messages.specs.declared.fault.CommandFault.TheVariants.{NoMemory}
+use Rattle.npf_ctl_messages.specs.declared.fault.CommandFault.{CommandFault, TheVariants.NoMemory}
 use Rattle.npf_ctl_input.specs.Unless.{IfTold, UnlessMemory}
 
 pub told_lasts : (P Q : CommandFault → Type 0) → ((fault : CommandFault) → P fault → Q fault) → (fault : CommandFault) → IfTold P fault → IfTold Q fault

@@ -6,7 +6,7 @@ use Rattle.npf_types.specs.Stages.{Stage}
 use Rattle.npf_ctl_messages.specs.declared.fault.CommandFault.{CommandFault}
 use Rattle.npf_ctl_input.specs.File.{ReadsFile, ReadsWell, told_files}
 use Rattle.npf_ctl_input.specs.Interfaces.{ReadsInterfaces}
-use Rattle.npf_ctl_input.specs.Loading.{LoadsAlone, LoadsFile}
+use Rattle.npf_ctl_input.specs.Loads.{LoadsAlone, LoadsFile}
 
 -- a stage comes to what it would come to over the contents alone
 abbrev pub IsOfContents : {A : Type 0} → (FilesMoment → FilesMoment → Stage A CommandFault) → Type 0

@@ -2,7 +2,7 @@ pub mod Around
 pub mod File
 pub mod Interfaces
 pub mod Laws
-pub mod Loading
+pub mod Loads
 pub mod Rules
 pub mod Source
 pub mod Unless

@@ -10,10 +10,10 @@
 mod file;
 mod interfaces;
 pub mod laws;
-mod loading;
+mod loads;
 mod source;
 
 pub use file::{read_file, text_of};
 pub use interfaces::read_interfaces;
-pub use loading::{load_alone, load_file, told_fault};
-pub use source::{Source, read_source};
+pub use loads::{load_alone, load_file, told_fault};
+pub use source::{RunSource, read_source};

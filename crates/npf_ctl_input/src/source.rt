@@ -15,7 +15,7 @@ use std::alloc::Global;
 
 /// What a run plays: the second of its files.
 #[derive(Debug, Drop)]
-pub enum Source {
+pub enum RunSource {
     /// The bytes of a capture, which stands for a script that names it.
     Alone(Vec<u8>),
     /// The commands of a script.
@@ -24,13 +24,13 @@ pub enum Source {
 
 /// What these bytes of this file are: a capture where they begin as one, and otherwise a script. Refused where they are no capture
 /// and longer than a text may be (`Long`), or for the script's first bad line; or for want of memory.
-pub fn read_source(alloc: Global, file: &str, bytes: Vec<u8>) -> Result<Source, CommandFault>
+pub fn read_source(alloc: Global, file: &str, bytes: Vec<u8>) -> Result<RunSource, CommandFault>
     requires { length bytes.items ≤ MAX_CAPTURE_BYTES }
     ensures comes { UnlessMemory source_view result (ReadsSource file.now bytes.items) }
     ensures short { IfOk result (λ source. HasShortRules (source_view source)) }
 {
     if begins_as_capture(bytes.as_slice()) {
-        return Ok(Source::Alone(bytes));
+        return Ok(RunSource::Alone(bytes));
     }
     if bytes.len() > MAX_TEXT_BYTES {
         return Err(CommandFault::Long {
@@ -39,7 +39,7 @@ pub fn read_source(alloc: Global, file: &str, bytes: Vec<u8>) -> Result<Source, 
         });
     }
     match read_script(alloc, bytes.as_slice()) {
-        Ok(script) => Ok(Source::Scripted(script)),
+        Ok(script) => Ok(RunSource::Scripted(script)),
         Err(ScriptFault::BadLine { line }) => Err(CommandFault::Line {
             script: text_of(alloc, file)?,
             line,

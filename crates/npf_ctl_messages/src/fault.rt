@@ -1,3 +1,4 @@
+// Why a command fails: the exit status, the number and the name of each fault.
 ghost use Rattle.std.specs.Prelude.{◌≡◌};
 ghost use Rattle.npf_ctl_messages.specs.Message.{line_fault_name, line_fault_number, saved_count, saved_name, saved_number, status_of_fault};
 

@@ -11,7 +11,7 @@
 mod fault;
 mod limit;
 mod messages;
-mod writing;
+mod numbered;
 
 pub use fault::{CommandFault, LineFault, Quantity, SavedRefusal};
 pub use messages::message;

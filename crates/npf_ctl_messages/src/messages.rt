@@ -1,9 +1,10 @@
+// The line that tells a fault.
 ghost use Rattle.std.specs.Prelude.{◌≡◌, ◌++◌, IfOk, OnOk, codes};
 ghost use Rattle.npf_ctl_messages.specs.Message.{message_line, said_of, conf_fault_text, detail_text, line_fault_text, capture_fault_text, saved_fault_text};
 
 use crate::fault::{CommandFault, LineFault, SavedRefusal};
 use crate::limit::{most_excess, most_of, quantity_name};
-use crate::writing::{write_numbered, write_over};
+use crate::numbered::{write_numbered, write_over};
 use npf_faults::{ConfFault, Fault};
 use npf_pcap::CaptureFault;
 use npf_text::{write_bytes, write_counted, write_text};

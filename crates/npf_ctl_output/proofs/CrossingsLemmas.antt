@@ -1,12 +1,9 @@
 -- What is found at an interface's place.
 use Rattle.std.proofs.Common.{◌≡◌, ℕ, zero, suc, ◌-◌, ◌<◌, List, [], ◌∷◌, Some, length, get_or, slice_get, refl, sym, ap, subst, ◌∙◌, arith}
-use Rattle.npf_types.specs.declared.direction.Dir.TheVariants.{In, Out}
-use Rattle.npf_types.specs.Name.{name_bytes}
+use Rattle.npf_types.specs.{declared.direction.Dir.TheVariants.{In, Out}, Name.name_bytes}
 use Rattle.npf_model.specs.declared.iface.Iface.{Iface}
 use Rattle.npf_traffic.specs.declared.packet.Packet.{Packet}
-use Rattle.npf_ctl_output.specs.declared.crossings.Crossings.{Crossings}
-use Rattle.npf_ctl_output.specs.Crossings.{AreCrossingsOf, IsCrossedBy, IsCrossingsOf}
-use Rattle.npf_ctl_output.specs.Report.{interface_name}
+use Rattle.npf_ctl_output.specs.{declared.crossings.Crossings.Crossings, Crossings.{AreCrossingsOf, IsCrossedBy, IsCrossingsOf}, Report.interface_name}
 
 pub crossings_at : (ifaces : List Iface) (crossings : List Crossings) (i : ℕ) (default : Crossings) → AreCrossingsOf ifaces crossings → i < length crossings →
     (iface : Iface) × (slice_get ifaces i ≡ Some iface) × IsCrossingsOf iface (get_or crossings i default)

@@ -1,26 +1,15 @@
 -- What a run leaves of its packets.
-use Rattle.std.proofs.Common.{◌≡◌, ℕ, zero, suc, ◌+◌, true, List, [], ◌∷◌, Option, take, drop, length, refl, ap, sym, subst}
-use Rattle.std.proofs.lemmas.Bool.{false≢true}
-use Rattle.std.proofs.lemmas.List.Elements.{All-from_recursion, recursion_from_All}
-use Rattle.std.specs.List.{All, AllByRecursion}
-use Rattle.npf_packet.specs.declared.decoded.Decoded.TheVariants.{Ip}
-use Rattle.npf_packet.specs.Decoding.{Decodes}
+use Rattle.std.proofs.{Common.{◌≡◌, ℕ, zero, suc, ◌+◌, true, List, [], ◌∷◌, Option, take, drop, length, refl, ap, sym, subst}, lemmas.Bool.false≢true}
+use Rattle.std.{proofs.lemmas.List.Elements.{All-from_recursion, recursion_from_All}, specs.List.{All, AllByRecursion}}
+use Rattle.npf_packet.specs.{declared.decoded.Decoded.TheVariants.Ip, Decoder.Decodes}
 use Rattle.npf_types.specs.declared.facts.Facts.{Facts}
 use Rattle.npf_connections.specs.Pass.{Pass}
-use Rattle.npf_model.specs.Configuration.{Configuration}
-use Rattle.npf_model.specs.declared.iface.Iface.{Iface}
-use Rattle.npf_engine.specs.declared.outcome.Outcome.{Outcome}
-use Rattle.npf_engine.specs.Arrival.{Arrival}
-use Rattle.npf_engine.specs.Explains.{Explains, Sight}
-use Rattle.npf_engine.specs.Histories.{FlowEntry, History}
-use Rattle.npf_engine.specs.Outcome.{passes}
-use Rattle.npf_traffic.specs.declared.packet.Packet.{Packet}
-use Rattle.npf_runner.specs.declared.phase.Phase.{Phase}
-use Rattle.npf_runner.specs.declared.phase.Spread.{Spread}
-use Rattle.npf_runner.specs.Plays.{AreAnswered, PlaysFrom, published_by}
+use Rattle.npf_model.specs.{Configuration.Configuration, declared.iface.Iface.Iface}
+use Rattle.npf_engine.specs.{declared.outcome.Outcome.Outcome, Arrival.Arrival, Explains.{Explains, Sight}, Histories.{FlowEntry, History}, Outcome.passes}
+use Rattle.npf_traffic.specs.{declared.{packet.Packet.Packet, phase.{Phase.Phase, Spread.Spread}}, Phases.published_by}
+use Rattle.npf_runner.specs.Plays.{AreAnswered, PlaysFrom}
 use Rattle.npf_ctl_arrivals.specs.Within.{CrossesOneOf, HasCaptureTime}
-use Rattle.npf_ctl_output.specs.Outputs.{AreOutputsOf, PlayedAreOutputs}
-use Rattle.npf_ctl_output.specs.Report.{lines_from, report_text}
+use Rattle.npf_ctl_output.specs.{Outputs.{AreOutputsOf, PlayedAreOutputs}, Report.{lines_from, report_text}}
 
 -- only a packet of IP passes
 passes_ip : {configs : List Configuration} {sight : Sight} {arrival : Arrival} {asked : Option ℕ} {said : _} {outcome : Outcome} {sent : Option (List ℕ)} →
@@ -28,9 +17,7 @@ passes_ip : {configs : List Configuration} {sight : Sight} {arrival : Arrival} {
 passes_ip (Explains.fragment held) goes_on = absurd (false≢true goes_on)
 passes_ip (Explains.skip free decodes) goes_on = absurd (false≢true goes_on)
 passes_ip (Explains.malformed free decodes) goes_on = absurd (false≢true goes_on)
-passes_ip (Explains.to_conn {facts = facts} free decodes looks by) goes_on = (facts, decodes)
-passes_ip (Explains.to_quoted {facts = facts} free decodes looks there quotes by) goes_on = (facts, decodes)
-passes_ip (Explains.to_rules {facts = facts} free decodes looks there quotes ruled) goes_on = (facts, decodes)
+passes_ip (Explains.ip {facts = facts} free decodes explains) goes_on = (facts, decodes)
 
 module _ (configs : List Configuration) (workers : ℕ) (spread : Spread) (slots : ℕ) (history end : History) where
   answered_outputs : (n : ℕ) (packets : List Packet) (dealt : List ℕ) (asked : List (Option ℕ)) (outcomes : List Outcome) (outputs : List Packet) →

@@ -2,16 +2,12 @@
 use Rattle.std.proofs.Common.{◌≡◌, ℕ, ◌+◌, ◌<◌, ◌≤◌, List, [], ◌∷◌, ◌++◌, Option, length, get_or, drop, refl, sym, ap, ◌∙◌, append_assoc, append-nil, subst, arith}
 use Rattle.std.proofs.lemmas.List.{drop_more, drop_all}
 use Rattle.npf_model.specs.declared.iface.Iface.{Iface}
-use Rattle.npf_outside.specs.Sink.{IsPutTo, Appends, AppendsFront}
-use Rattle.npf_outside.proofs.SinkLemmas.{IsPutTo-goes_on, IsPutTo-fails, IsPutTo-begins}
+use Rattle.npf_outside.{specs.Sink.{IsPutTo, Appends, AppendsFront}, proofs.SinkLemmas.{IsPutTo-goes_on, IsPutTo-fails, IsPutTo-begins}}
 use Rattle.npf_engine.specs.declared.outcome.Outcome.{Outcome}
-use Rattle.npf_report.specs.LineText.{line_text}
-use Rattle.npf_report.specs.TotalText.{total_text}
+use Rattle.npf_report.specs.{LineText.line_text, TotalText.total_text, declared.crossed.Crossed.Crossed}
 use Rattle.npf_traffic.specs.declared.packet.Packet.{Packet}
 use Rattle.npf_types.specs.Name.{name_bytes}
-use Rattle.npf_report.specs.declared.crossed.Crossed.{Crossed}
-use Rattle.npf_ctl_output.specs.Crossings.{IsCrossedBy}
-use Rattle.npf_ctl_output.specs.Report.{lines_from, name_of_interface, report_text}
+use Rattle.npf_ctl_output.specs.{Crossings.IsCrossedBy, Report.{lines_from, name_of_interface, report_text}}
 
 -- the line of a packet with its outcome
 abbrev pub line_of : List Iface → ℕ → Packet → Outcome → List ℕ
@@ -30,7 +26,8 @@ module _ (ifaces : List Iface) (packets : List Packet) (outcomes : List Outcome)
   IsLeft held k = IsPutTo old held text (lines_from ifaces (k + 1) (drop k packets) (drop k outcomes) ++ rest)
 
   module _ (now new : Option (List ℕ)) (i : ℕ) where
-    module _ (packet : Packet) (outcome : Outcome) (within : i < length packets) (many : length outcomes ≡ length packets) (packet_is : packet ≡ get_or packets i packet) (outcome_is : outcome ≡ get_or outcomes i outcome) where
+    module _ (packet : Packet) (outcome : Outcome) (within : i < length packets) (many : length outcomes ≡ length packets)
+        (packet_is : packet ≡ get_or packets i packet) (outcome_is : outcome ≡ get_or outcomes i outcome) where
       next_line : lines_from ifaces (i + 1) (drop i packets) (drop i outcomes) ++ rest
           ≡ line_of ifaces (i + 1) packet outcome ++ (lines_from ifaces (i + 1 + 1) (drop (i + 1) packets) (drop (i + 1) outcomes) ++ rest)
       next_line =
@@ -60,6 +57,7 @@ module _ (ifaces : List Iface) (packets : List Packet) (outcomes : List Outcome)
         IsPutTo-goes_on old new last text [] [] (IsPutTo-goes_on old now new text rest [] (rest_next past left) put) stays
 
 -- at the beginning all of the report is left
-pub nothing_put : (ifaces : List Iface) (packets : List Packet) (outcomes : List Outcome) (old : Option (List ℕ)) → IsLeft ifaces packets outcomes old (report_text ifaces packets outcomes) (total_text outcomes) old 0
+pub nothing_put : (ifaces : List Iface) (packets : List Packet) (outcomes : List Outcome) (old : Option (List ℕ)) →
+    IsLeft ifaces packets outcomes old (report_text ifaces packets outcomes) (total_text outcomes) old 0
 unfolding report_text
 nothing_put ifaces packets outcomes old = IsPutTo-begins old (report_text ifaces packets outcomes)

@@ -1,17 +1,12 @@
 -- What is written of a run's packets.
 use Rattle.std.proofs.Common.{◌≡◌, ℕ, ◌+◌, ◌<◌, ◌≤◌, Bool, true, false, List, [], ◌∷◌, ◌++◌, length, get_or, drop, refl, sym, ap, ◌∙◌, append_assoc, arith}
-use Rattle.std.proofs.lemmas.List.{drop_more, drop_all}
-use Rattle.std.proofs.lemmas.List.Concat.{flat_map-append}
-use Rattle.std.specs.List.{flat_map}
-use Rattle.npf_pcap.specs.declared.capture.Record.{Record}
-use Rattle.npf_pcap.specs.Spelling.{record_bytes}
-use Rattle.npf_engine.specs.declared.outcome.Outcome.{Outcome}
-use Rattle.npf_engine.specs.Outcome.{passes}
+use Rattle.std.{proofs.lemmas.List.{drop_more, drop_all, Concat.flat_map-append}, specs.List.flat_map}
+use Rattle.npf_pcap.specs.{declared.capture.Record.Record, Spelling.record_bytes}
+use Rattle.npf_engine.specs.{declared.outcome.Outcome.Outcome, Outcome.passes}
 use Rattle.npf_traffic.specs.declared.packet.Packet.{Packet}
 use Rattle.npf_packet.specs.declared.extent.IpExtent.{IpExtent}
-use Rattle.npf_ctl_output.specs.Extents.{AreExtentsOf, IsExtentOf}
-use Rattle.npf_ctl_output.specs.Outputs.{AreOutputsOf, IsOutputOf}
-use Rattle.npf_ctl_output.specs.Written.{AreWritten, IsWrittenAs, bytes_behind, records_from, record_from, written_records}
+use Rattle.npf_ctl_output.specs.{Extents.{AreExtentsOf, IsExtentOf}, Outputs.{AreOutputsOf, IsOutputOf}}
+use Rattle.npf_ctl_output.specs.Capture.{AreWritten, IsWrittenAs, bytes_behind, records_from, record_from, written_records}
 
 -- the record that is written of a packet of IP
 written_as : (packet : Packet) (outcome : Outcome) (output : Packet) (extent : IpExtent) → IsExtentOf packet extent → IsOutputOf packet outcome output → passes outcome ≡ true →

@@ -5,7 +5,7 @@ use Rattle.npf_types.specs.declared.facts.Facts.{Facts}
 use Rattle.npf_types.specs.declared.limits.TheConstants.{MAX_PACKET_BYTES}
 use Rattle.npf_packet.specs.declared.decoded.Decoded.TheVariants.{Ip}
 use Rattle.npf_packet.specs.declared.extent.IpExtent.{IpExtent}
-use Rattle.npf_packet.specs.Decoding.{Decodes}
+use Rattle.npf_packet.specs.Decoder.{Decodes}
 use Rattle.npf_packet.specs.Extent.{IsIpExtent}
 use Rattle.npf_traffic.specs.declared.packet.Packet.{Packet}
 

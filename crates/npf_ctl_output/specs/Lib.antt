@@ -2,7 +2,7 @@ pub mod Crossings
 pub mod Extents
 pub mod Outputs
 pub mod Passed
-pub mod Putting
+pub mod SinkText
 pub mod Report
-pub mod Writing
-pub mod Written
+pub mod File
+pub mod Capture

@@ -1,7 +1,7 @@
 // What a run puts out: its report on the standard output, line by line (docs/npfctl.8, "The report"), and the capture of
 // the packets that it let pass; and it writes a file.
 //
-// A run writes over the bytes of its packets, so `ip_extents` notes before it where each record has its IP packet, and `Passed` cuts
+// A run writes over the bytes of its packets, so `ip_extents` notes before it where each record has its IP packet, and `PassedPackets` cuts
 // the sent bytes by these notes after it. The capture is given part by part: it is never whole in memory.
 //
 // The contract: what is put is the report's text, whole, or a front of it where the sink refuses or memory runs out; and the
@@ -9,20 +9,20 @@
 // packet's end.
 #![tactic(auto)]
 
+mod capture;
 mod crossings;
 mod extent;
+mod file;
+mod file_parts;
 mod laws;
-mod parts;
 mod passed;
-mod putting;
 mod report;
-mod writing;
-mod written;
+mod sink_text;
 
 pub use extent::ip_extents;
+pub use file::write_file;
+pub use file_parts::write_parts;
 pub use laws::played_are_outputs;
-pub use parts::write_parts;
-pub use passed::Passed;
-pub use putting::put_text;
+pub use passed::PassedPackets;
 pub use report::{put_report, put_total};
-pub use writing::write_file;
+pub use sink_text::put_text;

@@ -10,7 +10,7 @@ use npf_runner::Packet;
 /// The capture of the packets that passed, as a run left them: its header, and then the records, each of a packet as it lies by its
 /// extent from before the run.
 #[derive(Drop)]
-pub struct Passed<'a> {
+pub struct PassedPackets<'a> {
     pub(crate) extents: &'a [IpExtent],
     pub(crate) outputs: &'a [Packet<'a>],
     pub(crate) outcomes: &'a [Outcome],

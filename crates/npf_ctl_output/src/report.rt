@@ -8,11 +8,11 @@ ghost use Rattle.npf_ctl_arrivals.specs.Within.{CrossesOneOf};
 ghost use Rattle.npf_report.specs.LineText.{line_text};
 ghost use Rattle.npf_report.specs.TotalText.{total_text, CountsOutcomes};
 ghost use Rattle.npf_ctl_output.specs.Crossings.{AreCrossingsOf, IsCrossedBy};
-ghost use Rattle.npf_ctl_output.specs.Putting.{HasPutFault};
+ghost use Rattle.npf_ctl_output.specs.SinkText.{HasPutFault};
 ghost use Rattle.npf_ctl_output.specs.Report.{report_text};
 
 use crate::crossings::{Crossings, crossings_of};
-use crate::putting::{flush, put, put_text};
+use crate::sink_text::{flush, put, put_text};
 use npf_ctl_messages::CommandFault;
 use npf_engine::Outcome;
 use npf_model::Ifaces;

@@ -3,9 +3,6 @@ use Rattle.std.proofs.Common.{◌∙◌, refl, arith}
 use Rattle.npf_outside.specs.Files.{FilesMoment, SameReadFaults}
 use Rattle.npf_config.specs.Reading.{OnlyReads}
 
-pub reads_none : (moment : FilesMoment) → OnlyReads moment moment
-reads_none moment = record { contents = refl; write_faults = refl; read_faults = omega arith; read_faults_of = λ name. omega arith; taken = omega arith }
-
 pub faultless_none : (moment : FilesMoment) → SameReadFaults moment moment
 faultless_none moment = record { all = refl; each = λ name. refl }
 

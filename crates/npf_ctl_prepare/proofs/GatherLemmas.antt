@@ -1,30 +1,17 @@
 -- The packets of a run's captures, one line after another.
 use Rattle.std.proofs.Common.{◌≡◌, ◌≢◌, ℕ, Result, Ok, Err, OnOk, IfErr, List, [], ◌∷◌, length, get_or, refl, subst, arith}
-use Rattle.npf_types.specs.declared.direction.Dir.{Dir}
-use Rattle.npf_types.specs.declared.interface.IfId.{IfId}
-use Rattle.npf_types.specs.declared.limits.TheConstants.{MAX_CAPTURE_BYTES}
-use Rattle.npf_types.specs.declared.name.Name.{Name}
-use Rattle.npf_types.specs.Stages.{stops, goes_on}
+use Rattle.npf_types.specs.{declared.{direction.Dir.Dir, interface.IfId.IfId, limits.TheConstants.MAX_CAPTURE_BYTES, name.Name.Name}, Stages.{stops, goes_on}}
 use Rattle.npf_model.specs.declared.iface.Iface.{Iface}
 use Rattle.npf_outside.specs.Files.{FilesMoment, SameReadFaults}
-use Rattle.npf_config.specs.Reading.{OnlyReads}
-use Rattle.npf_ctl_script.specs.declared.script.ScriptLine.{ScriptLine}
-use Rattle.npf_ctl_script.specs.declared.script.ScriptLine.TheVariants.{Capture}
+use Rattle.npf_config.{specs.Reading.OnlyReads, proofs.TableLemmas.no_reads}
+use Rattle.npf_ctl_script.specs.declared.script.ScriptLine.{ScriptLine, TheVariants.Capture}
 use Rattle.npf_ctl_schedule.specs.Schedule.{unnumbered}
-use Rattle.npf_ctl_arrivals.specs.declared.arrivals.Arrivals.{Arrivals}
-use Rattle.npf_ctl_arrivals.specs.Arrivals.{Gathered, GathersCapture, none_gathered}
-use Rattle.npf_ctl_arrivals.specs.Gathering.{gathered_so_far}
-use Rattle.npf_ctl_messages.specs.declared.fault.CommandFault.{CommandFault}
-use Rattle.npf_ctl_messages.specs.declared.fault.CommandFault.TheVariants.{NoMemory}
-use Rattle.npf_ctl_input.specs.Around.{Around}
-use Rattle.npf_ctl_input.specs.File.{ReadsFile}
-use Rattle.npf_ctl_input.specs.Source.{Source, Scripted}
-use Rattle.npf_ctl_input.specs.Unless.{IfTold, UnlessMemory}
-use Rattle.npf_ctl_input.proofs.AroundLemmas.{around_first, around_next}
-use Rattle.npf_ctl_input.proofs.UnlessLemmas.{unless_lasts}
+use Rattle.npf_ctl_arrivals.specs.{declared.arrivals.Arrivals.Arrivals, Arrivals.{Gathered, GathersCapture, none_gathered}, Gathering.gathered_so_far}
+use Rattle.npf_ctl_messages.specs.declared.fault.CommandFault.{CommandFault, TheVariants.NoMemory}
+use Rattle.npf_ctl_input.specs.{Around.Around, File.ReadsFile, Source.{Source, Scripted}, Unless.{IfTold, UnlessMemory}}
+use Rattle.npf_ctl_input.proofs.{AroundLemmas.{around_first, around_next}, UnlessLemmas.{unless_lasts, told_lasts}}
 use Rattle.npf_ctl_prepare.specs.Captures.{GathersCaptures, GathersLine, ReadsCaptureFile, interface_id}
-use Rattle.npf_ctl_prepare.proofs.AroundLemmas.{faultless_none, faultless_on, reads_none, reads_on}
-use Rattle.npf_ctl_prepare.proofs.StageLemmas.{told_as, told_unless}
+use Rattle.npf_ctl_prepare.proofs.{AroundLemmas.{faultless_none, faultless_on, reads_on}, StageLemmas.told_unless}
 
 module _ (source : Source) (ifaces : List Iface) (lines : List (ℕ × ScriptLine)) (first now : FilesMoment) where
   -- the lines in front of the rest were followed
@@ -36,7 +23,8 @@ module _ (source : Source) (ifaces : List Iface) (lines : List (ℕ × ScriptLin
     pub faultless : SameReadFaults first now
 
 module _ (source : Source) (ifaces : List Iface) (lines : List (ℕ × ScriptLine)) (first now : FilesMoment) where
-  module _ (line : ℕ × ScriptLine) (rest : List (ℕ × ScriptLine)) (gathered : Gathered) (so_far : GatheredSoFar source ifaces lines first now (line ∷ rest) gathered) (next : FilesMoment) (reads : OnlyReads now next) where
+  module _ (line : ℕ × ScriptLine) (rest : List (ℕ × ScriptLine)) (gathered : Gathered)
+      (so_far : GatheredSoFar source ifaces lines first now (line ∷ rest) gathered) (next : FilesMoment) (reads : OnlyReads now next) where
     module _ (more : Gathered)
         (comes : (before after : FilesMoment) → Around before now next after → GathersLine before after source ifaces line.1 gathered (Ok more)) where
       pub gathered_more : SameReadFaults now next → GatheredSoFar source ifaces lines first next rest more
@@ -53,14 +41,14 @@ module _ (source : Source) (ifaces : List Iface) (lines : List (ℕ × ScriptLin
         (before after : FilesMoment) → Around before first next after →
         IfTold (λ other. GathersCaptures before after source ifaces (unnumbered lines) none_gathered (Err other)) fault
     gathering_stops fault comes before after around =
-        told_as (λ other. GathersLine before after source ifaces line.1 gathered (Err other))
+        told_lasts (λ other. GathersLine before after source ifaces line.1 gathered (Err other))
         (λ other. GathersCaptures before after source ifaces (unnumbered lines) none_gathered (Err other))
         (λ other is. so_far.comes before after (around_first before first now next after around reads) (Err other) (stops is)) fault
         (comes before after (around_next before first now next after around so_far.reads))
 
 module _ (source : Source) (ifaces : List Iface) (lines : List (ℕ × ScriptLine)) (first : FilesMoment) where
   pub gathered_none : GatheredSoFar source ifaces lines first first lines none_gathered
-  gathered_none = record { comes = λ before after around result is. is; reads = reads_none first; faultless = faultless_none first }
+  gathered_none = record { comes = λ before after around result is. is; reads = no_reads first; faultless = faultless_none first }
 
   pub all_gathered : (now : FilesMoment) (gathered : Gathered) → GatheredSoFar source ifaces lines first now [] gathered → (before after : FilesMoment) →
       Around before first now after → GathersCaptures before after source ifaces (unnumbered lines) none_gathered (Ok gathered)
@@ -110,5 +98,5 @@ pub line_unread :
     IfTold (λ other. ReadsFile before after file MAX_CAPTURE_BYTES (Err other)) fault →
     IfTold (λ other. GathersLine before after (Scripted lines) ifaces (Capture name dir file) gathered (Err other)) fault
 line_unread before after lines ifaces name dir file gathered fault is =
-    told_as (λ other. ReadsFile before after file MAX_CAPTURE_BYTES (Err other))
+    told_lasts (λ other. ReadsFile before after file MAX_CAPTURE_BYTES (Err other))
     (λ other. GathersLine before after (Scripted lines) ifaces (Capture name dir file) gathered (Err other)) (λ other unread. stops unread) fault is

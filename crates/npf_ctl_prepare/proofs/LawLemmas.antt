@@ -1,23 +1,17 @@
 -- A run over told contents, of which no read fails, is prepared from the contents alone.
 use Rattle.std.proofs.Common.{◌≡◌, ℕ, cond, Some, Result, List, [], ◌∷◌, ◌++◌}
-use Rattle.npf_types.specs.Stages.{Stage, ◌andthen◌, stops, goes_on}
-use Rattle.npf_model.specs.declared.iface.Iface.{Iface}
-use Rattle.npf_model.specs.Configuration.{Configuration}
+use Rattle.npf_types.specs.{Stages.{Stage, ◌andthen◌, stops, goes_on}, declared.limits.TheConstants.MAX_CAPTURE_BYTES}
+use Rattle.npf_model.specs.{declared.iface.Iface.Iface, Configuration.Configuration}
 use Rattle.npf_outside.specs.Files.{FilesMoment, Tree}
 use Rattle.npf_ctl_script.specs.declared.script.ScriptLine.{ScriptLine}
 use Rattle.npf_ctl_script.specs.declared.script.ScriptLine.TheVariants as Said
 use Rattle.npf_ctl_schedule.specs.Schedule.{makes_change, unnumbered}
 use Rattle.npf_ctl_arrivals.specs.Arrivals.{Gathered, GathersCapture, none_gathered}
 use Rattle.npf_ctl_messages.specs.declared.fault.CommandFault.{CommandFault}
-use Rattle.npf_types.specs.declared.limits.TheConstants.{MAX_CAPTURE_BYTES}
-use Rattle.npf_ctl_input.specs.File.{ReadsFile, ReadsWell, told_files}
-use Rattle.npf_ctl_input.specs.Interfaces.{ReadsInterfaces}
-use Rattle.npf_ctl_input.specs.Laws.{ConfigurationsAreOfContents, FilesAreOfContents, InterfacesAreOfContents}
-use Rattle.npf_ctl_input.specs.Loading.{LoadsFile}
-use Rattle.npf_ctl_input.specs.Source.{Source, Alone, Scripted, ReadsSource, lines_of_source}
-use Rattle.npf_ctl_input.proofs.ReadingLemmas.{meets_told}
-use Rattle.npf_ctl_prepare.specs.Captures.{GathersCaptures, GathersLine, ReadsCaptureFile, interface_id}
-use Rattle.npf_ctl_prepare.specs.Making.{MakesConfigurations, MakesNext}
+use Rattle.npf_ctl_input.specs.{File.{ReadsFile, ReadsWell, told_files}, Interfaces.ReadsInterfaces}
+use Rattle.npf_ctl_input.specs.{Laws.{ConfigurationsAreOfContents, FilesAreOfContents, InterfacesAreOfContents}, Loads.LoadsFile}
+use Rattle.npf_ctl_input.{specs.Source.{Source, Alone, Scripted, ReadsSource, lines_of_source}, proofs.ReadingLemmas.meets_told}
+use Rattle.npf_ctl_prepare.specs.{Captures.{GathersCaptures, GathersLine, ReadsCaptureFile, interface_id}, Configurations.{MakesConfigurations, MakesNext}}
 use Rattle.npf_ctl_prepare.specs.Prepares.{KeepsScriptLimits, RunPlan, Plans, PreparesRun, PreparesSource, RunNames, numbered_by}
 use Rattle.npf_ctl_prepare.proofs.ReloadingLemmas.{reload_lasts}
 

@@ -4,11 +4,9 @@ use Rattle.npf_types.specs.Stages.{stops, goes_on}
 use Rattle.npf_model.specs.declared.iface.Iface.{Iface}
 use Rattle.npf_ctl_script.specs.declared.script.ScriptLine.{ScriptLine}
 use Rattle.npf_ctl_schedule.specs.Schedule.{captures_in, changes_in, phases_in, run_interfaces}
-use Rattle.npf_ctl_messages.specs.declared.fault.CommandFault.{CommandFault}
-use Rattle.npf_ctl_messages.specs.declared.fault.Quantity.TheVariants.{Captures, Changes, Interfaces, Phases}
+use Rattle.npf_ctl_messages.specs.declared.fault.{CommandFault.CommandFault, Quantity.TheVariants.{Captures, Changes, Interfaces, Phases}}
 use Rattle.npf_ctl_input.specs.Unless.{IfTold}
-use Rattle.npf_ctl_prepare.specs.Prepares.{HasFew, KeepsScriptLimits}
-use Rattle.npf_ctl_prepare.proofs.StageLemmas.{told_unless}
+use Rattle.npf_ctl_prepare.{specs.Prepares.{HasFew, KeepsScriptLimits}, proofs.StageLemmas.told_unless}
 
 module _ (given : List Iface) (lines : List ScriptLine) where
   -- the script has too many of something

@@ -1,29 +1,17 @@
 -- What is known of the lines of a script.
-use Rattle.std.proofs.Common.{◌≡◌, ◌≤◌, ◌<◌, ◌+◌, ◌∙◌, ℕ, Bool, true, false, cond, ◌||◌, Option, Some, None, IfSome, Vec, Global, option_map, Ok, List, [], ◌∷◌, ◌++◌, All, length, drop, get_or, refl, sym, subst, ap, arith, true≢false}
-use Rattle.std.specs.List.{list_any}
-use Rattle.std.specs.Str.{bytes_eq}
-use Rattle.std.proofs.lemmas.List.{drop_more}
-use Rattle.std.proofs.lemmas.Bool.{le-leb}
-use Rattle.std.proofs.lemmas.List.Elements.{All-append, All-cons, All-nil, All-weaker}
-use Rattle.std.proofs.lemmas.Slice.Eq.{bytes_eq-Decides}
+use Rattle.std.proofs.Common.{◌≡◌, ◌≤◌, ◌<◌, ◌+◌, ◌∙◌, ℕ, Bool, true, false, cond, ◌||◌, Option, Some, None, IfSome, Vec, Global, option_map, Ok, List}
+use Rattle.std.{proofs.Common.{[], ◌∷◌, ◌++◌, All, length, drop, get_or, refl, sym, subst, ap, arith, true≢false}, specs.{List.list_any, Str.bytes_eq}}
+use Rattle.std.proofs.lemmas.{List.{drop_more, Elements.{All-append, All-cons, All-nil, All-weaker}}, Bool.le-leb, Slice.Eq.bytes_eq-Decides}
 use Rattle.std.proofs.lemmas.List.Folds.{list_any-append}
-use Rattle.npf_types.specs.declared.limits.TheConstants.{MAX_INTERFACES}
-use Rattle.npf_types.specs.declared.name.Name.{Name}
-use Rattle.npf_types.specs.Name.{name_bytes}
-use Rattle.npf_model.specs.declared.iface.Iface.{Iface}
-use Rattle.npf_model.specs.Numbering.{is_named, number_of_place}
-use Rattle.npf_model.specs.Verdict.{first_where}
-use Rattle.npf_ctl_script.specs.declared.script.ScriptLine.{ScriptLine}
+use Rattle.npf_types.specs.{declared.{limits.TheConstants.MAX_INTERFACES, name.Name.Name}, Name.name_bytes}
+use Rattle.npf_model.specs.{declared.iface.Iface.Iface, Numbering.{is_named, number_of_place}, Verdict.first_where}
+use Rattle.npf_ctl_script.specs.{declared.script.ScriptLine.ScriptLine, Arguments.IsForm, Lines.{AreRead, nothing, skipped, told}}
 use Rattle.npf_ctl_script.specs.declared.script.ScriptLine.TheVariants as Said
-use Rattle.npf_ctl_script.specs.Arguments.{IsForm}
-use Rattle.npf_ctl_script.specs.Lines.{AreRead, nothing, skipped, told}
 use Rattle.npf_ctl_schedule.specs.Schedule.{run_interfaces, unnumbered, with_interface}
 use Rattle.npf_ctl_arrivals.specs.Within.{IsInterfaceNumber}
 use Rattle.npf_table.specs.TableFile.{lines as text_lines}
 use Rattle.npf_ctl_input.specs.Source.{ReadsSource, Scripted, lines_of_source, scripted}
-use Rattle.npf_ctl_prepare.specs.Captures.{interface_id}
-use Rattle.npf_ctl_prepare.specs.Known.{NamesKnownInterface, NamesTextFile}
-use Rattle.npf_ctl_prepare.specs.View.{source_ordered, source_with}
+use Rattle.npf_ctl_prepare.specs.{Captures.interface_id, Known.{NamesKnownInterface, NamesTextFile}, View.{source_ordered, source_with}}
 use Rattle.npf_ctl_prepare.specs.declared.orders.Orders.{Orders}
 
 -- a line that has its form names files by text

@@ -1,51 +1,26 @@
 -- The configurations of a run, one of another.
-use Rattle.std.proofs.Common.{◌≡◌, ◌≢◌, ◌≤◌, ◌+◌, ◌-◌, ◌∙◌, ℕ, Bool, true, false, cond, Option, Some, None, Result, Ok, Err, IfOk, IfErr, IfSome, List, [], ◌∷◌, ◌++◌, All, length, map, get_or, refl, sym, subst, ap, arith, true≢false}
-use Rattle.std.specs.Option.{is_some}
-use Rattle.std.proofs.lemmas.List.{get_or_at, length-append, map-append}
-use Rattle.std.proofs.lemmas.List.Elements.{All-weaker}
-use Rattle.std.proofs.lemmas.List.Sums.{sum_by-cons}
-use Rattle.npf_types.specs.declared.limits.TheConstants.{MAX_CHANGES}
-use Rattle.npf_types.specs.declared.name.Name.{Name}
-use Rattle.npf_types.specs.declared.prefix.Prefix.{Prefix}
+use Rattle.std.proofs.Common.{◌≡◌, ◌≢◌, ◌≤◌, ◌+◌, ◌-◌, ◌∙◌, ℕ, Bool, true, false, cond, Option, Some, None, Result, Ok, Err, IfOk, IfErr, IfSome, List}
+use Rattle.std.{proofs.Common.{[], ◌∷◌, ◌++◌, length, map, get_or, refl, sym, subst, ap, arith, true≢false}, specs.Option.is_some}
+use Rattle.std.proofs.lemmas.List.{get_or_at, length-append, map-append, Sums.sum_by-cons}
+use Rattle.npf_types.specs.declared.{limits.TheConstants.MAX_CHANGES, name.Name.Name, prefix.Prefix.Prefix}
 use Rattle.npf_types.specs.Stages.{Stage, stops, goes_on, ◌told_by◌, told, done}
-use Rattle.npf_model.specs.declared.group.Group.{Group}
-use Rattle.npf_model.specs.declared.group.Item.{Item}
-use Rattle.npf_model.specs.declared.group.Item.TheVariants.{One, Dynamic}
-use Rattle.npf_model.specs.declared.iface.Iface.{Iface}
-use Rattle.npf_model.specs.declared.model.Model.{Model}
-use Rattle.npf_model.specs.Configuration.{Configuration}
+use Rattle.npf_model.specs.{declared.iface.Iface.Iface, Configuration.Configuration}
 use Rattle.npf_outside.specs.Files.{FilesMoment, SameReadFaults}
-use Rattle.npf_ruleset.specs.declared.config.Config.{Config}
-use Rattle.npf_ruleset.specs.Configuration.{configuration}
-use Rattle.npf_config.specs.Loaded.{HasNextIds, IsLoaded, IsNextWithin}
-use Rattle.npf_config.specs.Reading.{OnlyReads}
-use Rattle.npf_config_changes.specs.declared.fault.ChangeFault.{ChangeFault}
-use Rattle.npf_config_changes.specs.Told.{EndsUnlessMemory}
+use Rattle.npf_ruleset.specs.{declared.config.Config.Config, Configuration.configuration}
+use Rattle.npf_config.{specs.{Loaded.{HasNextIds, IsLoaded}, Reading.OnlyReads}, proofs.{LoadedLemmas.more_ids, TableLemmas.no_reads}}
+use Rattle.npf_config_changes.specs.{declared.fault.ChangeFault.ChangeFault, Told.EndsUnlessMemory}
 use Rattle.npf_ctl_script.specs.declared.script.ScriptLine.{ScriptLine}
 use Rattle.npf_ctl_script.specs.declared.script.ScriptLine.TheVariants as Said
 use Rattle.npf_ctl_schedule.specs.Schedule.{changes_in, makes_change, unnumbered}
 use Rattle.npf_ctl_messages.specs.declared.fault.CommandFault.{CommandFault}
-use Rattle.npf_ctl_input.specs.Around.{Around}
-use Rattle.npf_ctl_input.specs.Unless.{IfTold, UnlessMemory}
-use Rattle.npf_ctl_input.proofs.AroundLemmas.{around_first, around_next}
-use Rattle.npf_ctl_input.proofs.UnlessLemmas.{unless_lasts}
-use Rattle.npf_ctl_prepare.specs.Making.{MakesConfigurations, MakesNext, told_at_line}
-use Rattle.npf_ctl_prepare.specs.Reloading.{ReloadsFile}
+use Rattle.npf_ctl_input.{specs.{Around.Around, Unless.{IfTold, UnlessMemory}}, proofs.AroundLemmas.{around_first, around_next}}
+use Rattle.npf_ctl_input.proofs.UnlessLemmas.{unless_lasts, told_lasts}
+use Rattle.npf_ctl_prepare.specs.{Configurations.{MakesConfigurations, MakesNext, told_at_line}, Reloads.ReloadsFile}
 use Rattle.npf_ctl_prepare.specs.Told.{AnswersChange, IsChangeable, TellsChange, made_of, with_next}
-use Rattle.npf_ctl_prepare.proofs.AroundLemmas.{faultless_none, faultless_on, reads_none, reads_on}
-use Rattle.npf_ctl_prepare.proofs.StageLemmas.{told_as, told_unless}
-
-within_more : (one most : ℕ) → one ≤ most → (item : Item) → IsNextWithin one item → IsNextWithin most item
-within_more one most more (One rule) within = tt
-within_more one most more (Dynamic name dir on next_id rules) within = omega (arith, more, within)
-
-pub ids_more : (one most : ℕ) → one ≤ most → (model : Model) → HasNextIds one model → HasNextIds most model
-ids_more one most more model ids =
-    All-weaker (λ (group : Group). All (IsNextWithin one) group.items) (λ (group : Group). All (IsNextWithin most) group.items)
-    (λ group all. All-weaker (IsNextWithin one) (IsNextWithin most) (within_more one most more) group.items all) model.groups ids
+use Rattle.npf_ctl_prepare.proofs.{AroundLemmas.{faultless_none, faultless_on, reads_on}, StageLemmas.told_unless}
 
 pub changeable_more : (one most : ℕ) → one ≤ most → (config : Config) → IsChangeable one config → IsChangeable most config
-changeable_more one most more config is = record { loaded = is.loaded; ids = ids_more one most more config.model is.ids }
+changeable_more one most more config is = record { loaded = is.loaded; ids = more_ids one most more config.model is.ids }
 
 module _ (script : List ℕ) (line : ℕ) where
   pub told_comes :
@@ -75,7 +50,7 @@ module _ (script : List ℕ) (line : ℕ) where
 -- a change that adds no rule keeps what comes next
 pub ids_kept : (last : Config) (changed : Result Config ChangeFault) → ((most : ℕ) → HasNextIds most last.model → IfOk changed (λ next. HasNextIds most next.model)) →
     (most : ℕ) → HasNextIds most last.model → IfOk changed (λ next. HasNextIds (most + 1) next.model)
-ids_kept last (Ok next) ids most within = ids_more most (most + 1) (omega arith) next.model (ids most within)
+ids_kept last (Ok next) ids most within = more_ids most (most + 1) (omega arith) next.model (ids most within)
 ids_kept last (Err fault) ids most within = tt
 
 both_changeable : (most : ℕ) (changed : Result Config ChangeFault) → IfOk changed IsLoaded → IfOk changed (λ next. HasNextIds most next.model) → IfOk changed (IsChangeable most)
@@ -173,7 +148,7 @@ module _ (ifaces : List Iface) (script : List ℕ) (lines : List (ℕ × ScriptL
         (before after : FilesMoment) → Around before start next after →
         IfTold (λ other. MakesConfigurations before after ifaces script lines (configuration first ∷ []) (configuration first) (Err other)) fault
     making_ends fault comes before after around =
-        told_as (λ other. MakesNext before after ifaces script (configuration found) line (Err other))
+        told_lasts (λ other. MakesNext before after ifaces script (configuration found) line (Err other))
         (λ other. MakesConfigurations before after ifaces script lines (configuration first ∷ []) (configuration first) (Err other))
         (λ other is. outer before after around (Err other) (stops is))
         fault (comes before after (inner before after around))
@@ -236,7 +211,7 @@ module _ (ifaces : List Iface) (script : List ℕ) (lines : List (ℕ × ScriptL
     comes = λ before after around result is. is;
     count = refl;
     changeable = changeable;
-    reads = reads_none start;
+    reads = no_reads start;
     faultless = faultless_none start;
   }
 

@@ -1,17 +1,10 @@
 -- A loaded configuration whose interfaces' numbers are set anew.
-use Rattle.std.proofs.Common.{◌≡◌, ◌≤◌, ℕ, List, All, sym, subst}
-use Rattle.std.proofs.lemmas.List.Elements.{All-map, All-weaker}
+use Rattle.std.proofs.{Common.{◌≡◌, ◌≤◌, ℕ, List, All, sym, subst}, lemmas.List.Elements.{All-map, All-weaker}}
 use Rattle.npf_types.specs.declared.limits.TheConstants.{MAX_TABLE_ENTRIES}
-use Rattle.npf_model.specs.declared.group.Group.{Group}
-use Rattle.npf_model.specs.declared.group.Item.{Item}
-use Rattle.npf_model.specs.declared.group.Item.TheVariants.{One, Dynamic}
-use Rattle.npf_model.specs.declared.iface.Iface.{Iface}
-use Rattle.npf_model.specs.declared.model.Model.{Model}
+use Rattle.npf_model.specs.declared.{group.{Group.Group, Item.{Item, TheVariants.{One, Dynamic}}}, iface.Iface.Iface, model.Model.Model}
 use Rattle.npf_model.specs.Numbering.{numbered, numbered_group, numbered_item}
-use Rattle.npf_ruleset.specs.declared.config.Config.{Config}
-use Rattle.npf_ruleset.specs.Tables.{entries}
-use Rattle.npf_config.specs.Tables.{HaveKinds, entry_count}
-use Rattle.npf_config.specs.Loaded.{HasNextIds, IsLoaded, IsNextWithin}
+use Rattle.npf_ruleset.specs.{declared.config.Config.Config, Tables.entries}
+use Rattle.npf_config.specs.{Tables.{HaveKinds, entry_count}, Loaded.{HasNextIds, IsLoaded, IsNextWithin}}
 use Rattle.npf_ctl_prepare.specs.Told.{IsChangeable}
 
 module _ (ifaces : List Iface) where

@@ -1,26 +1,17 @@
 -- A run is prepared stage by stage.
 use Rattle.std.proofs.Common.{◌≡◌, ℕ, Result, Ok, Err, List, [], ◌∷◌, length, sym, subst}
-use Rattle.npf_types.specs.declared.limits.TheConstants.{MAX_CAPTURE_BYTES}
-use Rattle.npf_types.specs.Stages.{Stage, ◌andthen◌, stops, goes_on}
-use Rattle.npf_model.specs.declared.iface.Iface.{Iface}
-use Rattle.npf_model.specs.Configuration.{Configuration}
+use Rattle.npf_types.specs.{declared.limits.TheConstants.MAX_CAPTURE_BYTES, Stages.{Stage, ◌andthen◌, stops, goes_on}}
+use Rattle.npf_model.specs.{declared.iface.Iface.Iface, Configuration.Configuration}
 use Rattle.npf_outside.specs.Files.{FilesMoment}
 use Rattle.npf_ctl_arrivals.specs.Arrivals.{AreByTime, Gathered, none_gathered}
 use Rattle.npf_ctl_schedule.specs.Schedule.{phases_of, unnumbered}
 use Rattle.npf_ctl_script.specs.declared.script.ScriptLine.{ScriptLine}
-use Rattle.npf_traffic.specs.declared.packet.Packet.{Packet}
-use Rattle.npf_runner.specs.declared.phase.Phase.{Phase}
+use Rattle.npf_traffic.specs.declared.{packet.Packet.Packet, phase.Phase.Phase}
 use Rattle.npf_ctl_messages.specs.declared.fault.CommandFault.{CommandFault}
-use Rattle.npf_ctl_input.specs.File.{ReadsFile}
-use Rattle.npf_ctl_input.specs.Interfaces.{ReadsInterfaces}
-use Rattle.npf_ctl_input.specs.Loading.{LoadsFile}
-use Rattle.npf_ctl_input.specs.Source.{Source, ReadsSource, lines_of_source}
-use Rattle.npf_ctl_input.specs.Unless.{IfTold, UnlessMemory}
-use Rattle.npf_ctl_input.proofs.UnlessLemmas.{unless_lasts}
-use Rattle.npf_ctl_prepare.specs.Captures.{GathersCaptures}
-use Rattle.npf_ctl_prepare.specs.Making.{MakesConfigurations}
+use Rattle.npf_ctl_input.specs.{File.ReadsFile, Interfaces.ReadsInterfaces, Loads.LoadsFile, Source.{Source, ReadsSource, lines_of_source}}
+use Rattle.npf_ctl_input.{specs.Unless.{IfTold, UnlessMemory}, proofs.UnlessLemmas.{unless_lasts, told_lasts}}
+use Rattle.npf_ctl_prepare.specs.{Captures.GathersCaptures, Configurations.MakesConfigurations}
 use Rattle.npf_ctl_prepare.specs.Prepares.{KeepsScriptLimits, RunPlan, Plans, planned, PreparesRun, PreparesSource, RunNames, numbered_by}
-use Rattle.npf_ctl_prepare.proofs.StageLemmas.{told_as}
 
 -- the stage ends with a fault, unless memory ran out
 abbrev pub Ends : {A : Type 0} → Stage A CommandFault → CommandFault → Type 0
@@ -50,12 +41,12 @@ module _ (before after : FilesMoment) (script : List ℕ) (given : List Iface) (
   here result is = subst (λ (lines : List (ℕ × ScriptLine)). With lines result) lines_are is
 
   pub limits_end : (fault : CommandFault) → Ends (KeepsScriptLimits given (unnumbered numbered_lines)) fault → Ends Prepares fault
-  limits_end fault is = told_as (λ other. KeepsScriptLimits given (unnumbered numbered_lines) (Err other)) (λ other. Prepares (Err other))
+  limits_end fault is = told_lasts (λ other. KeepsScriptLimits given (unnumbered numbered_lines) (Err other)) (λ other. Prepares (Err other))
       (λ other ends. here (Err other) (stops ends)) fault is
 
   module _ (ifaces : List Iface) (kept : KeepsScriptLimits given (unnumbered numbered_lines) (Ok ifaces)) where
     pub captures_end : (fault : CommandFault) → Ends (GathersCaptures before after source ifaces (unnumbered numbered_lines) none_gathered) fault → Ends Prepares fault
-    captures_end fault is = told_as (λ other. GathersCaptures before after source ifaces (unnumbered numbered_lines) none_gathered (Err other)) (λ other. Prepares (Err other))
+    captures_end fault is = told_lasts (λ other. GathersCaptures before after source ifaces (unnumbered numbered_lines) none_gathered (Err other)) (λ other. Prepares (Err other))
         (λ other ends. here (Err other) (goes_on kept (stops ends))) fault is
 
     module _ (gathered : Gathered) (gathers : GathersCaptures before after source ifaces (unnumbered numbered_lines) none_gathered (Ok gathered)) where
@@ -64,7 +55,7 @@ module _ (before after : FilesMoment) (script : List ℕ) (given : List Iface) (
 
       module _ (config : Configuration) (numbered : config ≡ numbered_by ifaces first) where
         pub making_end : (fault : CommandFault) → Ends (Making config) fault → Ends Prepares fault
-        making_end fault is = told_as (λ other. Making config (Err other)) (λ other. Prepares (Err other))
+        making_end fault is = told_lasts (λ other. Making config (Err other)) (λ other. Prepares (Err other))
             (λ other ends. here (Err other) (goes_on kept (goes_on gathers (stops (subst (λ (c : Configuration). Making c (Err other)) numbered ends))))) fault is
 
         pub planned_at_end : (configs : List Configuration) (plan : RunPlan) → Making config (Ok configs) →
@@ -77,20 +68,20 @@ module _ (before after : FilesMoment) (names : RunNames) where
   Runs = PreparesRun before after names
 
   pub interfaces_end : (fault : CommandFault) → Ends (ReadsInterfaces before after names.ifaces) fault → Ends Runs fault
-  interfaces_end fault is = told_as (λ other. ReadsInterfaces before after names.ifaces (Err other)) (λ other. Runs (Err other)) (λ other ends. stops ends) fault is
+  interfaces_end fault is = told_lasts (λ other. ReadsInterfaces before after names.ifaces (Err other)) (λ other. Runs (Err other)) (λ other ends. stops ends) fault is
 
   module _ (given : List Iface) (reads : ReadsInterfaces before after names.ifaces (Ok given)) where
     pub loading_end : (fault : CommandFault) → Ends (LoadsFile before after given names.conf) fault → Ends Runs fault
-    loading_end fault is = told_as (λ other. LoadsFile before after given names.conf (Err other)) (λ other. Runs (Err other)) (λ other ends. goes_on reads (stops ends)) fault is
+    loading_end fault is = told_lasts (λ other. LoadsFile before after given names.conf (Err other)) (λ other. Runs (Err other)) (λ other ends. goes_on reads (stops ends)) fault is
 
     module _ (first : Configuration) (loads : LoadsFile before after given names.conf (Ok first)) where
       pub file_ends : (fault : CommandFault) → Ends (ReadsFile before after names.script MAX_CAPTURE_BYTES) fault → Ends Runs fault
-      file_ends fault is = told_as (λ other. ReadsFile before after names.script MAX_CAPTURE_BYTES (Err other)) (λ other. Runs (Err other))
+      file_ends fault is = told_lasts (λ other. ReadsFile before after names.script MAX_CAPTURE_BYTES (Err other)) (λ other. Runs (Err other))
           (λ other ends. goes_on reads (goes_on loads (stops ends))) fault is
 
       module _ (bytes : List ℕ) (file : ReadsFile before after names.script MAX_CAPTURE_BYTES (Ok bytes)) where
         pub source_ends : (fault : CommandFault) → Ends (ReadsSource names.script bytes) fault → Ends Runs fault
-        source_ends fault is = told_as (λ other. ReadsSource names.script bytes (Err other)) (λ other. Runs (Err other))
+        source_ends fault is = told_lasts (λ other. ReadsSource names.script bytes (Err other)) (λ other. Runs (Err other))
             (λ other ends. goes_on reads (goes_on loads (goes_on file (stops ends)))) fault is
 
         pub run_goes_on : {A : Type 0} (value : A → RunPlan) (answer : Result A CommandFault) (source : Source) → ReadsSource names.script bytes (Ok source) →

@@ -1,23 +1,16 @@
 -- A configuration is loaded in place of another alike between all moments that meet as much.
 use Rattle.std.proofs.Common.{ℕ, Option, Result, Err, List, inl, inr, subst}
-use Rattle.npf_types.specs.declared.limits.TheConstants.{MAX_TEXT_BYTES}
-use Rattle.npf_types.specs.Stages.{told, ◌told_by◌}
-use Rattle.npf_types.proofs.StageLemmas.{andthen_lasts}
-use Rattle.npf_model.specs.declared.iface.Iface.{Iface}
-use Rattle.npf_model.specs.Configuration.{Configuration}
+use Rattle.npf_types.{specs.{declared.limits.TheConstants.MAX_TEXT_BYTES, Stages.{told, ◌told_by◌}}, proofs.StageLemmas.andthen_lasts}
+use Rattle.npf_model.specs.{declared.iface.Iface.Iface, Configuration.Configuration}
 use Rattle.npf_outside.specs.declared.files.FileFault.TheVariants as IsFile
 use Rattle.npf_outside.specs.Files.{FilesMoment, Tree}
 use Rattle.npf_config.specs.declared.fault.LoadFault.{LoadFault}
 use Rattle.npf_config.specs.declared.fault.LoadFault.TheVariants as Load
-use Rattle.npf_config_reload.specs.Reload.{RefusesReload, TakesOver}
+use Rattle.npf_config_reload.specs.Reloads.{RefusesReload, TakesOver}
 use Rattle.npf_ctl_messages.specs.declared.fault.CommandFault.{CommandFault}
-use Rattle.npf_ctl_input.specs.File.{ReadsFile}
-use Rattle.npf_ctl_input.specs.Loading.{longer, refused, told_load, unread}
-use Rattle.npf_ctl_input.specs.Unless.{IfTold}
-use Rattle.npf_ctl_input.proofs.FileLemmas.{file_lasts}
-use Rattle.npf_ctl_input.proofs.LoadingLemmas.{text_lasts}
-use Rattle.npf_ctl_input.proofs.ReadingLemmas.{MeetsAll}
-use Rattle.npf_ctl_prepare.specs.Reloading.{ReloadsFile, ReloadsText, loaded, told_in_file, unloaded}
+use Rattle.npf_ctl_input.{specs.{File.ReadsFile, Loads.{longer, refused, told_load, unread}, Unless.IfTold}, proofs.FileLemmas.file_lasts}
+use Rattle.npf_ctl_input.proofs.{LoadingLemmas.text_lasts, ReadingLemmas.MeetsAll}
+use Rattle.npf_ctl_prepare.specs.Reloads.{ReloadsFile, ReloadsText, loaded, told_in_file, unloaded}
 
 module _ (old new before after : FilesMoment) (meets : MeetsAll old new before after) (ifaces : List Iface) (last : Configuration) (file : List ℕ) where
   pub reload_text_lasts : (text : List ℕ) (result : Result Configuration CommandFault) → ReloadsText old new ifaces last file text result →

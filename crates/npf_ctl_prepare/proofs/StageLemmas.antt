@@ -11,7 +11,3 @@ IsReal fault = Unit {0}
 pub told_unless : (P : CommandFault → Type 0) (fault : CommandFault) → (fault ≢ Fault.NoMemory → P fault) → IfTold P fault
 told_unless P Fault.NoMemory says = tt
 told_unless P fault says = says (λ same. subst IsReal same tt)
-
-pub told_as : (P Q : CommandFault → Type 0) → ((fault : CommandFault) → P fault → Q fault) → (fault : CommandFault) → IfTold P fault → IfTold Q fault
-told_as P Q gives Fault.NoMemory told = tt
-told_as P Q gives fault told = gives fault told

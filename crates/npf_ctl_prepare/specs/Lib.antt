@@ -1,9 +1,9 @@
 pub mod Captures
 pub mod Known
 pub mod Laws
-pub mod Making
+pub mod Configurations
 pub mod Playable
 pub mod Prepares
-pub mod Reloading
+pub mod Reloads
 pub mod Told
 pub mod View

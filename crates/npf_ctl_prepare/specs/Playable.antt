@@ -1,7 +1,7 @@
 -- What the runner asks of a run, and what a writer of captures asks of its packets.
 use Rattle.std.specs.Prelude.{◌≡◌, ◌≤◌, All, length}
 use Rattle.npf_types.specs.declared.limits.TheConstants.{MAX_PACKETS}
-use Rattle.npf_runner.specs.Plays.{AreInOrder, packets_in}
+use Rattle.npf_traffic.specs.Phases.{AreInOrder, packets_in}
 use Rattle.npf_traffic.specs.Packet.{IsShortPacket}
 use Rattle.npf_ctl_arrivals.specs.Within.{CrossesOneOf, HasCaptureTime}
 use Rattle.npf_ctl_prepare.specs.declared.prepare.Prepared.{Prepared}

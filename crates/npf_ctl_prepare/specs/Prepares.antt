@@ -9,7 +9,7 @@ use Rattle.npf_model.specs.Configuration.{Configuration}
 use Rattle.npf_model.specs.Numbering.{numbered}
 use Rattle.npf_outside.specs.Files.{FilesMoment}
 use Rattle.npf_traffic.specs.declared.packet.Packet.{Packet}
-use Rattle.npf_runner.specs.declared.phase.Phase.{Phase}
+use Rattle.npf_traffic.specs.declared.phase.Phase.{Phase}
 use Rattle.npf_ctl_script.specs.declared.script.ScriptLine.{ScriptLine}
 use Rattle.npf_ctl_schedule.specs.Schedule.{captures_in, changes_in, phases_in, phases_of, run_interfaces, unnumbered}
 use Rattle.npf_ctl_arrivals.specs.Arrivals.{AreByTime, Gathered, none_gathered}
@@ -20,10 +20,10 @@ use Rattle.npf_ctl_messages.specs.declared.fault.Quantity.TheVariants.{Captures,
 use Rattle.npf_ctl_messages.specs.Message.{most_of}
 use Rattle.npf_ctl_input.specs.File.{ReadsFile}
 use Rattle.npf_ctl_input.specs.Interfaces.{ReadsInterfaces}
-use Rattle.npf_ctl_input.specs.Loading.{LoadsFile}
+use Rattle.npf_ctl_input.specs.Loads.{LoadsFile}
 use Rattle.npf_ctl_input.specs.Source.{Source, ReadsSource, lines_of_source}
 use Rattle.npf_ctl_prepare.specs.Captures.{GathersCaptures}
-use Rattle.npf_ctl_prepare.specs.Making.{MakesConfigurations}
+use Rattle.npf_ctl_prepare.specs.Configurations.{MakesConfigurations}
 
 -- the files that the words of a run name: the configuration, the script or a capture alone, and the interfaces, if any
 pub record RunNames : Type 0 where

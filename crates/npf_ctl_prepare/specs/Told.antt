@@ -13,7 +13,7 @@ use Rattle.npf_config.specs.Loaded.{HasNextIds, IsLoaded}
 use Rattle.npf_config_changes.specs.declared.fault.ChangeFault.{ChangeFault}
 use Rattle.npf_ctl_messages.specs.declared.fault.CommandFault.{CommandFault}
 use Rattle.npf_ctl_messages.specs.declared.fault.CommandFault.TheVariants.{NoMemory}
-use Rattle.npf_ctl_prepare.specs.Making.{MakesNext, told_at_line}
+use Rattle.npf_ctl_prepare.specs.Configurations.{MakesNext, told_at_line}
 
 -- the configuration that was made is answered, or the fault at the line, unless memory runs out
 abbrev pub TellsChange : List ℕ → ℕ → Result Config ChangeFault → Result (Option Config) CommandFault → Type 0

@@ -1,7 +1,6 @@
 // The packets of a run's captures.
 ghost use Rattle.std.specs.Prelude.{◌≡◌, ◌≤◌, ℕ, List as Seq, All, IfOk, IfSome, OnOk, Some, length, option_map};
 ghost use Rattle.npf_outside.specs.Files.{FilesMoment, SameReadFaults};
-ghost use Rattle.npf_model.specs.Numbering.{number_of_place};
 ghost use Rattle.npf_ctl_script.specs.declared.script.ScriptLine.{ScriptLine as Said};
 ghost use Rattle.npf_ctl_schedule.specs.Schedule.{unnumbered};
 ghost use Rattle.npf_config.specs.Reading.{OnlyReads};
@@ -11,7 +10,7 @@ ghost use Rattle.npf_ctl_arrivals.specs.Within.{CrossesOneOf, IsWithinRun};
 ghost use Rattle.npf_ctl_input.specs.Around.{Around};
 ghost use Rattle.npf_ctl_input.specs.Source.{Alone, Scripted};
 ghost use Rattle.npf_ctl_input.specs.Unless.{UnlessMemory};
-ghost use Rattle.npf_ctl_prepare.specs.Captures.{GathersCaptures, GathersLine, interface_id};
+ghost use Rattle.npf_ctl_prepare.specs.Captures.{GathersCaptures, GathersLine};
 ghost use Rattle.npf_ctl_prepare.specs.Known.{NamesKnownInterface, NamesTextFile};
 ghost use Rattle.npf_ctl_prepare.specs.View.{source_with};
 
@@ -19,10 +18,9 @@ use npf_ctl_arrivals::Arrivals;
 use npf_ctl_input::read_file;
 use npf_ctl_messages::CommandFault;
 use npf_ctl_script::ScriptLine;
-use npf_model::{Iface, Ifaces};
+use npf_model::{Ifaces, number_of_name};
 use npf_outside::Files;
-use npf_types::limits::{MAX_CAPTURE_BYTES, MAX_INTERFACES};
-use npf_types::{IfId, Name};
+use npf_types::limits::MAX_CAPTURE_BYTES;
 use std::alloc::Global;
 use std::str;
 
@@ -73,7 +71,7 @@ fn gather_alone(
     let Ok(file) = str::from_utf8(file.as_slice()) else {
         unreachable!()
     };
-    let ifid = interface_id(ifaces.list.as_slice(), name);
+    let ifid = number_of_name(ifaces.list.as_slice(), name);
     arrivals.add(alloc, file, ifid, *dir, bytes)?;
     Ok(arrivals)
 }
@@ -125,34 +123,10 @@ fn gather_line<F: Files>(
     let ScriptLine::Capture { name, dir, file } = line else {
         return Ok(());
     };
-    let ifid = interface_id(ifaces.list.as_slice(), name);
+    let ifid = number_of_name(ifaces.list.as_slice(), name);
     let Ok(file) = str::from_utf8(file.as_slice()) else {
         unreachable!()
     };
     let bytes = read_file(alloc, file, MAX_CAPTURE_BYTES as u64, files)?;
     arrivals.add(alloc, file, ifid, *dir, bytes)
-}
-
-/// The number of the interface of this name: its first place, from 1, or 0 where it has none or it is past `MAX_INTERFACES`.
-fn interface_id(ifaces: &[Iface], name: &Name) -> IfId
-    ensures { result ≡ interface_id ifaces.now name.now }
-{
-    let mut place = 1;
-    for iface in ifaces {
-        if iface.name.as_bytes() == name.as_bytes() {
-            return number_of_place(place);
-        }
-        place += 1;
-    }
-    IfId(0)
-}
-
-fn number_of_place(place: usize) -> IfId
-    ensures { result ≡ record { 0 = number_of_place (Some place) } }
-{
-    if place <= MAX_INTERFACES {
-        IfId(place as u16)
-    } else {
-        IfId(0)
-    }
 }

@@ -10,12 +10,12 @@
 #![tactic(auto)]
 
 mod captures;
+mod configurations;
+mod interfaces;
 pub mod laws;
 mod limits;
-mod making;
-mod numbering;
 mod orders;
 mod prepare;
-mod reloading;
+mod reloads;
 
 pub use prepare::{Prepared, RunFiles, prepare_run};

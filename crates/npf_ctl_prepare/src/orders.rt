@@ -6,7 +6,7 @@ ghost use Rattle.npf_ctl_input.specs.Unless.{UnlessMemory};
 ghost use Rattle.npf_ctl_prepare.specs.Known.{NamesTextFile};
 ghost use Rattle.npf_ctl_prepare.specs.View.{source_ordered};
 
-use npf_ctl_input::{Source, read_source};
+use npf_ctl_input::{RunSource, read_source};
 use npf_ctl_messages::CommandFault;
 use npf_ctl_script::{Script, ScriptLine};
 use npf_types::limits::MAX_CAPTURE_BYTES;
@@ -30,11 +30,11 @@ pub(crate) fn read_orders(alloc: Global, file: &str, bytes: Vec<u8>) -> Result<O
     ensures fits { IfOk result (λ orders. IfSome orders.alone (λ bytes. length bytes.items ≤ MAX_CAPTURE_BYTES)) }
 {
     match read_source(alloc, file, bytes)? {
-        Source::Alone(bytes) => Ok(Orders {
+        RunSource::Alone(bytes) => Ok(Orders {
             lines: List::of_vec(line_of_capture(alloc, file)?),
             alone: Some(bytes),
         }),
-        Source::Scripted(Script { lines }) => Ok(Orders { lines, alone: None }),
+        RunSource::Scripted(Script { lines }) => Ok(Orders { lines, alone: None }),
     }
 }
 

@@ -1,3 +1,4 @@
+// All that a run needs, prepared before any packet is played.
 ghost use Rattle.std.specs.Prelude.{◌≡◌, ◌≤◌, All, IfOk, IfSome, OnOk, length};
 ghost use Rattle.npf_outside.specs.Files.{FilesMoment, SameReadFaults};
 ghost use Rattle.npf_ruleset.specs.Configuration.{configuration};
@@ -14,9 +15,9 @@ ghost use Rattle.npf_ctl_prepare.specs.View.{names_of, run_plan_of, source_order
 ghost use Rattle.npf_ctl_prepare.specs.Told.{IsChangeable};
 
 use crate::captures::gather_captures;
+use crate::configurations::make_configurations;
+use crate::interfaces::numbered;
 use crate::limits::keep_limits;
-use crate::making::make_configurations;
-use crate::numbering::numbered;
 use crate::orders::{Orders, read_orders};
 use npf_ctl_arrivals::Captures;
 use npf_ctl_input::{load_file, read_file, read_interfaces};
@@ -26,7 +27,7 @@ use npf_ctl_schedule::schedule;
 use npf_model::Ifaces;
 use npf_outside::Files;
 use npf_ruleset::Config;
-use npf_runner::{Packet, Phase};
+use npf_traffic::{Packet, Phase};
 use npf_types::limits::MAX_CAPTURE_BYTES;
 use std::alloc::Global;
 

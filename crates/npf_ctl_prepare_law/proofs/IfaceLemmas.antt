@@ -1,19 +1,12 @@
 -- A file of interfaces is read in one way, or its first bad line is one.
 use Rattle.std.proofs.Common.{◌≡◌, ◌≢◌, ◌<◌, ℕ, Some, inl, inr, List, [], ◌∷◌, ◌++◌, length, map, take, refl, sym, ap, subst, ◌∙◌, arith, slice_get, Contains}
-use Rattle.std.specs.Prelude.{◌⊎◌, suc, zero}
-use Rattle.std.specs.List.{AllPairs, filter}
-use Rattle.std.proofs.lemmas.Bool.{cases_order}
-use Rattle.std.proofs.lemmas.List.{get_or_append_left, get_or_at, length-append, map-append}
-use Rattle.std.proofs.lemmas.List.Elements.{filter-append}
-use Rattle.std.proofs.lemmas.Option.{none-some, same_Some}
-use Rattle.npf_types.specs.declared.address.Addr.{Addr}
-use Rattle.npf_types.specs.declared.name.Name.{Name}
-use Rattle.npf_types.specs.AddressText.{IsAddressText}
-use Rattle.npf_types.proofs.AddressTextLemmas.{one_address}
-use Rattle.npf_faults.specs.declared.fault.ConfFault.{ConfFault}
-use Rattle.npf_faults.specs.declared.fault.Fault.TheVariants.{BadIfaceFile}
+use Rattle.std.{specs.{Prelude.{◌⊎◌, suc, zero}, List.{AllPairs, filter}}, proofs.lemmas.Bool.cases_order}
+use Rattle.std.proofs.lemmas.{List.{get_or_append_left, get_or_at, length-append, map-append, Elements.filter-append}, Option.{none-some, same_Some}}
+use Rattle.npf_types.{specs.{declared.{address.Addr.Addr, name.Name.Name}, AddressText.IsAddressText}, proofs.AddressTextLemmas.one_address}
+use Rattle.npf_faults.specs.declared.fault.{ConfFault.ConfFault, Fault.TheVariants.BadIfaceFile}
 use Rattle.npf_model.specs.declared.iface.Iface.{Iface}
-use Rattle.npf_expand_interfaces.specs.IfaceFile.{AreInterfaces, Each, IsBadBehind, IsFirstBadIfaceLine, IsIfaceFile, IsInterface, file_lines, has_some, iface_names, line_start, line_words, written_lines}
+use Rattle.npf_expand_interfaces.specs.IfaceFile.{AreInterfaces, Each, IsBadBehind, IsFirstBadIfaceLine, IsIfaceFile, IsInterface, file_lines}
+use Rattle.npf_expand_interfaces.specs.IfaceFile.{has_some, iface_names, line_start, line_words, written_lines}
 
 -- what the words of a line say is one
 addresses_same : (words : List (List ℕ)) (one other : List Addr) → Each IsAddressText words one → Each IsAddressText words other → one ≡ other

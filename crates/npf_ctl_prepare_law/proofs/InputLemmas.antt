@@ -1,33 +1,22 @@
 -- A command's files are read in one way.
 use Rattle.std.proofs.Common.{◌≡◌, ◌≤◌, ◌<◌, ℕ, Option, Some, None, Result, Ok, Err, List, [], length, refl, sym, ap, subst, ◌∙◌, arith}
-use Rattle.std.specs.Prelude.{IsSomeAnd}
-use Rattle.std.proofs.lemmas.Option.{same_Some}
+use Rattle.std.{specs.Prelude.IsSomeAnd, proofs.lemmas.Option.same_Some}
 use Rattle.npf_types.specs.declared.limits.TheConstants.{MAX_TEXT_BYTES}
 use Rattle.npf_faults.specs.declared.fault.ConfFault.{ConfFault}
 use Rattle.npf_parser.specs.Law.{OnePlace, OneTree, TreeOrHalt}
-use Rattle.npf_model.specs.declared.iface.Iface.{Iface}
-use Rattle.npf_model.specs.Configuration.{Configuration}
+use Rattle.npf_model.specs.{declared.iface.Iface.Iface, Configuration.Configuration}
 use Rattle.npf_outside.specs.declared.files.FileFault.TheVariants as IsFile
-use Rattle.npf_outside.specs.Counts.{Rose}
-use Rattle.npf_outside.specs.Files.{IsLonger, Tree}
-use Rattle.npf_config.specs.declared.fault.LoadFault.{LoadFault}
-use Rattle.npf_config.specs.declared.fault.LoadFault.TheVariants.{Conf, File}
-use Rattle.npf_config.specs.Laws.{NeverBoth, OneMeaning}
-use Rattle.npf_config_changes.specs.ChangeLaws.{HasOneResult}
-use Rattle.npf_config_law.proofs.AnswerLemmas.{once_behind, once_told}
-use Rattle.npf_config_law.specs.Answers.{AreOne}
-use Rattle.npf_config_law.specs.Entries.{AreOneConfiguration}
-use Rattle.npf_config_law.specs.Readings.{AreAlike, AreOneLoad, LoadsOrEnds, alike, equal as equal_loads}
+use Rattle.npf_outside.specs.{Counts.Rose, Files.{IsLonger, Tree}}
+use Rattle.npf_config.specs.{declared.fault.LoadFault.{LoadFault, TheVariants.{Conf, File}}, Laws.{NeverBoth, OneMeaning}}
+use Rattle.npf_config_changes.{specs.ChangeLaws.HasOneResult, proofs.LawLemmas.{one_after, one_told}}
+use Rattle.npf_config_law.specs.{Answers.AreOne, Entries.AreOneConfiguration, Readings.{AreAlike, AreOneLoad, LoadsOrEnds, alike, equal as equal_loads}}
 use Rattle.npf_config_law.proofs.LoadLemmas.{one_load}
 use Rattle.npf_ctl_script.specs.Laws.{NoScriptIsRefused, OneScript}
-use Rattle.npf_ctl_messages.specs.declared.fault.CommandFault.{CommandFault}
-use Rattle.npf_ctl_messages.specs.declared.fault.CommandFault.TheVariants.{Configuration as Refuses}
-use Rattle.npf_ctl_input.specs.File.{ReadsFile, failed, longer, told_files, whole}
-use Rattle.npf_ctl_input.specs.Interfaces.{NamesInterfaces, ReadsInterfaces, named, refused}
-use Rattle.npf_ctl_input.specs.Loading.{LoadsAlone, LoadsFile, LoadsText, loaded, longer as long_table, refused as refused_text, told_load, unread}
+use Rattle.npf_ctl_messages.specs.declared.fault.CommandFault.{CommandFault, TheVariants.Configuration as Refuses}
+use Rattle.npf_ctl_input.specs.{File.{ReadsFile, failed, longer, told_files, whole}, Interfaces.{NamesInterfaces, ReadsInterfaces, named, refused}}
+use Rattle.npf_ctl_input.specs.Loads.{LoadsAlone, LoadsFile, LoadsText, loaded, longer as long_table, refused as refused_text, told_load, unread}
 use Rattle.npf_ctl_input.specs.Source.{ReadsSource, Scripted, alone, bad_line, longer as long_script, scripted}
-use Rattle.npf_ctl_prepare_law.specs.Readings.{Agree, EndAlike, bad_lines, equal, in_text}
-use Rattle.npf_ctl_prepare_law.proofs.AgreeLemmas.{behind_one}
+use Rattle.npf_ctl_prepare_law.{specs.Readings.{Agree, EndAlike, bad_lines, equal, in_text}, proofs.AgreeLemmas.behind_one}
 use Rattle.npf_ctl_prepare_law.proofs.IfaceLemmas.{iface_file_or_bad, one_bad_iface_line, one_iface_file}
 
 never_rose : Rose 0 0 → ⊥
@@ -57,9 +46,9 @@ module _ (tree : Tree) where
       ap (λ (f : ConfFault). Err (Refuses file f)) (one_bad_iface_line text fault other bad there)
 
   pub one_interfaces : (file : Option (List ℕ)) → HasOneResult (ReadsInterfaces (told_files tree) (told_files tree) file)
-  one_interfaces None = once_told (Ok [])
+  one_interfaces None = one_told (Ok [])
   one_interfaces (Some file) =
-      once_behind (ReadsFile (told_files tree) (told_files tree) file MAX_TEXT_BYTES) (NamesInterfaces file) (one_file file MAX_TEXT_BYTES) (λ text. one_naming file text)
+      one_after (ReadsFile (told_files tree) (told_files tree) file MAX_TEXT_BYTES) (NamesInterfaces file) (one_file file MAX_TEXT_BYTES) (λ text. one_naming file text)
 
 -- the second file of a run is read in one way
 module _ (one_script : OneScript) (none_refused : NoScriptIsRefused) (file bytes : List ℕ) where

@@ -1,40 +1,28 @@
 -- The changes of a script make what is one of configurations that are one.
-use Rattle.std.proofs.Common.{◌≡◌, ℕ, Bool, true, false, Result, Ok, Err, List, [], ◌∷◌, ◌++◌, refl, sym, ap, subst, arith}
-use Rattle.std.specs.Prelude.{if◌then◌else◌}
+use Rattle.std.{proofs.Common.{◌≡◌, ℕ, Bool, true, false, Result, Ok, Err, List, [], ◌∷◌, ◌++◌, refl, sym, ap, subst, arith}, specs.Prelude.if◌then◌else◌}
 use Rattle.std.specs.List.{AllZip}
-use Rattle.npf_types.specs.declared.limits.TheConstants.{MAX_TEXT_BYTES}
-use Rattle.npf_types.specs.Stages.{Stage, ◌told_by◌, done, told}
+use Rattle.npf_types.specs.{declared.limits.TheConstants.MAX_TEXT_BYTES, Stages.{Stage, ◌told_by◌, done, told}}
 use Rattle.npf_faults.specs.declared.fault.ConfFault.{ConfFault}
 use Rattle.npf_parser.specs.Law.{OnePlace, OneTree, TreeOrHalt}
-use Rattle.npf_model.specs.declared.iface.Iface.{Iface}
-use Rattle.npf_model.specs.declared.model.Model.{Model}
-use Rattle.npf_model.specs.declared.table.Kind.{Kind}
-use Rattle.npf_model.specs.Configuration.{Configuration}
+use Rattle.npf_model.specs.{declared.{iface.Iface.Iface, model.Model.Model, table.Kind.Kind}, Configuration.Configuration}
 use Rattle.npf_outside.specs.Files.{Tree}
 use Rattle.npf_ruleset.proofs.PairLemmas.{zip_append}
-use Rattle.npf_config.specs.Laws.{NeverBoth, OneMeaning}
-use Rattle.npf_config.specs.Tables.{declared_kinds}
+use Rattle.npf_config.specs.{Laws.{NeverBoth, OneMeaning}, Tables.declared_kinds}
 use Rattle.npf_config_changes.specs.declared.fault.ChangeFault.{ChangeFault}
 use Rattle.npf_config_changes.specs.ChangeLaws.{AreToldAlike as AreChangesAlike, OneAddition, OneFlush, OneRemoval, alike, equal as equal_changes}
-use Rattle.npf_config_changes.specs.Changes.{FlushesRules, RemovesRule}
-use Rattle.npf_config_changes.specs.Entries.{AddsEntry, RemovesEntry}
-use Rattle.npf_config_reload.specs.Reload.{TakesOver, passed, taken}
-use Rattle.npf_config_law.specs.Answers.{AreOne}
-use Rattle.npf_config_law.specs.Entries.{AreOneConfiguration}
-use Rattle.npf_config_law.proofs.AnswerLemmas.{one_behind, one_told}
+use Rattle.npf_config_changes.specs.{Changes.{FlushesRules, RemovesRule}, Entries.{AddsEntry, RemovesEntry}}
+use Rattle.npf_config_reload.specs.Reloads.{TakesOver, passed, taken}
+use Rattle.npf_config_law.{specs.{Answers.AreOne, Entries.AreOneConfiguration}, proofs.AnswerLemmas.{one_behind, one_told}}
 use Rattle.npf_config_law.proofs.ChangeLemmas.{additions_agree, entries_agree_added, entries_agree_removed, flushes_agree, removals_agree}
 use Rattle.npf_config_law.proofs.ReloadLemmas.{takeovers_agree}
 use Rattle.npf_ctl_script.specs.declared.script.ScriptLine.{ScriptLine}
 use Rattle.npf_ctl_script.specs.declared.script.ScriptLine.TheVariants as Said
 use Rattle.npf_ctl_schedule.specs.Schedule.{makes_change}
 use Rattle.npf_ctl_messages.specs.declared.fault.CommandFault.{CommandFault}
-use Rattle.npf_ctl_input.specs.File.{ReadsFile, told_files}
-use Rattle.npf_ctl_input.specs.Loading.{LoadsText, loaded as loads_first}
-use Rattle.npf_ctl_prepare.specs.Making.{AddsRuleAlone, MakesConfigurations, MakesNext, told_at_line}
-use Rattle.npf_ctl_prepare.specs.Reloading.{ReloadsFile, ReloadsText, loaded, told_in_file, unloaded}
-use Rattle.npf_ctl_prepare_law.specs.Readings.{Agree, EndAlike, equal, on_line}
-use Rattle.npf_ctl_prepare_law.proofs.AgreeLemmas.{behind_one}
-use Rattle.npf_ctl_prepare_law.proofs.InputLemmas.{one_file, texts_agree}
+use Rattle.npf_ctl_input.specs.{File.{ReadsFile, told_files}, Loads.{LoadsText, loaded as loads_first}}
+use Rattle.npf_ctl_prepare.specs.Configurations.{AddsRuleAlone, MakesConfigurations, MakesNext, told_at_line}
+use Rattle.npf_ctl_prepare.specs.Reloads.{ReloadsFile, ReloadsText, loaded, told_in_file, unloaded}
+use Rattle.npf_ctl_prepare_law.{specs.Readings.{Agree, EndAlike, equal, on_line}, proofs.{AgreeLemmas.behind_one, InputLemmas.{one_file, texts_agree}}}
 
 -- faults of changes are told alike at one line
 line_alike : (script : List ℕ) (line : ℕ) (one two : ChangeFault) → AreChangesAlike one two → EndAlike (told_at_line script line one) (told_at_line script line two)

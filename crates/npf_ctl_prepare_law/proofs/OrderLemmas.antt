@@ -1,12 +1,9 @@
 -- A list is sorted by keys in one way, where elements with one key stay as they stood.
 use Rattle.std.proofs.Common.{◌≡◌, ◌<◌, ◌≤◌, ℕ, Bool, true, false, inl, inr, List, [], ◌∷◌, length, refl, sym, ap, ◌∙◌, arith}
-use Rattle.std.specs.Prelude.{⊤, cond, nat_lt, ◌==◌, ◌⊎◌, suc, slice_index_or}
-use Rattle.std.specs.List.{filter}
-use Rattle.std.specs.List.Sorted.{IsNonDecreasingBy, IsSortedByKey, IsStableByKey, ties}
-use Rattle.std.specs.Ordering.{is_lt, nat_cmp}
-use Rattle.std.specs.declared.cmp.Ordering.TheVariants.{Less, Equal, Greater}
-use Rattle.std.proofs.lemmas.Bool.{cases_order, lt-ltb, ltb-true}
+use Rattle.std.specs.{Prelude.{⊤, cond, nat_lt, ◌==◌, ◌⊎◌, suc, slice_index_or}, List.{filter, Sorted.{IsNonDecreasingBy, IsSortedByKey, IsStableByKey, ties}}}
+use Rattle.std.{specs.{Ordering.{is_lt, nat_cmp}, declared.cmp.Ordering.TheVariants.{Less, Equal, Greater}}, proofs.lemmas.Bool.{cases_order, ltb-true}}
 use Rattle.std.proofs.lemmas.List.Sorted.{IsNonDecreasingBy-from_sort, IsNonDecreasingBy-drop}
+use Rattle.npf_shelf.proofs.BoolLemmas.{is_lt-nat_cmp}
 
 -- elements of one key tie, and none ties with one of a greater key
 module _ {X : Type 0} (key : X → ℕ) (tie : X → X → Bool) (same_key : (x y : X) → key x ≡ key y → tie x y ≡ true) (apart : (x y : X) → key x < key y → tie x y ≡ false) where
@@ -80,9 +77,6 @@ not_less m n most = by (nat_lt m n) refl most
     by true is most = absurd (omega (arith, ltb-true m n is, most))
     by false is most = not_below (m == n)
 
-less_is : (m n : ℕ) → m < n → is_lt (nat_cmp m n) ≡ true
-less_is m n less = ap (λ (test : Bool). is_lt (cond test Less (cond (m == n) Equal Greater))) (lt-ltb m n less)
-
 module _ {X : Type 0} (key : X → ℕ) where
   abbrev tie : X → X → Bool
   tie = ties (λ x y. is_lt (nat_cmp (key x) (key y)))
@@ -91,7 +85,7 @@ module _ {X : Type 0} (key : X → ℕ) where
   same_key x y same = rw (not_less (key x) (key y) (omega (arith, same)), not_less (key y) (key x) (omega (arith, same))) refl
 
   apart : (x y : X) → key x < key y → tie x y ≡ false
-  apart x y less = rw (less_is (key x) (key y) less) refl
+  apart x y less = rw (is_lt-nat_cmp (key x) (key y) less) refl
 
   -- what a stable sort by numbers makes of a list is one
   pub one_sorting : (xs ys zs : List X) → IsSortedByKey key nat_cmp ys → IsSortedByKey key nat_cmp zs → IsStableByKey key nat_cmp xs ys

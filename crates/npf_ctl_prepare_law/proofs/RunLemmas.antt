@@ -1,40 +1,26 @@
 -- What a run is prepared from is one.
-use Rattle.std.proofs.Common.{◌≡◌, ℕ, List, [], ◌∷◌, length, refl, ap, subst}
-use Rattle.std.specs.List.{AllZip}
-use Rattle.npf_types.specs.declared.limits.TheConstants.{MAX_CAPTURE_BYTES}
-use Rattle.npf_types.specs.Stages.{◌andthen◌}
+use Rattle.std.{proofs.Common.{◌≡◌, ℕ, List, [], ◌∷◌, length, refl, ap, subst}, specs.List.AllZip}
+use Rattle.npf_types.specs.{declared.limits.TheConstants.MAX_CAPTURE_BYTES, Stages.◌andthen◌}
 use Rattle.npf_parser.specs.Law.{OnePlace, OneTree, TreeOrHalt}
 use Rattle.npf_pcap.specs.CaptureLaw.{CapturesHaveNoFault, OneCapture, OneFault}
-use Rattle.npf_model.specs.declared.iface.Iface.{Iface}
-use Rattle.npf_model.specs.Configuration.{Configuration}
-use Rattle.npf_model.specs.Numbering.{numbered}
+use Rattle.npf_model.specs.{declared.iface.Iface.Iface, Configuration.Configuration, Numbering.numbered}
 use Rattle.npf_outside.specs.Files.{Tree}
+use Rattle.npf_config_changes.{proofs.LawLemmas.{one_after, one_told}, specs.ChangeLaws.{HasOneResult, OneAddition, OneFlush, OneRemoval}}
 use Rattle.npf_traffic.specs.declared.packet.Packet.{Packet}
 use Rattle.npf_config.specs.Laws.{NeverBoth, OneMeaning}
-use Rattle.npf_config_changes.specs.ChangeLaws.{HasOneResult, OneAddition, OneFlush, OneRemoval}
-use Rattle.npf_config_law.proofs.AnswerLemmas.{once_behind, once_told}
-use Rattle.npf_config_law.specs.Entries.{AreOneConfiguration}
-use Rattle.npf_config_law.proofs.AnswerLemmas.{one_behind}
-use Rattle.npf_ctl_script.specs.declared.script.ScriptLine.{ScriptLine}
-use Rattle.npf_ctl_script.specs.Laws.{NoScriptIsRefused, OneScript}
+use Rattle.npf_config_law.{specs.Entries.AreOneConfiguration, proofs.AnswerLemmas.one_behind}
+use Rattle.npf_ctl_script.specs.{declared.script.ScriptLine.ScriptLine, Laws.{NoScriptIsRefused, OneScript}}
 use Rattle.npf_ctl_schedule.specs.Schedule.{phases_of, unnumbered}
 use Rattle.npf_ctl_arrivals.specs.Arrivals.{Gathered, none_gathered}
-use Rattle.npf_ctl_input.specs.File.{ReadsFile, told_files}
-use Rattle.npf_ctl_input.specs.Interfaces.{ReadsInterfaces}
-use Rattle.npf_ctl_input.specs.Loading.{LoadsFile}
-use Rattle.npf_ctl_input.specs.Source.{Source, ReadsSource, lines_of_source}
-use Rattle.npf_ctl_prepare.specs.Captures.{GathersCaptures}
-use Rattle.npf_ctl_prepare.specs.Making.{MakesConfigurations}
+use Rattle.npf_ctl_input.specs.{File.{ReadsFile, told_files}, Interfaces.ReadsInterfaces, Loads.LoadsFile, Source.{Source, ReadsSource, lines_of_source}}
+use Rattle.npf_ctl_prepare.specs.{Captures.GathersCaptures, Configurations.MakesConfigurations}
 use Rattle.npf_ctl_prepare.specs.Prepares.{KeepsScriptLimits, Plans, PreparesRun, PreparesSource, RunNames, numbered_by, planned}
-use Rattle.npf_ctl_prepare_law.specs.Readings.{Agree, AreOnePlan, EndAlike}
-use Rattle.npf_ctl_prepare_law.proofs.AgreeLemmas.{behind_one}
-use Rattle.npf_ctl_prepare_law.proofs.CaptureLemmas.{one_gathered}
-use Rattle.npf_ctl_prepare_law.proofs.InputLemmas.{files_agree, one_file, one_interfaces, sources_agree}
-use Rattle.npf_ctl_prepare_law.proofs.MakingLemmas.{configurations_agree}
+use Rattle.npf_ctl_prepare_law.{specs.Readings.{Agree, AreOnePlan, EndAlike}, proofs.{AgreeLemmas.behind_one, CaptureLemmas.one_gathered}}
+use Rattle.npf_ctl_prepare_law.proofs.{InputLemmas.{files_agree, one_file, one_interfaces, sources_agree}, MakingLemmas.configurations_agree}
 use Rattle.npf_ctl_prepare_law.proofs.OrderLemmas.{one_sorting}
 
 limits_once : (given : List Iface) (lines : List ScriptLine) → HasOneResult (KeepsScriptLimits given lines)
-limits_once given lines = once_behind _ _ (once_told _) (λ _. once_behind _ _ (once_told _) (λ _. once_behind _ _ (once_told _) (λ _. once_behind _ _ (once_told _) (λ _. once_told _))))
+limits_once given lines = one_after _ _ (one_told _) (λ _. one_after _ _ (one_told _) (λ _. one_after _ _ (one_told _) (λ _. one_after _ _ (one_told _) (λ _. one_told _))))
 
 plans_agree : (ifaces : List Iface) (configs others : List Configuration) (gathered : Gathered) (lines : List ScriptLine) → AllZip AreOneConfiguration configs others
     → Agree AreOnePlan (Plans ifaces configs gathered lines) (Plans ifaces others gathered lines)

@@ -3,7 +3,7 @@ use Rattle.std.specs.Prelude.{ℕ, Option, List}
 use Rattle.npf_outside.specs.Files.{Tree}
 use Rattle.npf_config_law.specs.Entries.{AreOneConfiguration}
 use Rattle.npf_ctl_input.specs.File.{told_files}
-use Rattle.npf_ctl_input.specs.Loading.{LoadsAlone}
+use Rattle.npf_ctl_input.specs.Loads.{LoadsAlone}
 use Rattle.npf_ctl_prepare.specs.Prepares.{PreparesRun, RunNames}
 use Rattle.npf_ctl_prepare_law.specs.Readings.{Agree, AreOnePlan}
 

@@ -1,17 +1,12 @@
 -- What loading the text of a file comes to.
 use Rattle.std.proofs.Common.{◌≡◌, ℕ, List, Some, Ok, Err, refl}
-use Rattle.npf_types.specs.declared.name.Name.{Name}
-use Rattle.npf_types.specs.Stages.{stops, goes_on}
+use Rattle.npf_types.specs.{declared.{name.Name.Name, limits.TheConstants.MAX_SAVED_BYTES}, Stages.{stops, goes_on}}
 use Rattle.npf_outside.specs.Files.{FilesMoment}
-use Rattle.npf_saved_file.specs.declared.fault.SavedFault.{SavedFault}
-use Rattle.npf_saved_file.specs.declared.fault.SavedFault.TheVariants.{BadSaved, OtherInterfaces, TooManySaved, SavedNoNode, NoMemory}
-use Rattle.npf_saved_file.specs.declared.reading.TheConstants.{MAX_SAVED_BYTES}
-use Rattle.npf_connsave.specs.Loading.{RefusesLoaded, View}
+use Rattle.npf_saved_file.specs.declared.fault.SavedFault.{SavedFault, TheVariants.{BadSaved, OtherInterfaces, TooManySaved, SavedNoNode, NoMemory}}
+use Rattle.npf_connsave.specs.Loads.{RefusesLoaded, View}
 use Rattle.npf_ctl_messages.specs.declared.fault.CommandFault.{CommandFault}
-use Rattle.npf_ctl_input.specs.File.{ReadsFile}
-use Rattle.npf_ctl_input.specs.Unless.{IfTold}
-use Rattle.npf_ctl_input.proofs.UnlessLemmas.{told_lasts}
-use Rattle.npf_ctl_saved.specs.Loading.{FailsLoad, ListsConnections, refused, no_node, told_saved}
+use Rattle.npf_ctl_input.{specs.{File.ReadsFile, Unless.IfTold}, proofs.UnlessLemmas.told_lasts}
+use Rattle.npf_ctl_saved.specs.Loads.{FailsLoad, ListsConnections, refused, no_node, told_saved}
 
 module _ (before after : FilesMoment) (file : List ℕ) (names : List Name) (old new : View) where
   -- a file that isn't read leaves the table as it was

@@ -1,7 +1,7 @@
 // The names of a run's interfaces. They are taken down in each run, also where nothing is loaded or saved, for one way through a run: at
 // most 1,024 bytes.
 ghost use Rattle.std.specs.Prelude.{◌≡◌, IfOk};
-ghost use Rattle.npf_ctl_saved.specs.Loading.{interface_names};
+ghost use Rattle.npf_ctl_saved.specs.Loads.{interface_names};
 
 use npf_model::Ifaces;
 use npf_types::{Name, NoMemory};

@@ -7,7 +7,7 @@
 #![tactic(auto)]
 
 mod interfaces;
-mod loading;
+mod loads;
 
 pub use interfaces::interface_names;
-pub use loading::load_connections;
+pub use loads::load_connections;

@@ -1,9 +1,7 @@
 -- How the lines of a script part into its phases.
 use Rattle.std.proofs.Common.{◌≡◌, ◌≤◌, ◌+◌, ◌∙◌, ℕ, Bool, true, false, cond, None, Some, List, [], ◌∷◌, refl, sym, ap, zero-add, arith}
 use Rattle.std.proofs.lemmas.List.Sums.{sum_by-cons}
-use Rattle.npf_runner.specs.declared.phase.Command.{Command}
-use Rattle.npf_runner.specs.declared.phase.Command.TheVariants.{Publish}
-use Rattle.npf_runner.specs.Plays.{published_by}
+use Rattle.npf_traffic.specs.{declared.phase.Command.{Command, TheVariants.Publish}, Phases.published_by}
 use Rattle.npf_ctl_script.specs.declared.script.ScriptLine.{ScriptLine}
 use Rattle.npf_ctl_script.specs.declared.script.ScriptLine.TheVariants as Line
 use Rattle.npf_ctl_schedule.specs.Schedule.{changes_in, makes_change, packets_wanted, phase_commands, phase_parts, until_phase}

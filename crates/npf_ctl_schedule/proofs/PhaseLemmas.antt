@@ -1,10 +1,7 @@
 -- What the phases of a run have in all, and in which order they publish.
-use Rattle.std.proofs.Common.{◌≡◌, ◌≤◌, ◌<◌, ◌+◌, ◌-◌, ℕ, Bool, true, false, cond, eqb, List, [], ◌∷◌, refl, sym, ap, subst, ◌∙◌, arith, eqb-true}
-use Rattle.std.proofs.lemmas.List.Sums.{sum-map, sum_by-cons}
-use Rattle.npf_runner.specs.declared.phase.Command.{Command}
-use Rattle.npf_runner.specs.declared.phase.Command.TheVariants.{Publish}
-use Rattle.npf_runner.specs.declared.phase.Phase.{Phase}
-use Rattle.npf_runner.specs.Plays.{packets_in, PublishFrom, PhasesPublishFrom}
+use Rattle.std.proofs.Common.{◌≡◌, ◌≤◌, ◌<◌, ◌+◌, ◌-◌, ℕ, Bool, true, false, cond, eqb, List, [], ◌∷◌, refl, sym, subst, ◌∙◌, arith, eqb-true}
+use Rattle.npf_traffic.specs.{declared.phase.Command.{Command, TheVariants.Publish}, Phases.{packets_in, PublishFrom, PhasesPublishFrom}}
+use Rattle.npf_traffic.proofs.PhaseLemmas.{packets_in-cons}
 use Rattle.npf_ctl_script.specs.declared.script.ScriptLine.{ScriptLine}
 use Rattle.npf_ctl_script.specs.declared.script.ScriptLine.TheVariants as Line
 use Rattle.npf_ctl_schedule.specs.Schedule.{changes_in, makes_change, packets_wanted, phase_commands, phases_from}
@@ -14,11 +11,6 @@ rest_adds_up : (left : ℕ) (none : Bool) → eqb left 0 ≡ none → packets_in
 rest_adds_up left true e = sym (eqb-true left 0 e)
 rest_adds_up left false e = omega arith
 
-packets_more : (phase : Phase) (phases : List Phase) → packets_in (phase ∷ phases) ≡ phase.packets + packets_in phases
-packets_more phase phases =
-    sum-map (λ (p : Phase). p.packets) (phase ∷ phases) ∙ sum_by-cons (λ (p : Phase). p.packets) phase phases
-    ∙ ap (λ n. phase.packets + n) (sym (sum-map (λ (p : Phase). p.packets) phases))
-
 sum_back : (wanted left rest : ℕ) → wanted ≤ left → rest ≡ left - wanted → wanted + rest ≡ left
 sum_back wanted left rest within e = omega arith
 
@@ -27,7 +19,7 @@ phases_add_up made left [] = rest_adds_up left (eqb left 0) refl
 phases_add_up made left (part ∷ parts) =
     let wanted = packets_wanted left part in
     let rest = phases_from (made + changes_in part) (left - wanted) parts in
-    packets_more (record { packets = wanted; commands = phase_commands made part }) rest
+    packets_in-cons (record { packets = wanted; commands = phase_commands made part }) rest
     ∙ sum_back wanted left (packets_in rest) (wanted_within left part) (phases_add_up (made + changes_in part) (left - wanted) parts)
 
 order_more :

@@ -1,7 +1,7 @@
 -- What follows of what the phases of a run are.
 use Rattle.std.specs.Prelude.{◌≡◌, ◌+◌, ℕ, List}
 use Rattle.npf_ctl_script.specs.declared.script.ScriptLine.{ScriptLine}
-use Rattle.npf_runner.specs.Plays.{AreInOrder, packets_in}
+use Rattle.npf_traffic.specs.Phases.{AreInOrder, packets_in}
 use Rattle.npf_ctl_schedule.specs.Schedule.{changes_in, phases_of}
 
 -- the phases of a run have all of its packets

@@ -6,9 +6,9 @@ use Rattle.npf_model.specs.declared.iface.Iface.{Iface}
 use Rattle.npf_model.specs.Numbering.{is_named}
 use Rattle.npf_ctl_script.specs.declared.script.ScriptLine.{ScriptLine}
 use Rattle.npf_ctl_script.specs.declared.script.ScriptLine.TheVariants as Line
-use Rattle.npf_runner.specs.declared.phase.Command.{Command}
-use Rattle.npf_runner.specs.declared.phase.Command.TheVariants.{Publish, Expire}
-use Rattle.npf_runner.specs.declared.phase.Phase.{Phase}
+use Rattle.npf_traffic.specs.declared.phase.Command.{Command}
+use Rattle.npf_traffic.specs.declared.phase.Command.TheVariants.{Publish, Expire}
+use Rattle.npf_traffic.specs.declared.phase.Phase.{Phase}
 
 -- the lines of a script without their numbers
 abbrev pub unnumbered : List (ℕ × ScriptLine) → List ScriptLine

@@ -4,7 +4,7 @@ ghost use Rattle.npf_ctl_schedule.specs.Schedule.{changes_in, packets_wanted, ph
 
 use crate::count::{begins_phase, makes_change};
 use npf_ctl_script::ScriptLine;
-use npf_runner::Command;
+use npf_traffic::Command;
 use npf_types::limits::MAX_CHANGES;
 use npf_types::{List, NoMemory};
 use std::alloc::Global;

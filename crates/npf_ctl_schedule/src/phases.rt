@@ -5,7 +5,7 @@ ghost use Rattle.npf_ctl_schedule.specs.Schedule.{changes_in, packets_wanted, ph
 use crate::count::{begins_phase, changes_in};
 use crate::part::{packets_wanted, phase_commands, until_phase};
 use npf_ctl_script::ScriptLine;
-use npf_runner::Phase;
+use npf_traffic::Phase;
 use npf_types::limits::MAX_CHANGES;
 use npf_types::{List, NoMemory};
 use std::alloc::Global;

@@ -1,18 +1,14 @@
 -- Where no change is written, no line of a command that begins with one has these arguments.
 use Rattle.std.proofs.Common.{◌≡◌, ℕ, List}
 use Rattle.npf_types.specs.declared.name.Name.{Name}
-use Rattle.npf_ctl_script.specs.declared.command.Command.{Command}
-use Rattle.npf_ctl_script.specs.declared.command.Command.TheVariants as Commands
-use Rattle.npf_ctl_script.specs.declared.script.ScriptLine.{ScriptLine}
-use Rattle.npf_ctl_script.specs.declared.script.ScriptLine.TheVariants.{RuleAdd, RuleRem, RuleFlush, TableAdd, TableRem}
-use Rattle.npf_ctl_script.specs.declared.verb.Verb.{Verb}
-use Rattle.npf_ctl_script.specs.declared.verb.Verb.TheVariants.{Add, RemId, Rem, Flush}
-use Rattle.npf_ctl_script.specs.Arguments.{HasArguments, IsChange}
-use Rattle.npf_ctl_script.specs.Commands.{command_of}
+use Rattle.npf_ctl_script.specs.declared.{command.LineCommand.LineCommand, script.ScriptLine.ScriptLine}
+use Rattle.npf_ctl_script.specs.declared.command.LineCommand.TheVariants as Commands
+use Rattle.npf_ctl_script.specs.declared.{script.ScriptLine.TheVariants.{RuleAdd, RuleRem, RuleFlush, TableAdd, TableRem}, change_word.Verb.Verb}
+use Rattle.npf_ctl_script.specs.{declared.change_word.Verb.TheVariants.{Add, RemId, Rem, Flush}, Arguments.{HasArguments, IsChange}, Commands.command_of}
 
 module _ (text : List ℕ) where
   -- no line of the command has these arguments
-  abbrev None_of : Command → Type 0
+  abbrev None_of : LineCommand → Type 0
   None_of command = (said : ScriptLine) → command_of said ≡ command → ¬ HasArguments text said
 
   pub no_rule : ((name : Name) (verb : Verb) → ¬ IsChange text name verb) → None_of Commands.Rule

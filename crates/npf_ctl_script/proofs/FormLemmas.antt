@@ -1,32 +1,24 @@
 -- A line has one form at most.
 use Rattle.std.proofs.Common.{◌≡◌, ◌==◌, ◌+◌, ◌*◌, ◌<◌, ◌^◌, ℕ, Option, Some, None, List, MatchOption, cond, length, position, slice_index, take, drop, codes, refl, sym, ap, subst, ◌∙◌, arith}
 use Rattle.std.specs.Str.Parse.{AllDigits}
-use Rattle.npf_types.specs.declared.direction.Dir.{Dir}
-use Rattle.npf_types.specs.declared.direction.Dir.TheVariants.{In, Out}
-use Rattle.npf_types.specs.declared.name.Name.{Name}
-use Rattle.npf_types.specs.declared.prefix.Prefix.{Prefix}
-use Rattle.npf_types.specs.Address.{cleared, width}
-use Rattle.npf_types.proofs.AddressTextLemmas.{one_address}
-use Rattle.npf_types.proofs.PrefixLemmas.{Prefix-same}
+use Rattle.npf_types.specs.{declared.{direction.Dir.{Dir, TheVariants.{In, Out}}, name.Name.Name, prefix.Prefix.Prefix}, Address.{cleared, width}}
+use Rattle.npf_types.proofs.{AddressTextLemmas.one_address, PrefixLemmas.Prefix-same}
 use Rattle.npf_table.specs.PrefixText.{IsBlockText, IsHostText, IsPrefixText, is_slash}
-use Rattle.npf_ctl_script.specs.declared.command.Command.{Command}
-use Rattle.npf_ctl_script.specs.declared.command.Command.TheVariants as Commands
-use Rattle.npf_ctl_script.specs.declared.script.ScriptLine.{ScriptLine}
+use Rattle.npf_ctl_script.specs.declared.{command.LineCommand.LineCommand, script.ScriptLine.ScriptLine}
+use Rattle.npf_ctl_script.specs.declared.command.LineCommand.TheVariants as Commands
 use Rattle.npf_ctl_script.specs.declared.script.ScriptLine.TheVariants.{Capture, Phase, Packets, Reload, RuleAdd, RuleRem, RuleFlush, TableAdd, TableRem, Expire}
-use Rattle.npf_ctl_script.specs.declared.verb.Verb.{Verb}
-use Rattle.npf_ctl_script.specs.declared.verb.Verb.TheVariants.{Add, RemId, Rem, Flush}
+use Rattle.npf_ctl_script.specs.declared.change_word.Verb.{Verb, TheVariants.{Add, RemId, Rem, Flush}}
 use Rattle.npf_ctl_script.specs.Arguments.{HasArguments, IsChange, IsForm, IsNameWord, IsPacketCount, behind_change}
 use Rattle.npf_ctl_script.specs.Commands.{command_of, command_text, direction_text, verb_text}
-use Rattle.npf_ctl_script.specs.Numbers.{IsFraction, IsNumberBelow, IsPartedSeconds, IsSeconds, IsWholeSeconds, is_point}
-use Rattle.npf_ctl_script.specs.Words.{behind_word, leading_word}
+use Rattle.npf_ctl_script.specs.{Numbers.{IsFraction, IsNumberBelow, IsPartedSeconds, IsSeconds, IsWholeSeconds, is_point}, Words.{behind_word, leading_word}}
 
 -- what a word of the grammar stands for, by its first byte and its length
-abbrev command_by : List ℕ → Command
+abbrev command_by : List ℕ → LineCommand
 command_by text =
     cond (slice_index text 0 == 99) Commands.Capture (cond (slice_index text 0 == 101) Commands.Expire (cond (slice_index text 0 == 116) Commands.Table
     (cond (length text == 5) Commands.Phase (cond (length text == 7) Commands.Packets (cond (length text == 6) Commands.Reload Commands.Rule)))))
 
-command_by_text : (c : Command) → command_by (command_text c) ≡ c
+command_by_text : (c : LineCommand) → command_by (command_text c) ≡ c
 command_by_text Commands.Capture = refl
 command_by_text Commands.Phase = refl
 command_by_text Commands.Packets = refl
@@ -35,7 +27,7 @@ command_by_text Commands.Rule = refl
 command_by_text Commands.Table = refl
 command_by_text Commands.Expire = refl
 
-command_same : (c d : Command) → command_text c ≡ command_text d → c ≡ d
+command_same : (c d : LineCommand) → command_text c ≡ command_text d → c ≡ d
 command_same c d same = sym (command_by_text c) ∙ ap command_by same ∙ command_by_text d
 
 abbrev verb_by : List ℕ → Verb

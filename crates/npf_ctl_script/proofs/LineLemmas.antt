@@ -1,16 +1,10 @@
 -- The lines of a script, one after the other.
 use Rattle.std.proofs.Common.{◌≡◌, ◌<◌, ◌+◌, ℕ, true, false, Option, Some, None, List, [], ◌∷◌, ◌++◌, length, map, take, get_or, refl, sym, ap, subst, ◌∙◌, true≢false, arith}
-use Rattle.std.proofs.lemmas.List.{length-take-le, map-append}
-use Rattle.std.proofs.lemmas.Option.{slice_get_read}
-use Rattle.npf_table.specs.TableFile.{lines}
-use Rattle.npf_table.proofs.TableFileLemmas.{one_line_more}
-use Rattle.npf_ctl_script.specs.declared.script.ScriptLine.{ScriptLine}
-use Rattle.npf_ctl_script.specs.declared.section.Section.TheVariants.{Captures}
-use Rattle.npf_ctl_script.specs.Commands.{command_of}
-use Rattle.npf_ctl_script.specs.Lines.{AreRead, IsBadNext, IsFirstBadScriptLine, IsNext, commands, section_of}
-use Rattle.npf_ctl_script.specs.Sections.{after_command, section_behind}
-use Rattle.npf_ctl_script.specs.Words.{IsSkipped}
-use Rattle.npf_ctl_script.proofs.SectionLemmas.{section_more}
+use Rattle.std.proofs.lemmas.{List.{length-take-le, map-append}, Option.slice_get_read}
+use Rattle.npf_table.{specs.TableFile.lines, proofs.TableFileLemmas.one_line_more}
+use Rattle.npf_ctl_script.specs.{declared.{script.ScriptLine.ScriptLine, section.Section.TheVariants.Captures}, Commands.command_of}
+use Rattle.npf_ctl_script.specs.{Lines.{AreRead, IsBadNext, IsFirstBadScriptLine, IsNext, commands, section_of}, Sections.{after_command, section_behind}}
+use Rattle.npf_ctl_script.{specs.Words.IsSkipped, proofs.SectionLemmas.section_more}
 
 -- at the beginning nothing is read, and no phase has begun
 pub nothing_read : (read : List (ℕ × ScriptLine)) → read ≡ [] → AreRead [] read

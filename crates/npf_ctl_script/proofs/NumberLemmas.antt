@@ -1,9 +1,6 @@
 -- What a fraction of a second writes.
 use Rattle.std.proofs.Common.{◌≡◌, ◌≤◌, ◌<◌, ◌+◌, ◌-◌, ◌*◌, ◌^◌, ℕ, Option, Some, None, List, length, refl, sym, ap, subst, ◌∙◌, arith}
-use Rattle.std.proofs.lemmas.Int.Digits.{digits_value-lt}
-use Rattle.std.proofs.lemmas.Nat.{pow-add}
-use Rattle.std.proofs.Math.Nat.{mul-lt-mul_of_pos_right, pow-le-pow_right}
-use Rattle.std.specs.Str.Parse.{digits_value}
+use Rattle.std.{proofs.{lemmas.{Int.Digits.digits_value-lt, Nat.pow-add}, Math.Nat.{mul-lt-mul_of_pos_right, pow-le-pow_right}}, specs.Str.Parse.digits_value}
 use Rattle.npf_ctl_script.specs.Numbers.{IsFraction, IsNumeralBelow}
 
 -- nine digits at most write less than a second

@@ -1,15 +1,10 @@
 -- A text reads as one script at most, and no such text has a bad line.
 use Rattle.std.proofs.Common.{◌≡◌, ◌<◌, ◌≤◌, ◌+◌, ℕ, List, [], ◌∷◌, ◌++◌, ◌⊎◌, ⊎_elim, inl, inr, length, take, get_or, refl, sym, ap, subst, ◌∙◌, arith}
-use Rattle.std.proofs.lemmas.List.{get_or_append_left, length-append, take-append-le, get_or_at}
-use Rattle.std.proofs.lemmas.Bool.{cases_lt}
-use Rattle.std.proofs.lemmas.Option.{get_or_from_slice_get, slice_get_within}
-use Rattle.std.proofs.Math.Seq.{take-append_seam}
+use Rattle.std.proofs.lemmas.{List.{get_or_append_left, length-append, take-append-le, get_or_at}, Bool.cases_lt}
+use Rattle.std.proofs.{lemmas.Option.{get_or_from_slice_get, slice_get_within}, Math.Seq.take-append_seam}
 use Rattle.npf_table.specs.TableFile.{lines}
-use Rattle.npf_ctl_script.specs.declared.script.ScriptLine.{ScriptLine}
-use Rattle.npf_ctl_script.specs.Arguments.{IsForm}
-use Rattle.npf_ctl_script.specs.Laws.{NoScriptIsRefused, OneScript}
-use Rattle.npf_ctl_script.specs.Lines.{AreRead, nothing, skipped, told, IsBadNext, IsFirstBadScriptLine, IsNext, IsScript, section_of}
-use Rattle.npf_ctl_script.specs.Words.{IsSkipped}
+use Rattle.npf_ctl_script.specs.{declared.script.ScriptLine.ScriptLine, Arguments.IsForm, Laws.{NoScriptIsRefused, OneScript}}
+use Rattle.npf_ctl_script.specs.{Lines.{AreRead, nothing, skipped, told, IsBadNext, IsFirstBadScriptLine, IsNext, IsScript, section_of}, Words.IsSkipped}
 use Rattle.npf_ctl_script.proofs.FormLemmas.{form_same}
 
 -- lists with a last item are one where their fronts and their last items are

@@ -7,11 +7,11 @@ use Rattle.npf_types.specs.Named.{named}
 use Rattle.npf_types.specs.NameText.{is_name}
 use Rattle.npf_table.specs.Line.{after_blanks, before_blanks}
 use Rattle.npf_table.specs.PrefixText.{IsPrefixText}
-use Rattle.npf_ctl_script.specs.declared.command.Command.{Command}
+use Rattle.npf_ctl_script.specs.declared.command.LineCommand.{LineCommand}
 use Rattle.npf_ctl_script.specs.declared.script.ScriptLine.{ScriptLine}
 use Rattle.npf_ctl_script.specs.declared.script.ScriptLine.TheVariants.{Capture, Phase, Packets, Reload, RuleAdd, RuleRem, RuleFlush, TableAdd, TableRem, Expire}
-use Rattle.npf_ctl_script.specs.declared.verb.Verb.{Verb}
-use Rattle.npf_ctl_script.specs.declared.verb.Verb.TheVariants.{Add, RemId, Rem, Flush}
+use Rattle.npf_ctl_script.specs.declared.change_word.Verb.{Verb}
+use Rattle.npf_ctl_script.specs.declared.change_word.Verb.TheVariants.{Add, RemId, Rem, Flush}
 use Rattle.npf_ctl_script.specs.Commands.{command_of, command_text, direction_text, verb_text}
 use Rattle.npf_ctl_script.specs.Numbers.{IsNumberBelow, IsSeconds}
 use Rattle.npf_ctl_script.specs.Words.{HasNoWord, behind_word, leading_word}
@@ -85,6 +85,6 @@ pub record IsForm (line : List ℕ) (said : ScriptLine) : Type 0 where
   pub arguments : HasArguments (behind_word line) said
 
 -- what a reader of a command's arguments answers: they, or that no line of this command has them
-abbrev pub AnswersArguments : Command → List ℕ → Option ScriptLine → Type 0
+abbrev pub AnswersArguments : LineCommand → List ℕ → Option ScriptLine → Type 0
 AnswersArguments command text None = (said : ScriptLine) → command_of said ≡ command → ¬ HasArguments text said
 AnswersArguments command text (Some said) = (command_of said ≡ command) × HasArguments text said

@@ -2,14 +2,14 @@
 use Rattle.std.specs.Prelude.{ℕ, List, codes}
 use Rattle.npf_types.specs.declared.direction.Dir.{Dir}
 use Rattle.npf_types.specs.declared.direction.Dir.TheVariants.{In, Out}
-use Rattle.npf_ctl_script.specs.declared.command.Command.{Command}
-use Rattle.npf_ctl_script.specs.declared.command.Command.TheVariants as Commands
+use Rattle.npf_ctl_script.specs.declared.command.LineCommand.{LineCommand}
+use Rattle.npf_ctl_script.specs.declared.command.LineCommand.TheVariants as Commands
 use Rattle.npf_ctl_script.specs.declared.script.ScriptLine.{ScriptLine}
 use Rattle.npf_ctl_script.specs.declared.script.ScriptLine.TheVariants as Lines
-use Rattle.npf_ctl_script.specs.declared.verb.Verb.{Verb}
-use Rattle.npf_ctl_script.specs.declared.verb.Verb.TheVariants.{Add, RemId, Rem, Flush}
+use Rattle.npf_ctl_script.specs.declared.change_word.Verb.{Verb}
+use Rattle.npf_ctl_script.specs.declared.change_word.Verb.TheVariants.{Add, RemId, Rem, Flush}
 
-abbrev pub command_text : Command → List ℕ
+abbrev pub command_text : LineCommand → List ℕ
 command_text Commands.Capture = codes "capture"
 command_text Commands.Phase = codes "phase"
 command_text Commands.Packets = codes "packets"
@@ -28,7 +28,7 @@ abbrev pub direction_text : Dir → List ℕ
 direction_text In = codes "in"
 direction_text Out = codes "out"
 
-abbrev pub command_of : ScriptLine → Command
+abbrev pub command_of : ScriptLine → LineCommand
 command_of (Lines.Capture _ _ _) = Commands.Capture
 command_of Lines.Phase = Commands.Phase
 command_of (Lines.Packets _) = Commands.Packets

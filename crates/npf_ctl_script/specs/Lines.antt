@@ -1,7 +1,7 @@
 -- What is read of a script: its lines part at line feeds, and each that isn't skipped has one of the forms.
 use Rattle.std.specs.Prelude.{◌≡◌, ◌+◌, ℕ, true, Some, List, [], ◌∷◌, ◌++◌, Option, length, map, take, slice_get}
 use Rattle.npf_table.specs.TableFile.{lines}
-use Rattle.npf_ctl_script.specs.declared.command.Command.{Command}
+use Rattle.npf_ctl_script.specs.declared.command.LineCommand.{LineCommand}
 use Rattle.npf_ctl_script.specs.declared.script.ScriptFault.{ScriptFault}
 use Rattle.npf_ctl_script.specs.declared.script.ScriptFault.TheVariants.{BadLine, NoMemory}
 use Rattle.npf_ctl_script.specs.declared.script.ScriptLine.{ScriptLine}
@@ -12,7 +12,7 @@ use Rattle.npf_ctl_script.specs.Sections.{section_behind, takes}
 use Rattle.npf_ctl_script.specs.Words.{IsFound, IsSkipped}
 
 -- the commands of these numbered lines
-abbrev pub commands : List (ℕ × ScriptLine) → List Command
+abbrev pub commands : List (ℕ × ScriptLine) → List LineCommand
 commands read = map (λ numbered. command_of numbered.1) read
 
 -- the line has a form whose command may come next

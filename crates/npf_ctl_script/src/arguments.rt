@@ -1,15 +1,15 @@
 // What follows the command of a line.
 ghost use Rattle.std.specs.Prelude.{IfOk};
-ghost use Rattle.npf_ctl_script.specs.declared.command.Command.TheVariants as command;
+ghost use Rattle.npf_ctl_script.specs.declared.command.LineCommand.TheVariants as command;
 ghost use Rattle.npf_ctl_script.specs.Arguments.{AnswersArguments};
 
 use crate::change::split_change;
-use crate::command::Command;
+use crate::change_word::Verb;
+use crate::command::LineCommand;
 use crate::direction::direction_of;
 use crate::file_name::file_name_of;
 use crate::last::{last_count, last_moment, last_number, last_prefix};
 use crate::script::ScriptLine;
-use crate::verb::Verb;
 use crate::words::{has_no_word, split_word};
 use npf_table::trim_start;
 use npf_types::{List, Name, NoMemory};
@@ -18,19 +18,19 @@ use std::alloc::Global;
 /// The line of this command that has these arguments, None where there is none.
 pub(crate) fn read_arguments(
     alloc: Global,
-    command: Command,
+    command: LineCommand,
     text: &[u8],
 ) -> Result<Option<ScriptLine>, NoMemory>
     ensures { IfOk result (AnswersArguments command text.now) }
 {
     match command {
-        Command::Capture => read_capture(alloc, text),
-        Command::Phase => Ok(read_phase(text)),
-        Command::Packets => Ok(read_packets(text)),
-        Command::Reload => read_reload(alloc, text),
-        Command::Rule => read_rule(alloc, text),
-        Command::Table => Ok(read_table(text)),
-        Command::Expire => Ok(read_expire(text)),
+        LineCommand::Capture => read_capture(alloc, text),
+        LineCommand::Phase => Ok(read_phase(text)),
+        LineCommand::Packets => Ok(read_packets(text)),
+        LineCommand::Reload => read_reload(alloc, text),
+        LineCommand::Rule => read_rule(alloc, text),
+        LineCommand::Table => Ok(read_table(text)),
+        LineCommand::Expire => Ok(read_expire(text)),
     }
 }
 

@@ -1,11 +1,11 @@
 // The first word of a line.
 ghost use Rattle.std.specs.Prelude.{◌≡◌, ◌≢◌, MatchOption};
-ghost use Rattle.npf_ctl_script.specs.declared.command.Command.{Command as CommandType};
+ghost use Rattle.npf_ctl_script.specs.declared.command.LineCommand.{LineCommand as CommandType};
 ghost use Rattle.npf_ctl_script.specs.Commands.{command_text};
 
 /// The command of a line.
 #[derive(Clone, Copy)]
-pub(crate) enum Command {
+pub(crate) enum LineCommand {
     Capture,
     Phase,
     Packets,
@@ -16,17 +16,17 @@ pub(crate) enum Command {
 }
 
 /// The command that the word is.
-pub(crate) fn command_of(word: &[u8]) -> Option<Command>
+pub(crate) fn command_of(word: &[u8]) -> Option<LineCommand>
     ensures { MatchOption result ((command : CommandType) → word.now ≢ command_text command) (λ command. word.now ≡ command_text command) }
 {
     match word {
-        b"capture" => Some(Command::Capture),
-        b"phase" => Some(Command::Phase),
-        b"packets" => Some(Command::Packets),
-        b"reload" => Some(Command::Reload),
-        b"rule" => Some(Command::Rule),
-        b"table" => Some(Command::Table),
-        b"expire" => Some(Command::Expire),
+        b"capture" => Some(LineCommand::Capture),
+        b"phase" => Some(LineCommand::Phase),
+        b"packets" => Some(LineCommand::Packets),
+        b"reload" => Some(LineCommand::Reload),
+        b"rule" => Some(LineCommand::Rule),
+        b"table" => Some(LineCommand::Table),
+        b"expire" => Some(LineCommand::Expire),
         _ => None,
     }
 }

@@ -1,3 +1,4 @@
+// The direction that a word says.
 ghost use Rattle.std.specs.Prelude.{◌≡◌, ◌≢◌, MatchOption};
 ghost use Rattle.npf_types.specs.declared.direction.Dir.{Dir as DirType};
 ghost use Rattle.npf_ctl_script.specs.Commands.{direction_text};

@@ -13,18 +13,18 @@
 
 mod arguments;
 mod change;
+mod change_word;
 mod command;
 mod direction;
 mod file_name;
 mod last;
 pub mod laws;
+mod lines;
 mod number;
-mod reading;
 mod script;
 mod seconds;
 mod section;
-mod verb;
 mod words;
 
-pub use reading::read_script;
+pub use lines::read_script;
 pub use script::{Script, ScriptFault, ScriptLine};

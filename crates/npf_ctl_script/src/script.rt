@@ -1,3 +1,4 @@
+// A script, and why a text is none.
 ghost use Rattle.std.specs.Prelude.{◌≡◌};
 
 use npf_types::{Dir, List, Name, NoMemory, Prefix, Text};

@@ -3,7 +3,7 @@ ghost use Rattle.std.specs.Prelude.{◌≡◌};
 ghost use Rattle.npf_ctl_script.specs.Commands.{command_of};
 ghost use Rattle.npf_ctl_script.specs.Sections.{after_command, takes};
 
-use crate::command::Command;
+use crate::command::LineCommand;
 use crate::script::ScriptLine;
 
 /// Where a script stands.
@@ -19,13 +19,16 @@ pub(crate) enum Section {
 
 impl Section {
     /// Whether a line with this command may come next.
-    pub(crate) fn takes(self, command: Command) -> bool
+    pub(crate) fn takes(self, command: LineCommand) -> bool
         ensures { result ≡ takes self command }
     {
         match self {
-            Section::Captures => matches!(command, Command::Capture | Command::Phase),
-            Section::Phase => !matches!(command, Command::Capture),
-            Section::PhaseWithPackets => !matches!(command, Command::Capture | Command::Packets),
+            Section::Captures => matches!(command, LineCommand::Capture | LineCommand::Phase),
+            Section::Phase => !matches!(command, LineCommand::Capture),
+            Section::PhaseWithPackets => !matches!(
+                command,
+                LineCommand::Capture | LineCommand::Packets
+            ),
         }
     }
 

@@ -1,20 +1,12 @@
 -- What the values of a definition's arguments are to the command that is read of them.
 use Rattle.std.proofs.Common.{◌≡◌, ◌∙◌, ◌≤◌, ◌&&◌, Bool, true, false, List, [], ◌∷◌, Option, Some, None, Result, Ok, Err, is_some, refl, sym, ap, subst, arith, codes}
-use Rattle.std.specs.Prelude.{pos, unwrap_or}
-use Rattle.std.specs.Option.{option_map_or}
-use Rattle.std.specs.Str.Parse.{IsNumeral, starts_with_minus, without_leading_plus}
-use Rattle.std.proofs.lemmas.Bool.{ne_eqb}
-use Rattle.std.proofs.lemmas.Int.{ints}
-use Rattle.clap.specs.Kinds.{IsAmong, Kinds}
-use Rattle.clap.specs.Walk.{is_empty}
-use Rattle.clap.specs.Words.{IsSignedIn, IsUnsignedIn, Row, Rule, Text, first_of, found_of, rows_of}
-use Rattle.clap.specs.declared.error.kind.ErrorKind.{ErrorKind}
-use Rattle.clap.specs.declared.parser.matches.ArgMatches.{ArgMatches}
+use Rattle.std.specs.{Prelude.{pos, unwrap_or}, Option.option_map_or, Str.Parse.{IsNumeral, starts_with_minus, without_leading_plus}}
+use Rattle.std.proofs.lemmas.{Bool.ne_eqb, Int.ints}
+use Rattle.clap.specs.{Kinds.{IsAmong, Kinds}, Walk.is_empty, Words.{IsSignedIn, IsUnsignedIn, Row, Rule, Text, first_of, found_of, rows_of}}
+use Rattle.clap.specs.declared.{error.kind.ErrorKind.ErrorKind, parser.matches.ArgMatches.ArgMatches}
 use Rattle.npf_ctl_words.specs.CommandLine.{SaysCommand, TellsCommand, command_name, is_command_line, knows_spread, name_in, rows_in, signed_number, takes_words}
 use Rattle.npf_ctl_words.specs.Definitions.{definition_of, gen_command, loading_command, number_parser, number_rule, run_command, spread_rule, word_rule, workers_parser, workers_rule}
-use Rattle.npf_ctl_words.specs.Values.{HasEachValue, HasValue, IsMatched}
-use Rattle.npf_ctl_words.specs.declared.command.Command.{Command}
-use Rattle.npf_ctl_words.specs.declared.command.CommandName.{CommandName}
+use Rattle.npf_ctl_words.specs.{Values.{HasEachValue, HasValue, IsMatched}, declared.command.{Invocation.Invocation, CommandName.CommandName}}
 use Rattle.npf_ctl_words.specs.declared.fault.WordsFault.{WordsFault}
 
 pub among_some : (k : ErrorKind) (ks : Kinds) → IsAmong k ks → is_empty ks ≡ false
@@ -52,7 +44,7 @@ pub refused_spread : (words : List Text) (n : CommandName) (m : ArgMatches) → 
     → knows_spread n (rows_of (found_of m)) ≡ false → is_command_line words ≡ false
 refused_spread words n m t unknown = line_knows words n m false t unknown
 
-pub says : (words : List Text) (n : CommandName) (m : ArgMatches) (c : Command) → IsTaken words n m
+pub says : (words : List Text) (n : CommandName) (m : ArgMatches) (c : Invocation) → IsTaken words n m
     → knows_spread n (rows_of (found_of m)) ≡ true → command_name c ≡ n → TellsCommand (rows_of (found_of m)) c → SaysCommand words c
 says words n m c t knows name told = record {
   taken = line_knows words n m true t knows;

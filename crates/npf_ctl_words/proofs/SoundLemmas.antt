@@ -1,11 +1,8 @@
 -- Each of the five definitions is sound, and `clap` says of each where it refuses words.
 use Rattle.std.proofs.Common.{◌≡◌, refl, true}
-use Rattle.clap.specs.Words.{is_simple_and_free}
-use Rattle.clap.proofs.OnLiterals.{clap_on_literals}
-use Rattle.npf_ctl_words.specs.Definitions.{definition_of}
-use Rattle.npf_ctl_words.specs.declared.command.CommandName.{CommandName}
+use Rattle.clap.{specs.Words.is_simple_and_free, proofs.OnLiterals.clap_on_literals}
+use Rattle.npf_ctl_words.{specs.{Definitions.definition_of, declared.command.CommandName.CommandName}, proofs.ValueLemmas.IsSound}
 use Rattle.npf_ctl_words.specs.declared.command.CommandName.TheVariants as name
-use Rattle.npf_ctl_words.proofs.ValueLemmas.{IsSound}
 
 pub all_free : (n : CommandName) → is_simple_and_free (definition_of n) ≡ true
 unfolding clap_on_literals

@@ -1,27 +1,14 @@
 -- In each parse of a sound definition an argument that is required, or has a default, has a value that its parser takes.
-use Rattle.std.proofs.Common.{◌≡◌, ◌∙◌, ◌<◌, ◌≤◌, ◌&&◌, ◌⊎◌, ℕ, zero, suc, Bool, true, false, not, List, [], ◌∷◌, length, map, Option, Some, None, is_some, refl, sym, ap, subst, inl, inr, arith, codes}
-use Rattle.std.specs.Prelude.{find, option_map, slice_get, unwrap_or}
-use Rattle.std.specs.List.{All, list_all, slice_index_or}
-use Rattle.std.specs.Str.{bytes_eq}
-use Rattle.std.specs.Borrow.{Bor}
-use Rattle.std.proofs.lemmas.List.Elements.{All-get_or}
-use Rattle.std.proofs.lemmas.Slice.Eq.{bytes_eq-Decides}
-use Rattle.clap.specs.Texts.{items_of}
-use Rattle.clap.specs.Words.{Accepts, App, IsParsed, IsParsedFrom, IsPlain, IsPlainArg, Rule, SameRules, Text, app_of, args_of, first_value, found_of, groups_of, has_subcommand, matched_of, parser_of, rows_of, rule_of}
-use Rattle.clap.specs.Built.{IsAuto}
+use Rattle.std.proofs.Common.{◌≡◌, ◌∙◌, ◌<◌, ◌≤◌, ◌&&◌, ◌⊎◌, ℕ, zero, suc, Bool, true, false, not, List, [], ◌∷◌, length, map, Option}
+use Rattle.std.{proofs.Common.{Some, None, is_some, refl, sym, ap, subst, inl, inr, arith, codes}, specs.Prelude.{find, option_map, slice_get, unwrap_or}}
+use Rattle.std.{specs.{List.{All, list_all, slice_index_or}, Str.bytes_eq, Borrow.Bor}, proofs.lemmas.{List.Elements.All-get_or, Slice.Eq.bytes_eq-Decides}}
+use Rattle.clap.specs.{Texts.items_of, Words.{Accepts, App, IsParsed, IsParsedFrom, IsPlain, IsPlainArg, Rule, SameRules, Text, app_of, args_of, first_value}}
+use Rattle.clap.specs.{Words.{found_of, groups_of, has_subcommand, matched_of, parser_of, rows_of, rule_of}, Built.IsAuto}
 use Rattle.clap.specs.Facts.{AllowsNone, Entry, EntryPasses, EntryValuesPass, HasId, IsCountArg, IsFilledEntry, IsKnownGroup, PassesArg, WantsDefault, is_present, least_values, parser_of_value}
-use Rattle.clap.specs.declared.builder.action.ArgAction.{ArgAction}
-use Rattle.clap.specs.declared.builder.action.ArgAction.TheVariants.{Count, Set}
-use Rattle.clap.specs.declared.builder.arg.Arg.{Arg}
-use Rattle.clap.specs.declared.builder.command.Command.{Command}
-use Rattle.clap.specs.declared.builder.value_parser.ValueParser.{ValueParser}
-use Rattle.clap.specs.declared.parser.matches.ArgMatches.{ArgMatches}
-use Rattle.clap.specs.declared.parser.matches.Found.{Found}
-use Rattle.clap.specs.declared.parser.matches.MatchedArg.{MatchedArg}
+use Rattle.clap.specs.declared.builder.{action.ArgAction.{ArgAction, TheVariants.{Count, Set}}, arg.Arg.Arg, command.Command.Command}
+use Rattle.clap.specs.declared.{builder.value_parser.ValueParser.ValueParser, parser.matches.{ArgMatches.ArgMatches, Found.Found, MatchedArg.MatchedArg}}
 use Rattle.clap.proofs.CallerLemmas.{default_present, entry_by_id, present_has_entry, required_present, same_rules_by_id}
-use Rattle.clap.proofs.SimpleLemmas.{is_false, is_nil, plain_fields}
-use Rattle.clap.proofs.TakesLemmas.{each_rule}
-use Rattle.clap.proofs.WalkLemmas.{both, first_value-rows}
+use Rattle.clap.proofs.{SimpleLemmas.{is_false, is_nil, plain_fields}, TakesLemmas.each_rule, WalkLemmas.{both, first_value-rows}}
 use Rattle.npf_ctl_words.specs.Values.{HasEachValue, HasValue, has_always}
 
 -- ---- what a definition is asked for

@@ -10,12 +10,12 @@ use Rattle.clap.specs.Walk.{is_empty}
 use Rattle.npf_ctl_words.specs.Definitions.{definition_of}
 use Rattle.npf_ctl_words.specs.declared.command.CommandName.{CommandName}
 use Rattle.npf_ctl_words.specs.declared.command.CommandName.TheVariants as name
-use Rattle.npf_ctl_words.specs.declared.command.Command.{Command}
-use Rattle.npf_ctl_words.specs.declared.command.Command.TheVariants as command
-use Rattle.npf_ctl_words.specs.declared.command.Run.{Run}
+use Rattle.npf_ctl_words.specs.declared.command.Invocation.{Invocation}
+use Rattle.npf_ctl_words.specs.declared.command.Invocation.TheVariants as command
+use Rattle.npf_ctl_words.specs.declared.command.RunWords.{RunWords}
 use Rattle.npf_ctl_words.specs.declared.command.Load.{Load}
-use Rattle.npf_ctl_words.specs.declared.command.Spread.{Spread}
-use Rattle.npf_ctl_words.specs.declared.command.Spread.TheVariants as spread
+use Rattle.npf_ctl_words.specs.declared.command.SpreadWord.{SpreadWord}
+use Rattle.npf_ctl_words.specs.declared.command.SpreadWord.TheVariants as spread
 
 -- the bytes of each word
 abbrev pub word_texts : List (String Global) → List Text
@@ -36,13 +36,13 @@ name_in [] = None
 name_in (word ∷ _) = command_named word
 
 -- the spread that a text names, byte for byte
-abbrev pub spread_named : Text → Option Spread
+abbrev pub spread_named : Text → Option SpreadWord
 spread_named text =
     if bytes_eq text (codes "rr") then Some spread.Rr
     else (if bytes_eq text (codes "flow") then Some spread.Flow else None)
 
 -- the spread of what `clap` found for `run`
-abbrev pub spread_in : List Row → Option Spread
+abbrev pub spread_in : List Row → Option SpreadWord
 spread_in rows = option_and_then spread_named (first_of (codes "spread") rows)
 
 -- `run` deals its packets by one of the two spreads
@@ -62,7 +62,7 @@ rows_in n words = matches_of (definition_of n) words
 abbrev pub is_command_line : List Text → Bool
 is_command_line words = option_map_or (λ n. takes_words n words && knows_spread n (rows_in n words)) (name_in words) false
 
-abbrev pub command_name : Command → CommandName
+abbrev pub command_name : Invocation → CommandName
 command_name (command.Run _) = name.Run
 command_name (command.Validate _) = name.Validate
 command_name (command.Show _) = name.Show
@@ -77,7 +77,7 @@ abbrev pub given_text : Option (Bor Text) → Option Text
 given_text = option_map (λ text. text.now)
 
 -- what `clap` found for each word and option of `run`; the options `workers` and `spread` have their defaults
-pub record TellsRun (rows : List Row) (run : Run) : Type 0 where
+pub record TellsRun (rows : List Row) (run : RunWords) : Type 0 where
   pub conf : first_of (codes "conf") rows ≡ Some run.conf.now
   pub script : first_of (codes "script") rows ≡ Some run.script.now
   pub ifaces : first_of (codes "ifaces") rows ≡ given_text run.ifaces
@@ -97,7 +97,7 @@ pub record TellsLoad (rows : List Row) (load : Load) : Type 0 where
 abbrev pub TellsNumber : List Row → ℕ → Type 0
 TellsNumber rows number = option_map signed_number (first_of (codes "number") rows) ≡ Some number
 
-abbrev pub TellsCommand : List Row → Command → Type 0
+abbrev pub TellsCommand : List Row → Invocation → Type 0
 TellsCommand rows (command.Run run) = TellsRun rows run
 TellsCommand rows (command.Validate load) = TellsLoad rows load
 TellsCommand rows (command.Show load) = TellsLoad rows load
@@ -105,7 +105,7 @@ TellsCommand rows (command.Debug load) = TellsLoad rows load
 TellsCommand rows (command.Gen number) = TellsNumber rows number
 
 -- the command that the words say: it is the first word's, and what `clap` found by its definition is in it
-pub record SaysCommand (words : List Text) (c : Command) : Type 0 where
+pub record SaysCommand (words : List Text) (c : Invocation) : Type 0 where
   pub taken : is_command_line words ≡ true
   pub name : name_in words ≡ Some (command_name c)
   pub told : TellsCommand (rows_in (command_name c) words) c

@@ -2,13 +2,13 @@
 use Rattle.std.specs.Prelude.{◌≡◌, List}
 use Rattle.clap.specs.Words.{Text}
 use Rattle.npf_ctl_words.specs.CommandLine.{SaysCommand, given_text}
-use Rattle.npf_ctl_words.specs.declared.command.Command.{Command}
-use Rattle.npf_ctl_words.specs.declared.command.Command.TheVariants as command
-use Rattle.npf_ctl_words.specs.declared.command.Run.{Run}
+use Rattle.npf_ctl_words.specs.declared.command.Invocation.{Invocation}
+use Rattle.npf_ctl_words.specs.declared.command.Invocation.TheVariants as command
+use Rattle.npf_ctl_words.specs.declared.command.RunWords.{RunWords}
 use Rattle.npf_ctl_words.specs.declared.command.Load.{Load}
 
 -- the same but for where in memory the names of files lie
-pub record IsSameRun (a b : Run) : Type 0 where
+pub record IsSameRun (a b : RunWords) : Type 0 where
   pub conf : a.conf.now ≡ b.conf.now
   pub script : a.script.now ≡ b.script.now
   pub ifaces : given_text a.ifaces ≡ given_text b.ifaces
@@ -22,7 +22,7 @@ pub record IsSameLoad (a b : Load) : Type 0 where
   pub conf : a.conf.now ≡ b.conf.now
   pub ifaces : given_text a.ifaces ≡ given_text b.ifaces
 
-abbrev pub IsSameCommand : Command → Command → Type 0
+abbrev pub IsSameCommand : Invocation → Invocation → Type 0
 IsSameCommand (command.Run a) (command.Run b) = IsSameRun a b
 IsSameCommand (command.Validate a) (command.Validate b) = IsSameLoad a b
 IsSameCommand (command.Show a) (command.Show b) = IsSameLoad a b
@@ -32,4 +32,4 @@ IsSameCommand _ _ = ⊥
 
 -- words say one command at most
 abbrev pub OneCommand : Type 0
-OneCommand = (words : List Text) (a b : Command) → SaysCommand words a → SaysCommand words b → IsSameCommand a b
+OneCommand = (words : List Text) (a b : Invocation) → SaysCommand words a → SaysCommand words b → IsSameCommand a b

@@ -2,7 +2,7 @@
 
 /// How a run deals its packets to its workers, as the word of `--spread` has it.
 #[derive(Clone, Copy, Debug, PartialEq, Eq)]
-pub enum Spread {
+pub enum SpreadWord {
     /// In turn, one packet to each.
     Rr,
     /// By addresses, ports and protocol, so that both ways of a flow that isn't translated go to one worker.
@@ -21,7 +21,7 @@ pub enum CommandName {
 
 /// What `run` is to do.
 #[derive(Clone, Copy, Debug, PartialEq, Eq)]
-pub struct Run<'a> {
+pub struct RunWords<'a> {
     /// The configuration's file.
     pub conf: &'a str,
     /// The script's file, or a capture's.
@@ -31,7 +31,7 @@ pub struct Run<'a> {
     /// How many workers inspect the packets, 1 to 64.
     pub workers: u32,
     /// How the packets are dealt to them.
-    pub spread: Spread,
+    pub spread: SpreadWord,
     /// The file that the packets that pass are written to.
     pub output: Option<&'a str>,
     /// The file of saved connections that are loaded before the run.
@@ -51,9 +51,9 @@ pub struct Load<'a> {
 
 /// A command, with what its words say.
 #[derive(Clone, Copy, Debug, PartialEq, Eq)]
-pub enum Command<'a> {
+pub enum Invocation<'a> {
     /// Runs a script's packets through a configuration, and reports what becomes of each.
-    Run(Run<'a>),
+    Run(RunWords<'a>),
     /// Loads a configuration, and says how many rules it has.
     Validate(Load<'a>),
     /// Loads a configuration, and prints its canonical text.

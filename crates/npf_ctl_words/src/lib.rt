@@ -9,11 +9,11 @@
 #![tactic(auto)]
 
 mod command;
+mod command_line;
 mod definitions;
 mod fault;
 pub mod laws;
-mod reading;
 
-pub use command::{Command, CommandName, Load, Run, Spread};
+pub use command::{CommandName, Invocation, Load, RunWords, SpreadWord};
+pub use command_line::{name_in, read_words};
 pub use fault::WordsFault;
-pub use reading::read_words;

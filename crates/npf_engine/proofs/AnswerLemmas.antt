@@ -1,44 +1,19 @@
 -- What an answer says of the packet.
-use Rattle.std.proofs.Common.{◌≡◌, ◌≢◌, ℕ, Bool, true, false, List, [], Option, Some, None, refl, subst}
-use Rattle.std.specs.Prelude.{if◌then◌else◌}
-use Rattle.npf_types.specs.declared.action.Action.{Action}
-use Rattle.npf_types.specs.declared.change.Change.{Change}
-use Rattle.npf_types.specs.declared.decision.Decision.TheVariants.{Pass}
-use Rattle.npf_types.specs.declared.facts.Facts.{Facts}
-use Rattle.npf_core.specs.declared.conn_id.ConnId.{ConnId}
-use Rattle.npf_core.specs.declared.found.Found.{Found}
+use Rattle.std.{proofs.Common.{◌≡◌, ◌≢◌, ℕ, Bool, true, false, List, [], Option, Some, None, refl, subst}, specs.Prelude.if◌then◌else◌}
+use Rattle.npf_types.specs.declared.{action.Action.Action, change.Change.Change, decision.Decision.TheVariants.Pass, facts.Facts.Facts}
+use Rattle.npf_core.specs.declared.{conn_id.ConnId.ConnId, found.Found.Found}
 use Rattle.npf_core.specs.declared.stepped.Stepped.TheVariants as Steps
-use Rattle.npf_connections.specs.Beginning.{IsFullBetween}
-use Rattle.npf_connections.specs.Pass.{Pass as PassView}
-use Rattle.npf_connections.specs.Said.{Did, Does}
-use Rattle.npf_connections.proofs.SaidLemmas.{did_nothing}
-use Rattle.npf_flow.specs.declared.step.FlowReply.{FlowReply}
-use Rattle.npf_flow.specs.Flows.{flow_law}
-use Rattle.npf_icmpalg.specs.declared.error.Inner.{Inner}
-use Rattle.npf_icmpalg.specs.Error.{error_in, is_error, quoted_packet}
-use Rattle.npf_icmpalg.specs.ErrorTranslated.{ErrorSent, ErrorTranslated}
-use Rattle.npf_rewrite.specs.Normalised.{Normalised}
-use Rattle.npf_rewrite.specs.Translated.{Translated}
-use Rattle.npf_engine_opening.specs.declared.attempt.Attempt.{Attempt}
-use Rattle.npf_engine_opening.specs.declared.attempt.Opened.{Opened}
-use Rattle.npf_engine_opening.specs.declared.attempt.Refusal.{Refusal}
-use Rattle.npf_engine_opening.specs.declared.attempt.Refusal.TheVariants.{Full}
-use Rattle.npf_engine_opening.specs.Opening.{OpensConnection}
+use Rattle.npf_connections.{specs.{Beginning.IsFullBetween, Pass.Pass as PassView, Said.{Did, Does}}, proofs.SaidLemmas.did_nothing}
+use Rattle.npf_flow.specs.{declared.step.FlowReply.FlowReply, Flows.flow_law}
+use Rattle.npf_icmpalg.specs.{declared.error.Inner.Inner, Error.{error_in, is_error, quoted_packet}, ErrorTranslated.{ErrorSent, ErrorTranslated}}
+use Rattle.npf_rewrite.specs.{Normalised.Normalised, Translated.Translated}
+use Rattle.npf_engine_opening.specs.{declared.attempt.{Attempt.Attempt, Opened.Opened, Refusal.{Refusal, TheVariants.Full}}, Opening.OpensConnection}
 use Rattle.npf_engine_opening.proofs.RoomLemmas.{full_says_nothing}
-use Rattle.npf_engine.specs.declared.answer.Answer.{Answer}
-use Rattle.npf_engine.specs.declared.answer.Translation.{Translation}
-use Rattle.npf_engine.specs.declared.answer.Translation.TheVariants.{OfPacket, OfError}
-use Rattle.npf_engine.specs.declared.connection.Met.{Met}
-use Rattle.npf_engine.specs.declared.crossing.Crossing.{Crossing}
-use Rattle.npf_engine.specs.declared.outcome.Outcome.TheVariants.{Dropped}
-use Rattle.npf_engine.specs.declared.rules.Mapping.TheVariants.{Unmapped}
-use Rattle.npf_engine.specs.declared.open.Passed.{Passed}
+use Rattle.npf_engine.specs.declared.{answer.{Answer.Answer, Translation.{Translation, TheVariants.{OfPacket, OfError}}}, connection.Met.Met}
+use Rattle.npf_engine.specs.declared.{crossing.Crossing.Crossing, outcome.Outcome.TheVariants.Dropped, rules.Mapping.TheVariants.Unmapped, open.Passed.Passed}
 use Rattle.npf_engine.specs.Answer.{AnswersByConn, AnswersByQuoted, AnswersRuled, AnswersTried, IsRewrittenBy, IsSentSo, arrival_of, own_rewriting, quoted_by, taken_rewriting}
-use Rattle.npf_engine.specs.Explains.{IsDecided, IsSentIf, LacksConnection, IsTried, Sight, WasFull, by_conn, by_ruling, unkept}
-use Rattle.npf_engine.specs.Connection.{met}
-use Rattle.npf_engine.specs.Histories.{FlowEntry}
-use Rattle.npf_engine.specs.Rules.{OpensOne, attempt_of, static_change, unchanged}
-use Rattle.npf_engine.proofs.SightLemmas.{was_full}
+use Rattle.npf_engine.specs.{Explains.{IsDecided, IsSentIf, LacksConnection, IsTried, Sight, WasFull, by_conn, by_ruling, unkept}, Connection.met}
+use Rattle.npf_engine.{specs.{Histories.FlowEntry, Rules.{OpensOne, attempt_of, static_change, unchanged}}, proofs.SightLemmas.was_full}
 
 -- what is sent of a packet that a connection took
 module _ (bytes : List ℕ) (facts : Facts) (action : Action) (change : Change) (sent : Option (List ℕ)) where

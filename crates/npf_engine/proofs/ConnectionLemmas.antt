@@ -1,17 +1,11 @@
 -- What came of a look for one key.
 use Rattle.std.proofs.Common.{ℕ, [], ◌∷◌, Option, Some, None}
 use Rattle.npf_types.specs.declared.key.Key.{Key}
-use Rattle.npf_core.specs.declared.found.Found.{Found}
-use Rattle.npf_core.specs.declared.stepped.Stepped.{Stepped}
-use Rattle.npf_connections.specs.Pass.{Pass}
-use Rattle.npf_connections.specs.Said.{Did, Does}
-use Rattle.npf_connections.proofs.SaidLemmas.{did_more}
-use Rattle.npf_flow.specs.declared.step.FlowArg.{FlowArg}
-use Rattle.npf_flow.specs.declared.step.FlowReply.{FlowReply}
-use Rattle.npf_engine.specs.declared.connection.Met.{Met}
+use Rattle.npf_core.specs.declared.{found.Found.Found, stepped.Stepped.Stepped}
+use Rattle.npf_connections.{specs.{Pass.Pass, Said.{Did, Does}}, proofs.SaidLemmas.did_more}
+use Rattle.npf_flow.specs.declared.step.{FlowArg.FlowArg, FlowReply.FlowReply}
+use Rattle.npf_engine.specs.{declared.connection.Met.Met, Connection.{FindsByKey, look_for}, Histories.FlowEntry}
 use Rattle.npf_engine_opening.specs.Saying.{step_said}
-use Rattle.npf_engine.specs.Connection.{FindsByKey, look_for}
-use Rattle.npf_engine.specs.Histories.{FlowEntry}
 
 module _ (n : ℕ) (arg : FlowArg) (key : Key) (old : Pass FlowEntry) where
   pub looked : (new : Pass FlowEntry) (found : Option Found) → FindsByKey n arg key (look_for n arg key found ∷ []) None →

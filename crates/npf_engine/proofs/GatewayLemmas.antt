@@ -1,22 +1,12 @@
 -- What an error asked for what it quotes.
-use Rattle.std.proofs.Common.{◌≡◌, ℕ, Bool, true, false, List, [], Option, Some, None, refl}
-use Rattle.std.specs.Prelude.{if◌then◌else◌}
-use Rattle.npf_types.specs.declared.facts.Facts.{Facts}
-use Rattle.npf_types.specs.declared.key.Key.{Key}
+use Rattle.std.{proofs.Common.{◌≡◌, ℕ, Bool, true, false, List, [], Option, Some, None, refl}, specs.Prelude.if◌then◌else◌}
+use Rattle.npf_types.specs.declared.{facts.Facts.Facts, key.Key.Key}
 use Rattle.npf_flow.specs.declared.step.FlowArg.{FlowArg}
-use Rattle.npf_connections.specs.Pass.{Pass}
-use Rattle.npf_connections.specs.Said.{Does}
-use Rattle.npf_connections.proofs.SaidLemmas.{did_nothing}
-use Rattle.npf_icmpalg.specs.declared.error.Inner.{Inner}
-use Rattle.npf_icmpalg.specs.Error.{IsError, error_in, inner_key, is_error, quoted_packet}
+use Rattle.npf_connections.{specs.{Pass.Pass, Said.Does}, proofs.SaidLemmas.did_nothing}
+use Rattle.npf_icmpalg.specs.{declared.error.Inner.Inner, Error.{IsError, error_in, inner_key, is_error, quoted_packet}}
 use Rattle.npf_engine_opening.specs.Saying.{FlowSaid}
-use Rattle.npf_engine.specs.declared.connection.Met.{Met}
-use Rattle.npf_engine.specs.declared.crossing.Crossing.{Crossing}
-use Rattle.npf_engine.specs.Answer.{arrival_of}
-use Rattle.npf_engine.specs.Arrival.{Arrival, any_interface}
-use Rattle.npf_engine.specs.Connection.{FindsEither}
-use Rattle.npf_engine.specs.Gateway.{AsksQuoted, peek_of}
-use Rattle.npf_engine.specs.Histories.{FlowEntry}
+use Rattle.npf_engine.specs.{declared.{connection.Met.Met, crossing.Crossing.Crossing}, Answer.arrival_of, Arrival.{Arrival, any_interface}}
+use Rattle.npf_engine.specs.{Connection.FindsEither, Gateway.{AsksQuoted, peek_of}, Histories.FlowEntry}
 
 -- a packet that a connection takes for what it quotes is an error
 pub takes_error : {gateway : Bool} {arrival : Arrival} {facts : Facts} {said : List FlowSaid} {taken : Met} →

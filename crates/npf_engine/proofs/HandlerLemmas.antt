@@ -1,42 +1,21 @@
 -- From what answers a packet of IP to what handles a packet.
 use Rattle.std.proofs.Common.{◌≡◌, ◌<◌, ℕ, Bool, List, [], ◌++◌, Option, Some, None, length, refl, sym, ap, subst, ◌∙◌, slice_get, get_or}
-use Rattle.std.proofs.lemmas.Option.{slice_get-get_or, slice_get-map}
-use Rattle.std.specs.Prelude.{if◌then◌else◌, is_some}
-use Rattle.std.specs.Option.{option_map}
-use Rattle.npf_types.specs.declared.decision.Decision.TheVariants.{Block}
-use Rattle.npf_types.specs.declared.decision.Return.{Return}
-use Rattle.npf_types.specs.declared.decision.Return.TheVariants.{Nothing}
-use Rattle.npf_types.specs.declared.key.Key.{Key}
-use Rattle.npf_connections.specs.Pass.{Pass}
-use Rattle.npf_connections.specs.Said.{Does}
-use Rattle.npf_connections.proofs.SaidLemmas.{did_more, did_nothing}
+use Rattle.std.{proofs.lemmas.Option.{slice_get-get_or, slice_get-map}, specs.{Prelude.{if◌then◌else◌, is_some}, Option.option_map}}
+use Rattle.npf_types.specs.declared.{decision.{Decision.TheVariants.Block, Return.{Return, TheVariants.Nothing}}, key.Key.Key}
+use Rattle.npf_connections.{specs.{Pass.Pass, Said.Does}, proofs.SaidLemmas.{did_more, did_nothing}}
 use Rattle.npf_flow.specs.declared.step.FlowArg.{FlowArg}
 use Rattle.npf_key.specs.Key.{key_of}
 use Rattle.npf_model.specs.Configuration.{Configuration}
 use Rattle.npf_engine_opening.specs.Saying.{FlowSaid}
-use Rattle.npf_packet.specs.declared.decoded.Decoded.TheVariants.{Ip}
-use Rattle.npf_packet.specs.Decoding.{Decodes}
-use Rattle.npf_publish.specs.declared.conf_reader.ConfReader.{ConfReader}
-use Rattle.npf_publish.specs.ConfReader.{Reads}
-use Rattle.npf_ruleset.specs.declared.config.Config.{Config}
-use Rattle.npf_ruleset.specs.Configuration.{configuration}
-use Rattle.npf_engine.specs.declared.answer.Answer.{Answer}
-use Rattle.npf_engine.specs.declared.answer.Rewriting.{Rewriting}
-use Rattle.npf_engine.specs.declared.crossing.Crossing.{Crossing}
-use Rattle.npf_engine.specs.declared.connection.Met.{Met}
-use Rattle.npf_engine.specs.declared.outcome.Outcome.TheVariants.{ByRule}
-use Rattle.npf_engine.specs.declared.rules.Mapping.{Mapping}
-use Rattle.npf_engine.specs.declared.rules.Ruling.{Ruling}
+use Rattle.npf_packet.specs.{declared.decoded.Decoded.TheVariants.Ip, Decoder.Decodes}
+use Rattle.npf_publish.specs.{declared.conf_reader.ConfReader.ConfReader, ConfReader.Reads}
+use Rattle.npf_ruleset.specs.{declared.config.Config.Config, Configuration.configuration}
+use Rattle.npf_engine.specs.declared.{answer.{Answer.Answer, Rewriting.Rewriting}, crossing.Crossing.Crossing, connection.Met.Met}
+use Rattle.npf_engine.specs.declared.{outcome.Outcome.TheVariants.ByRule, rules.{Mapping.Mapping, Ruling.Ruling}}
 use Rattle.npf_engine.specs.Answer.{Answers, AnswersUnder, AnswersByConn, AnswersByQuoted, AnswersRuled, IsSentSo, arrival_of}
-use Rattle.npf_engine.specs.Arrival.{any_interface, arg_of}
-use Rattle.npf_engine.specs.Explains.{AsksConnections, Explains, IsDecided, by_ruling}
-use Rattle.npf_engine.specs.Connection.{FindsEither}
-use Rattle.npf_engine.specs.Gateway.{AsksQuoted}
-use Rattle.npf_engine.specs.Handles.{Handles, configurations, sight_of}
-use Rattle.npf_engine.specs.Histories.{FlowEntry}
-use Rattle.npf_engine.specs.Outcome.{passes, sent_of}
-use Rattle.npf_engine.proofs.GatewayLemmas.{takes_error}
-use Rattle.npf_engine.proofs.SightLemmas.{Turns, later_part, whole_did, whole_sight}
+use Rattle.npf_engine.specs.{Arrival.{any_interface, arg_of}, Explains.{AsksConnections, Explains, ExplainsIp, IsDecided, by_ruling}, Connection.FindsEither}
+use Rattle.npf_engine.specs.{Gateway.AsksQuoted, Handles.{Handles, configurations, sight_of}, Histories.FlowEntry, Outcome.{passes, sent_of}}
+use Rattle.npf_engine.proofs.{GatewayLemmas.takes_error, SightLemmas.{Turns, later_part, whole_did, whole_sight}}
 
 module _ (crossing : Crossing) (config : ℕ) (mapped : Mapping) (ruled : Option Ruling) (answer : Answer) (old : Pass FlowEntry) (unsent : answer.rewriting ≡ None) where
   pub ruled_by_none : ruled ≡ None → answer.outcome ≡ ByRule (Block Nothing) None None config None →
@@ -59,7 +38,8 @@ module _ (crossing : Crossing) (config : ℕ) (mapped : Mapping) (ruled : Option
 pub config_there : (configs : List Config) (number : ℕ) (config : Config) → number < length configs → config ≡ get_or configs number config →
     slice_get (configurations configs) number ≡ Some (configuration config)
 config_there configs number config below is =
-    slice_get-map configuration configs number ∙ ap (λ (there : Option Config). option_map configuration there) (slice_get-get_or configs number config below ∙ ap (λ (there : Config). Some there) (sym is))
+    slice_get-map configuration configs number ∙ ap (λ (there : Option Config). option_map configuration there)
+    (slice_get-get_or configs number config below ∙ ap (λ (there : Config). Some there) (sym is))
 
 module _ (crossing : Crossing) (arg : FlowArg) (own every : Key) (arg_is : arg ≡ arg_of crossing.time crossing.facts.now)
     (own_is : own ≡ key_of crossing.facts.now crossing.ifid) (every_is : every ≡ key_of crossing.facts.now any_interface) where
@@ -76,7 +56,8 @@ module _ (crossing : Crossing) (arg : FlowArg) (own every : Key) (arg_is : arg �
       said = finds.said;
       asks = (refl, refl);
       did = finds.did;
-      explains = λ sight sent spans so. Explains.to_conn refl decodes (asks finds.said (Some taken) finds.described) (by crossing.bytes.now crossing.facts.now sent so);
+      explains = λ sight sent spans so. Explains.ip refl decodes
+          (ExplainsIp.to_conn (asks finds.said (Some taken) finds.described) (by crossing.bytes.now crossing.facts.now sent so));
     }
 
     module _ (mid : Pass FlowEntry) (next : ConfReader) (number : ℕ) (config : Config) (there : slice_get (configurations configs) number ≡ Some (configuration config))
@@ -93,8 +74,8 @@ module _ (crossing : Crossing) (arg : FlowArg) (own every : Key) (arg_is : arg �
         asks = reads;
         did = did_more old mid new finds.said quotes.said finds.did quotes.did;
         explains = λ sight sent spans so.
-            Explains.to_quoted refl decodes (asks finds.said None finds.described) there quotes.described
-            (by crossing.bytes.now crossing.facts.now sent (takes_error quotes.described) so);
+            Explains.ip refl decodes (ExplainsIp.to_quoted (asks finds.said None finds.described) there quotes.described
+            (by crossing.bytes.now crossing.facts.now sent (takes_error quotes.described) so));
       }
 
       pub answers_by_rules : (last new : Pass FlowEntry) → Quotes None last → Does last new (AnswersUnder crossing number (configuration config) answer last new) →
@@ -105,8 +86,8 @@ module _ (crossing : Crossing) (arg : FlowArg) (own every : Key) (arg_is : arg �
         asks = reads;
         did = did_more old mid new finds.said (quotes.said ++ ruled.said) finds.did (did_more mid last new quotes.said ruled.said quotes.did ruled.did);
         explains = λ sight sent spans so.
-            Explains.to_rules refl decodes (asks finds.said None finds.described) there quotes.described
-            (ruled.described sight sent (later_part sight mid last new quotes.said quotes.did (later_part sight old mid new finds.said finds.did spans)) so);
+            Explains.ip refl decodes (ExplainsIp.to_rules (asks finds.said None finds.described) there quotes.described
+            (ruled.described sight sent (later_part sight mid last new quotes.said quotes.did (later_part sight old mid new finds.said finds.did spans)) so));
       }
 
 -- what is sent is there exactly where the packet passes

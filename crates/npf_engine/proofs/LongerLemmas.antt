@@ -1,25 +1,15 @@
 -- An explanation holds in a longer history too.
 use Rattle.std.proofs.Common.{◌≡◌, ℕ, Bool, true, false, ◌==◌, cond, List, [], ◌∷◌, ◌++◌, Option, refl, sym, ap, subst, ◌∙◌, append_assoc, append-nil}
-use Rattle.std.specs.Prelude.{if◌then◌else◌}
-use Rattle.std.specs.List.{Contains}
-use Rattle.std.proofs.lemmas.List.Elements.{Contains-append_right}
-use Rattle.npf_core.specs.declared.act.Act.TheVariants.{Claim, Look, Hold, Start, Step, Kill, Unhold, Free}
-use Rattle.npf_core.specs.declared.act.Why.TheVariants.{Abandoned, Expired}
-use Rattle.npf_core.specs.declared.conn_id.ConnId.{ConnId}
-use Rattle.npf_core.specs.History.{Legal, LegalFrom, after, by, state_from}
-use Rattle.npf_core.specs.Machine.{Machine, opening}
-use Rattle.npf_core.proofs.HistoryLemmas.{LegalFrom-front, LegalFrom-rest, by-append}
-use Rattle.npf_core.proofs.LifeLemmas.{life_of}
-use Rattle.npf_connections.specs.Pass.{Pass}
-use Rattle.npf_connections.specs.Said.{under}
-use Rattle.npf_flow.specs.declared.flow.Flow.{Flow}
-use Rattle.npf_flow.specs.Flows.{flow_law}
+use Rattle.std.{specs.{Prelude.if◌then◌else◌, List.Contains}, proofs.lemmas.List.Elements.Contains-append_right}
+use Rattle.npf_core.specs.declared.act.{Act.TheVariants.{Claim, Look, Hold, Start, Step, Kill, Unhold, Free}, Why.TheVariants.{Abandoned, Expired}}
+use Rattle.npf_core.specs.{declared.conn_id.ConnId.ConnId, History.{Legal, LegalFrom, after, by, state_from}, Machine.{Machine, opening}}
+use Rattle.npf_core.proofs.{HistoryLemmas.{LegalFrom-front, LegalFrom-rest, by-append}, LifeLemmas.life_of}
+use Rattle.npf_connections.specs.{Pass.Pass, Said.under}
+use Rattle.npf_flow.specs.{declared.flow.Flow.Flow, Flows.flow_law}
 use Rattle.npf_model.specs.Configuration.{Configuration}
 use Rattle.npf_publish.specs.declared.conf_reader.ConfReader.{ConfReader}
 use Rattle.npf_engine_opening.specs.Saying.{FlowSaid}
-use Rattle.npf_engine.specs.declared.outcome.Outcome.{Outcome}
-use Rattle.npf_engine.specs.Arrival.{Arrival}
-use Rattle.npf_engine.specs.Explains.{Explains, IsDecided, Sight}
+use Rattle.npf_engine.specs.{declared.outcome.Outcome.Outcome, Arrival.Arrival, Explains.{Explains, ExplainsIp, IsDecided, Sight}}
 use Rattle.npf_engine.specs.Handles.{CarryHereAlone, ExplainsInLonger, Handles, carried}
 use Rattle.npf_engine.specs.Histories.{FlowAct, FlowEntry, History, builds, carries, entries_after, entries_of, is_one_of_ids, told, with_claimed}
 use Rattle.npf_engine.proofs.OwnLemmas.{CarryNone, IsPast, given_up_is_past, past_builds_none, same_by_own, started_is_past, stays_past}
@@ -41,10 +31,10 @@ pub explained_told : {configs : List Configuration} {sight : Sight} {arrival : A
 explained_told (Explains.fragment held) = none_claimed nothing
 explained_told (Explains.skip free decodes) = none_claimed nothing
 explained_told (Explains.malformed free decodes) = none_claimed nothing
-explained_told {arrival = arrival} (Explains.to_conn free decodes looks by) = none_claimed (either_told arrival.number [] looks)
-explained_told {arrival = arrival} (Explains.to_quoted free decodes looks there asked by) =
+explained_told {arrival = arrival} (Explains.ip free decodes (ExplainsIp.to_conn looks by)) = none_claimed (either_told arrival.number [] looks)
+explained_told {arrival = arrival} (Explains.ip free decodes (ExplainsIp.to_quoted looks there asked by)) =
     none_claimed (told_more (either_told arrival.number [] looks) (quoted_told [] asked))
-explained_told {arrival = arrival} (Explains.to_rules {looked = looked} {quoted = quoted} free decodes looks there asked ruled) =
+explained_told {arrival = arrival} (Explains.ip free decodes (ExplainsIp.to_rules {looked = looked} {quoted = quoted} looks there asked ruled)) =
     let opening = ruled_told ruled in
     record {
       last = opening.last;

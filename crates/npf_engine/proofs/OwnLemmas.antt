@@ -1,24 +1,14 @@
 -- The entries of a packet among those of all passes are among its own pass's.
 use Rattle.std.proofs.Common.{◌≡◌, ◌≢◌, ◌⊎◌, ℕ, Bool, true, false, ◌==◌, ◌||◌, List, [], ◌∷◌, refl, sym, ap, subst, ◌∙◌, inl, inr, rules}
-use Rattle.std.specs.Prelude.{if◌then◌else◌}
-use Rattle.std.specs.List.{Contains}
-use Rattle.std.proofs.lemmas.Bool.{cases_Bool}
-use Rattle.std.proofs.lemmas.Bool.Decides.{Decides-eqb, not_from_Decides}
+use Rattle.std.{specs.{Prelude.if◌then◌else◌, List.Contains}, proofs.lemmas.Bool.{cases_Bool, Decides.{Decides-eqb, not_from_Decides}}}
 use Rattle.std.proofs.lemmas.List.Elements.{Contains-append_right}
-use Rattle.npf_core.specs.declared.act.Act.TheVariants.{Claim, Look, Hold, Start, Step, Kill, Unhold, Free}
-use Rattle.npf_core.specs.declared.act.Why.TheVariants.{Abandoned, Expired}
-use Rattle.npf_core.specs.declared.conn_id.ConnId.{ConnId}
-use Rattle.npf_core.specs.declared.reply.Reply.{Reply}
-use Rattle.npf_core.specs.declared.reply.Reply.TheVariants.{Nothing, ToClaim, ToHold, ToLook, ToStep}
-use Rattle.npf_core.specs.declared.stage.Stage.TheVariants.{Building, Dead, Live}
-use Rattle.npf_core.specs.History.{LegalFrom, MayFollow, after, by, state_from}
-use Rattle.npf_core.specs.Machine.{Machine, stage_of}
-use Rattle.npf_core.specs.NextState.{is_id}
-use Rattle.npf_core.proofs.EqualityLemmas.{is_id-Decides}
-use Rattle.npf_core.proofs.LifeLemmas.{IsClaimed-is, IsClaimed-last, Life, Moves, abandons, built, claims, entry_moves, expires, frees, gone, keeps, killed, life_at, life_at-last, life_of, lives, stage_in, stage_of-is, starts, steps, to_come}
-use Rattle.npf_flow.specs.declared.flow.Flow.{Flow}
-use Rattle.npf_flow.specs.declared.step.FlowReply.{FlowReply}
-use Rattle.npf_flow.specs.Flows.{flow_law}
+use Rattle.npf_core.specs.declared.act.{Act.TheVariants.{Claim, Look, Hold, Start, Step, Kill, Unhold, Free}, Why.TheVariants.{Abandoned, Expired}}
+use Rattle.npf_core.specs.declared.{conn_id.ConnId.ConnId, reply.Reply.{Reply, TheVariants.{Nothing, ToClaim, ToHold, ToLook, ToStep}}}
+use Rattle.npf_core.specs.{declared.stage.Stage.TheVariants.{Building, Dead, Live}, History.{LegalFrom, MayFollow, after, by, state_from}}
+use Rattle.npf_core.{specs.{Machine.{Machine, stage_of}, NextState.is_id}, proofs.EqualityLemmas.is_id-Decides}
+use Rattle.npf_core.proofs.LifeLemmas.{IsClaimed-is, IsClaimed-last, Life, Moves, abandons, built, claims, entry_moves, expires, frees, gone, keeps, killed}
+use Rattle.npf_core.proofs.LifeLemmas.{life_at, life_at-last, life_of, lives, stage_in, stage_of-is, starts, steps, to_come}
+use Rattle.npf_flow.specs.{declared.{flow.Flow.Flow, step.FlowReply.FlowReply}, Flows.flow_law}
 use Rattle.npf_engine.specs.Histories.{FlowAct, FlowEntry, History, builds, carries, entries_after, is_one_of_ids, with_claimed}
 use Rattle.npf_engine.proofs.TellingLemmas.{claimed_after}
 

@@ -1,19 +1,10 @@
 -- The places of the rule that decides and of the map that translates are places of the configuration.
-use Rattle.std.proofs.Common.{◌≡◌, ◌<◌, ◌⊎◌, ℕ, ◌+◌, Bool, true, false, List, [], ◌∷◌, Option, Some, None, length, sym, inl, inr, arith, suc, length-append}
+use Rattle.std.proofs.Common.{◌≡◌, ◌<◌, ◌⊎◌, ℕ, ◌+◌, Bool, true, false, List, [], ◌∷◌, Some, None, length, sym, inl, inr, arith, suc, length-append}
 use Rattle.std.specs.Prelude.{if◌then◌else◌}
-use Rattle.std.specs.Option.{option_or}
-use Rattle.npf_types.specs.declared.direction.Dir.{Dir}
-use Rattle.npf_types.specs.declared.facts.Facts.{Facts}
-use Rattle.npf_types.specs.declared.interface.IfId.{IfId}
-use Rattle.npf_model.specs.declared.group.Group.{Group}
-use Rattle.npf_model.specs.Configuration.{Configuration, verdict_of, map_place_of}
-use Rattle.npf_model.specs.Describes.{Tables}
-use Rattle.npf_model.specs.MapOf.{map_applies}
+use Rattle.npf_types.specs.declared.{direction.Dir.Dir, facts.Facts.Facts, interface.IfId.IfId}
+use Rattle.npf_packet.proofs.UpperLemmas.{some_of_either}
+use Rattle.npf_model.specs.{declared.group.Group.Group, Configuration.{Configuration, verdict_of, map_place_of}, Describes.Tables, MapOf.map_applies}
 use Rattle.npf_model.specs.Verdict.{all_rules, applies, decides, first_where, group_answer, last_where, matches, rules_of, verdict}
-
-either : (o q : Option ℕ) (p : ℕ) → option_or o q ≡ Some p → (o ≡ Some p) ⊎ (q ≡ Some p)
-either None q p is = inr is
-either (Some k) q p is = inl is
 
 module _ {X : Type 0} (test : X → Bool) where
   first_within : (n : ℕ) (xs : List X) (p : ℕ) → first_where test n xs ≡ Some p → p < n + length xs
@@ -27,7 +18,7 @@ module _ {X : Type 0} (test : X → Bool) where
   last_within : (n : ℕ) (xs : List X) (p : ℕ) → last_where test n xs ≡ Some p → p < n + length xs
   last_within n [] p is = absurd cc
   last_within n (x ∷ xs) p is =
-      at_last (last_within (n + 1) xs p) (either (last_where test (n + 1) xs) (if test x then Some n else None) p is)
+      at_last (last_within (n + 1) xs p) (some_of_either (last_where test (n + 1) xs) (if test x then Some n else None) p is)
     where
       at_test : (b : Bool) → (if b then Some n else None) ≡ Some p → p < n + suc (length xs)
       at_test true here = let same : n ≡ p = cc in omega arith
@@ -41,7 +32,7 @@ module _ (tables : Tables) (facts : Facts) (ifid : IfId) (dir : Dir) where
   answer_within : (n : ℕ) (group : Group) (p : ℕ) (b : Bool) → (if b then group_answer tables facts ifid dir n (rules_of group) else None) ≡ Some p → p < n + length (rules_of group)
   answer_within n group p false none = absurd cc
   answer_within n group p true here =
-      elim (either (first_where (decides tables facts ifid dir) n (rules_of group)) (last_where (matches tables facts ifid dir) n (rules_of group)) p here) [
+      elim (some_of_either (first_where (decides tables facts ifid dir) n (rules_of group)) (last_where (matches tables facts ifid dir) n (rules_of group)) p here) [
         | inl first ↦ first_within (decides tables facts ifid dir) n (rules_of group) p first
         | inr last ↦ last_within (matches tables facts ifid dir) n (rules_of group) p last
       ]
@@ -50,7 +41,8 @@ module _ (tables : Tables) (facts : Facts) (ifid : IfId) (dir : Dir) where
   verdict_within n [] p is = absurd cc
   verdict_within n (group ∷ groups) p is =
       let sum = length-append (rules_of group) (all_rules groups) in
-      elim (either (if applies tables facts ifid dir group then group_answer tables facts ifid dir n (rules_of group) else None) (verdict tables facts ifid dir (n + length (rules_of group)) groups) p is) [
+      elim (some_of_either (if applies tables facts ifid dir group then group_answer tables facts ifid dir n (rules_of group) else None)
+      (verdict tables facts ifid dir (n + length (rules_of group)) groups) p is) [
         | inl here ↦ let within = answer_within n group p (applies tables facts ifid dir group) here in omega arith
         | inr later ↦ let within = verdict_within (n + length (rules_of group)) groups p later in omega arith
       ]

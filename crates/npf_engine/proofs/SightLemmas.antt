@@ -1,25 +1,11 @@
 -- What a pass saw of a work is what it saw of the work's parts.
-use Rattle.std.proofs.Common.{◌≡◌, ◌<◌, ◌≤◌, Bool, List, [], ◌∷◌, ◌++◌, ap, sym, ◌∙◌, subst, arith, append_assoc, append-nil}
-use Rattle.std.proofs.lemmas.List.{append_cancel_left}
-use Rattle.npf_core.specs.declared.conn_id.ConnId.{ConnId}
-use Rattle.npf_core.specs.History.{by}
-use Rattle.npf_core.proofs.HistoryLemmas.{by-append, IsPrefix-trans}
-use Rattle.npf_connections.specs.Adding.{Adds}
-use Rattle.npf_connections.specs.Beginning.{IsFullBetween}
-use Rattle.npf_connections.specs.Pass.{Pass}
-use Rattle.npf_connections.specs.Said.{Did, under}
-use Rattle.npf_connections.specs.Stay.{GoesOn}
-use Rattle.npf_connections.proofs.AddLemmas.{adds_more}
+use Rattle.std.proofs.{Common.{◌≡◌, ◌<◌, ◌≤◌, Bool, List, [], ◌++◌, ap, sym, ◌∙◌, subst, arith, append_assoc, append-nil}, lemmas.List.append_cancel_left}
+use Rattle.npf_shelf.proofs.ListLemmas.{nil_from_append_right}
+use Rattle.npf_core.{specs.{declared.conn_id.ConnId.ConnId, History.by}, proofs.HistoryLemmas.{by-append, IsPrefix-trans}}
+use Rattle.npf_connections.{specs.{Adding.Adds, Beginning.IsFullBetween, Pass.Pass, Said.{Did, under}, Stay.GoesOn}, proofs.AddLemmas.adds_more}
 use Rattle.npf_flow.specs.Flows.{flow_law}
-use Rattle.npf_engine.specs.Answer.{Spans}
-use Rattle.npf_engine.specs.Explains.{Sight, WasFull}
-use Rattle.npf_engine.specs.Handles.{sight_of}
+use Rattle.npf_engine.specs.{Answer.Spans, Explains.{Sight, WasFull}, Handles.sight_of, Histories.{FlowEntry, History}}
 use Rattle.npf_engine_opening.specs.Saying.{FlowSaid}
-use Rattle.npf_engine.specs.Histories.{FlowEntry, History}
-
-last_none : {E : Type 0} (xs ys : List E) → xs ++ ys ≡ [] → ys ≡ []
-last_none [] ys none = none
-last_none (x ∷ xs) ys none = absurd cc
 
 module _ (sight : Sight) where
   -- a sight of a work is one of the work's later part
@@ -41,7 +27,7 @@ module _ (sight : Sight) where
       sym did.adds.goes_on ∙ at.goes_on.goes_on ∙ ap (λ h. h ++ at.goes_on.rest) at.begins.goes_on ∙ append_assoc old.history at.begins.rest at.goes_on.rest in
       let parts : did.adds.rest ≡ at.begins.rest ++ at.goes_on.rest = append_cancel_left old.history did.adds.rest (at.begins.rest ++ at.goes_on.rest) whole in
       let none : by old.number at.goes_on.rest ≡ [] =
-      last_none (by old.number at.begins.rest) (by old.number at.goes_on.rest)
+      nil_from_append_right (by old.number at.begins.rest) (by old.number at.goes_on.rest)
       (sym (by-append old.number at.begins.rest at.goes_on.rest) ∙ ap (λ (es : History). by old.number es) (sym parts) ∙ did.adds.own) in
       record {
         point = at.point;

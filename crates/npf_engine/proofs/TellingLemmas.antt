@@ -1,34 +1,16 @@
 -- Of what a pass says for a packet, all but that keys were given back are entries of the packet.
-use Rattle.std.proofs.Common.{◌≡◌, ℕ, Bool, true, false, ◌==◌, ◌||◌, List, [], ◌∷◌, ◌++◌, map, refl, sym, ap}
-use Rattle.std.specs.Prelude.{if◌then◌else◌}
-use Rattle.std.specs.List.{filter}
+use Rattle.std.{proofs.Common.{◌≡◌, ℕ, Bool, true, false, ◌==◌, ◌||◌, List, [], ◌∷◌, ◌++◌, map, refl, sym, ap}, specs.{Prelude.if◌then◌else◌, List.filter}}
 use Rattle.std.proofs.lemmas.Bool.Decides.{Decides-eqb}
-use Rattle.npf_types.specs.declared.address.Addr.{Addr}
-use Rattle.npf_types.specs.declared.facts.Facts.{Facts}
-use Rattle.npf_types.specs.declared.key.Key.{Key}
-use Rattle.npf_types.specs.declared.key.Way.{Way}
-use Rattle.npf_types.specs.declared.key.Way.TheVariants.{Forward}
-use Rattle.npf_core.specs.declared.act.Act.TheVariants.{Claim, Look, Hold, Start, Step, Kill, Unhold, Free}
-use Rattle.npf_core.specs.declared.act.Why.TheVariants.{Abandoned}
-use Rattle.npf_core.specs.declared.conn_id.ConnId.{ConnId}
-use Rattle.npf_core.specs.declared.held.Held.{Held}
-use Rattle.npf_core.specs.declared.reply.Reply.TheVariants.{Nothing}
-use Rattle.npf_core.specs.NextState.{is_id}
+use Rattle.npf_types.specs.declared.{address.Addr.Addr, facts.Facts.Facts, key.{Key.Key, Way.{Way, TheVariants.Forward}}}
+use Rattle.npf_core.specs.declared.act.{Act.TheVariants.{Claim, Look, Hold, Start, Step, Kill, Unhold, Free}, Why.TheVariants.Abandoned}
+use Rattle.npf_core.specs.{declared.{conn_id.ConnId.ConnId, held.Held.Held, reply.Reply.TheVariants.Nothing}, NextState.is_id}
 use Rattle.npf_core.proofs.EqualityLemmas.{is_id-Decides}
-use Rattle.npf_connections.specs.Said.{under}
-use Rattle.npf_connections.specs.Ways.{all_ways}
-use Rattle.npf_flow.specs.declared.flow.Flow.{Flow}
-use Rattle.npf_flow.specs.declared.step.FlowArg.{FlowArg}
-use Rattle.npf_engine_opening.specs.declared.attempt.Attempt.{Attempt}
-use Rattle.npf_engine_opening.specs.declared.attempt.Opened.{Opened}
-use Rattle.npf_engine_opening.specs.Drawing.{Draws, TakenPort, taken_said}
-use Rattle.npf_engine_opening.specs.Opening.{Builds, OpensConnection, Translates}
-use Rattle.npf_engine_opening.specs.Saying.{FlowSaid, abandon_said, hold_said, said_by_hold}
-use Rattle.npf_engine_opening.specs.Starting.{HoldsBackward, StartsConnection}
-use Rattle.npf_engine_opening.specs.Ways.{is_one_of, ways_before}
-use Rattle.npf_engine.specs.Arrival.{Arrival}
-use Rattle.npf_engine.specs.Connection.{FindsByKey, FindsEither}
-use Rattle.npf_engine.specs.Gateway.{AsksQuoted}
+use Rattle.npf_connections.specs.{Said.under, Ways.all_ways}
+use Rattle.npf_flow.specs.declared.{flow.Flow.Flow, step.FlowArg.FlowArg}
+use Rattle.npf_engine_opening.specs.{declared.attempt.{Attempt.Attempt, Opened.Opened}, Draw.{Draws, TakenPort, taken_said}}
+use Rattle.npf_engine_opening.specs.{Opening.{Builds, OpensConnection, Translates}, Saying.{FlowSaid, abandon_said, hold_said, said_by_hold}}
+use Rattle.npf_engine_opening.specs.{Start.{HoldsBackward, StartsConnection}, Ways.{is_one_of, ways_before}}
+use Rattle.npf_engine.specs.{Arrival.Arrival, Connection.{FindsByKey, FindsEither}, Gateway.AsksQuoted}
 use Rattle.npf_engine.specs.Histories.{FlowAct, History, builds, carries, entries_after, is_one_of_ids, is_unhold, told, with_claimed}
 
 -- what is said from a place on, at which the packet has claimed the one identities, and behind which it has claimed the others

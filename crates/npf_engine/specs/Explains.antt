@@ -24,7 +24,7 @@ use Rattle.npf_engine_opening.specs.declared.attempt.Refusal.TheVariants as Refu
 use Rattle.npf_engine_opening.specs.Opening.{OpensConnection}
 use Rattle.npf_packet.specs.declared.decoded.BadPacket.{BadPacket}
 use Rattle.npf_packet.specs.declared.decoded.Decoded.TheVariants as Says
-use Rattle.npf_packet.specs.Decoding.{Decodes}
+use Rattle.npf_packet.specs.Decoder.{Decodes}
 use Rattle.npf_icmpalg.specs.ErrorTranslated.{ErrorSent}
 use Rattle.npf_rewrite.specs.Sent.{Sent}
 use Rattle.npf_traffic.specs.declared.packet.FragWhy.{FragWhy}
@@ -138,23 +138,30 @@ abbrev pub AsksConnections : Arrival → Facts → List FlowSaid → Option Met 
 AsksConnections arrival facts =
     FindsEither arrival.number (arg_of arrival.time facts) (key_of facts arrival.ifid) (key_of facts any_interface)
 
--- The packet has this outcome, and is sent so, by what it asked of connections and was answered, and by the configuration of this
--- number, if it asked one. A fragment that is held asks nothing.
-pub data Explains (configs : List Configuration) (sight : Sight) (arrival : Arrival) : Option ℕ → List FlowSaid → Outcome → Option (List ℕ) → Type 0 where
-  fragment : {why : FragWhy} → arrival.held ≡ Some why → Explains configs sight arrival None [] (Fragment why) None
-  skip : arrival.held ≡ None → Decodes arrival.link arrival.bytes Says.Skip → Explains configs sight arrival None [] Skip None
-  malformed : {why : BadPacket} {at : ℕ} → arrival.held ≡ None → Decodes arrival.link arrival.bytes (Says.Malformed why at) →
-      Explains configs sight arrival None [] (Malformed why at) None
-  to_conn : {facts : Facts} {said : List FlowSaid} {taken : Met} {outcome : Outcome} {sent : Option (List ℕ)} →
-      arrival.held ≡ None → Decodes arrival.link arrival.bytes (Says.Ip facts) → AsksConnections arrival facts said (Some taken) →
-      IsByConn arrival.bytes facts taken outcome sent → Explains configs sight arrival None said outcome sent
-  to_quoted : {facts : Facts} {number : ℕ} {config : Configuration} {looked said : List FlowSaid} {taken : Met} {outcome : Outcome} {sent : Option (List ℕ)} →
-      arrival.held ≡ None → Decodes arrival.link arrival.bytes (Says.Ip facts) → AsksConnections arrival facts looked None →
-      slice_get configs number ≡ Some config → AsksQuoted config.model.alg_icmp arrival facts said (Some taken) →
-      IsByQuoted arrival.bytes facts taken outcome sent → Explains configs sight arrival (Some number) (looked ++ said) outcome sent
-  to_rules : {facts : Facts} {number : ℕ} {config : Configuration} {looked quoted said : List FlowSaid} {outcome : Outcome} {sent : Option (List ℕ)} →
-      arrival.held ≡ None → Decodes arrival.link arrival.bytes (Says.Ip facts) → AsksConnections arrival facts looked None →
-      slice_get configs number ≡ Some config → AsksQuoted config.model.alg_icmp arrival facts quoted None →
-      IsDecided arrival.bytes facts sight arrival number (mapping_of config facts arrival.ifid arrival.dir)
-      (ruling_of config facts arrival.ifid arrival.dir) said outcome sent →
-      Explains configs sight arrival (Some number) (looked ++ (quoted ++ said)) outcome sent
+module _ (configs : List Configuration) (sight : Sight) (arrival : Arrival) where
+  -- A packet that is one of IP with these facts has this outcome, and is sent so: a live connection that holds its key took it; one took it
+  -- whose packet it quotes; or else the rules decided, by the configuration of the number that it asked.
+  pub data ExplainsIp (facts : Facts) : Option ℕ → List FlowSaid → Outcome → Option (List ℕ) → Type 0 where
+    to_conn : {said : List FlowSaid} {taken : Met} {outcome : Outcome} {sent : Option (List ℕ)} →
+        AsksConnections arrival facts said (Some taken) → IsByConn arrival.bytes facts taken outcome sent → ExplainsIp facts None said outcome sent
+    to_quoted : {number : ℕ} {config : Configuration} {looked said : List FlowSaid} {taken : Met} {outcome : Outcome} {sent : Option (List ℕ)} →
+        AsksConnections arrival facts looked None → slice_get configs number ≡ Some config →
+        AsksQuoted config.model.alg_icmp arrival facts said (Some taken) →
+        IsByQuoted arrival.bytes facts taken outcome sent → ExplainsIp facts (Some number) (looked ++ said) outcome sent
+    to_rules : {number : ℕ} {config : Configuration} {looked quoted said : List FlowSaid} {outcome : Outcome} {sent : Option (List ℕ)} →
+        AsksConnections arrival facts looked None → slice_get configs number ≡ Some config →
+        AsksQuoted config.model.alg_icmp arrival facts quoted None →
+        IsDecided arrival.bytes facts sight arrival number (mapping_of config facts arrival.ifid arrival.dir)
+        (ruling_of config facts arrival.ifid arrival.dir) said outcome sent →
+        ExplainsIp facts (Some number) (looked ++ (quoted ++ said)) outcome sent
+
+  -- The packet has this outcome, and is sent so, by what it asked of connections and was answered, and by the configuration of this
+  -- number, if it asked one. A fragment that is held asks nothing, and neither does what isn't a packet of IP.
+  pub data Explains : Option ℕ → List FlowSaid → Outcome → Option (List ℕ) → Type 0 where
+    fragment : {why : FragWhy} → arrival.held ≡ Some why → Explains None [] (Fragment why) None
+    skip : arrival.held ≡ None → Decodes arrival.link arrival.bytes Says.Skip → Explains None [] Skip None
+    malformed : {why : BadPacket} {at : ℕ} → arrival.held ≡ None → Decodes arrival.link arrival.bytes (Says.Malformed why at) →
+        Explains None [] (Malformed why at) None
+    ip : {facts : Facts} {asked : Option ℕ} {said : List FlowSaid} {outcome : Outcome} {sent : Option (List ℕ)} →
+        arrival.held ≡ None → Decodes arrival.link arrival.bytes (Says.Ip facts) → ExplainsIp facts asked said outcome sent →
+        Explains asked said outcome sent

@@ -20,7 +20,7 @@ pub struct Met {
 
 /// The keys that a packet may be found by: that of its interface, and that of every interface.
 #[derive(Clone, Copy, Debug, PartialEq, Eq)]
-pub(crate) struct Keys {
+pub(crate) struct KeyPair {
     pub(crate) own: Key,
     pub(crate) every: Key,
 }
@@ -32,7 +32,7 @@ pub(crate) fn find_either<R: Wait, C: Connections<FlowLaw>>(
     conns: &C,
     pass: &mut C::Pass,
     n: u64,
-    keys: &Keys,
+    keys: &KeyPair,
     arg: &FlowArg,
 ) -> Option<Met>
     requires inside { IsIn flow_law (C.fits conns.now) C.view pass.old }

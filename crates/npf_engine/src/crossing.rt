@@ -1,7 +1,7 @@
 // A packet of IP as it crosses an interface.
 ghost use Rattle.std.specs.Prelude.{◌≡◌};
 ghost use Rattle.npf_packet.specs.declared.decoded.Decoded.TheVariants.{Ip};
-ghost use Rattle.npf_packet.specs.Decoding.{Decodes};
+ghost use Rattle.npf_packet.specs.Decoder.{Decodes};
 ghost use Rattle.npf_packet.specs.PacketField.{packet_bytes};
 ghost use Rattle.npf_engine.specs.Arrival.{arg_of, tcp_segment};
 ghost use Rattle.npf_engine.specs.Gateway.{peek_of};

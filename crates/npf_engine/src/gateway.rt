@@ -4,11 +4,11 @@ ghost use Rattle.npf_connections.specs.Said.{Does};
 ghost use Rattle.npf_connections.specs.Stay.{GoesOn, IsIn};
 ghost use Rattle.npf_flow.specs.Flows.{flow_law};
 ghost use Rattle.npf_packet.specs.declared.decoded.Decoded.TheVariants.{Ip};
-ghost use Rattle.npf_packet.specs.Decoding.{Decodes};
+ghost use Rattle.npf_packet.specs.Decoder.{Decodes};
 ghost use Rattle.npf_engine.specs.Answer.{arrival_of};
 ghost use Rattle.npf_engine.specs.Gateway.{AsksQuoted};
 
-use crate::connection::{Keys, Met, find_either};
+use crate::connection::{KeyPair, Met, find_either};
 use crate::crossing::{Crossing, peek_of};
 use npf_connections::Connections;
 use npf_flow::FlowLaw;
@@ -58,9 +58,9 @@ fn find_inner<R: Wait, C: Connections<FlowLaw>>(
     let Some(inner) = inner_of(crossing.bytes, crossing.facts) else {
         return None;
     };
-    let keys = Keys {
+    let keys = KeyPair {
         own: inner_key(&inner, crossing.ifid),
-        every: inner_key(&inner, IfId(0)),
+        every: inner_key(&inner, IfId::EVERY),
     };
     let peek = peek_of(crossing.time, crossing.facts);
     find_either(rt, conns, pass, crossing.number, &keys, &peek)

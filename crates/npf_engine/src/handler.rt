@@ -4,7 +4,7 @@ ghost use Rattle.npf_connections.specs.Said.{Does};
 ghost use Rattle.npf_connections.specs.Stay.{IsIn, IsOut};
 ghost use Rattle.npf_flow.specs.Flows.{flow_law};
 ghost use Rattle.npf_packet.specs.declared.decoded.Decoded.TheVariants.{Ip};
-ghost use Rattle.npf_packet.specs.Decoding.{Decodes};
+ghost use Rattle.npf_packet.specs.Decoder.{Decodes};
 ghost use Rattle.npf_publish.specs.ConfReader.{reader_range};
 ghost use Rattle.npf_ruleset.specs.Configuration.{configuration};
 ghost use Rattle.npf_engine.specs.Answer.{Answers, AnswersUnder};
@@ -13,7 +13,7 @@ ghost use Rattle.npf_engine.specs.Handles.{Handles, configurations};
 ghost use Rattle.npf_engine.specs.Outcome.{lacks_node, passes, sent_of};
 
 use crate::answer::Answer;
-use crate::connection::{Keys, find_either};
+use crate::connection::{KeyPair, find_either};
 use crate::crossing::{Crossing, arg_of};
 use crate::gateway::find_quoted;
 use crate::open::{Passed, answer_passed};
@@ -33,7 +33,7 @@ use std::sync::Wait;
 
 /// The configuration of this number.
 #[derive(Clone, Copy, Drop)]
-pub(crate) struct Asked<'a> {
+pub(crate) struct NumberedConfig<'a> {
     pub(crate) number: u64,
     pub(crate) config: &'a Config,
 }
@@ -109,15 +109,15 @@ pub(crate) fn answer<R: Wait, C: Connections<FlowLaw>>(
     ensures sweep { lacks_node result.outcome ≡ true → (C.view pass.old).sweeps + 1 ≤ (C.view pass.new).sweeps }
 {
     let arg = arg_of(crossing.time, crossing.facts);
-    let keys = Keys {
+    let keys = KeyPair {
         own: key_of(crossing.facts, crossing.ifid),
-        every: key_of(crossing.facts, IfId(0)),
+        every: key_of(crossing.facts, IfId::EVERY),
     };
     if let Some(met) = find_either(rt, conns, pass, crossing.number, &keys, &arg) {
         return Answer::by_conn(&met);
     }
     let number = reader.read(rt);
-    let asked = Asked {
+    let asked = NumberedConfig {
         number,
         config: &configs[number as usize],
     };
@@ -135,7 +135,7 @@ fn answer_by_rules<R: Wait, C: Connections<FlowLaw>>(
     pass: &mut C::Pass,
     crossing: &Crossing,
     arg: &FlowArg,
-    asked: Asked,
+    asked: NumberedConfig,
 ) -> Answer
     requires inside { IsIn flow_law (C.fits conns.now) C.view pass.old }
     requires idle { (C.view pass.old).builds ≡ [] }

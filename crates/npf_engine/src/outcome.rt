@@ -1,3 +1,4 @@
+// What became of a packet.
 ghost use Rattle.std.specs.Prelude.{◌≡◌};
 ghost use Rattle.npf_engine.specs.Outcome.{passes};
 

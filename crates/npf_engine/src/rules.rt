@@ -1,7 +1,7 @@
 // What a configuration makes of a packet that no connection took. All are inlined, as an answer is.
 ghost use Rattle.std.specs.Prelude.{◌≡◌, ◌↔◌, IsTrue, Some};
 ghost use Rattle.npf_packet.specs.declared.decoded.Decoded.TheVariants.{Ip};
-ghost use Rattle.npf_packet.specs.Decoding.{Decodes};
+ghost use Rattle.npf_packet.specs.Decoder.{Decodes};
 ghost use Rattle.npf_ruleset.specs.Configuration.{configuration};
 ghost use Rattle.npf_engine.specs.Rules.{OpensOne, action_of, bound_interface, static_change, key_interface, mapping, mapping_of, no_action, plan_of, ruling_of, unchanged};
 
@@ -153,7 +153,7 @@ pub(crate) fn key_interface(settings: Settings, state: StateOpt, ifid: IfId) -> 
 {
     match state {
         StateOpt::Not | StateOpt::OnInterface => bound_interface(settings.key_interface, ifid),
-        StateOpt::Everywhere => IfId(0),
+        StateOpt::Everywhere => IfId::EVERY,
     }
 }
 
@@ -161,5 +161,5 @@ pub(crate) fn key_interface(settings: Settings, state: StateOpt, ifid: IfId) -> 
 fn bound_interface(is_bound: bool, ifid: IfId) -> IfId
     ensures { result ≡ bound_interface is_bound ifid }
 {
-    if is_bound { ifid } else { IfId(0) }
+    if is_bound { ifid } else { IfId::EVERY }
 }

@@ -1,18 +1,12 @@
 -- The draw of a port goes on from port to port.
 use Rattle.std.proofs.Common.{◌≡◌, ℕ, List, [], ◌∷◌, ◌++◌, sym, ap, ◌∙◌, subst, append_assoc, append-nil, Ok, Err, Some, None, slice_get, drop}
 use Rattle.std.proofs.lemmas.List.{map-append}
-use Rattle.npf_types.specs.declared.address.Addr.{Addr}
-use Rattle.npf_types.specs.declared.key.Way.{Way}
-use Rattle.npf_core.specs.declared.conn_id.ConnId.{ConnId}
-use Rattle.npf_core.specs.declared.found.Found.{Found}
-use Rattle.npf_core.specs.declared.held.Held.{Held}
+use Rattle.npf_types.specs.declared.{address.Addr.Addr, key.Way.Way}
+use Rattle.npf_core.specs.declared.{conn_id.ConnId.ConnId, found.Found.Found, held.Held.Held}
 use Rattle.npf_key.specs.Key.{port_key}
-use Rattle.npf_connections.specs.Said.{Did, Does}
-use Rattle.npf_connections.proofs.SaidLemmas.{did_more}
+use Rattle.npf_connections.{specs.Said.{Did, Does}, proofs.SaidLemmas.did_more}
 use Rattle.npf_engine_opening.specs.declared.attempt.Refusal.TheVariants as Refusals
-use Rattle.npf_engine_opening.specs.Drawing.{TakenPort, taken_ports, taken_said, Draws}
-use Rattle.npf_engine_opening.specs.Saying.{FlowSaid, said_by_hold, hold_said}
-use Rattle.npf_engine_opening.proofs.SayingLemmas.{View}
+use Rattle.npf_engine_opening.{specs.{Draw.{TakenPort, taken_ports, taken_said, Draws}, Saying.{FlowSaid, said_by_hold, hold_said}}, proofs.SayingLemmas.View}
 
 -- so far each port was Taken
 pub record IsDrawing (old now : View) (id : ConnId) (addr : Addr) (ports left : List ℕ) : Type 0 where

@@ -2,13 +2,8 @@
 use Rattle.std.proofs.Common.{◌≡◌, ◌≢◌, ℕ, Err, List, [], refl}
 use Rattle.npf_types.specs.declared.address.Addr.{Addr}
 use Rattle.npf_core.specs.declared.conn_id.ConnId.{ConnId}
-use Rattle.npf_engine_opening.specs.declared.attempt.Attempt.{Attempt}
-use Rattle.npf_engine_opening.specs.declared.attempt.Opened.{Opened}
-use Rattle.npf_engine_opening.specs.declared.attempt.Refusal.TheVariants.{Full}
-use Rattle.npf_engine_opening.specs.Drawing.{Draws}
-use Rattle.npf_engine_opening.specs.Opening.{Builds, OpensConnection, Translates}
-use Rattle.npf_engine_opening.specs.Saying.{FlowSaid}
-use Rattle.npf_engine_opening.specs.Starting.{StartsConnection}
+use Rattle.npf_engine_opening.specs.{declared.attempt.{Attempt.Attempt, Opened.Opened, Refusal.TheVariants.Full}, Draw.Draws}
+use Rattle.npf_engine_opening.specs.{Opening.{Builds, OpensConnection, Translates}, Saying.FlowSaid, Start.StartsConnection}
 
 draws_with_room : {id : ConnId} {addr : Addr} {ports : List ℕ} {said : List FlowSaid} {drawn : _} →
     Draws id addr ports said drawn → drawn ≢ Err Full

@@ -1,29 +1,12 @@
 -- What the calls of a table say.
 use Rattle.std.proofs.Common.{◌≡◌, ℕ, ◌≤◌, Bool, List, [], ◌∷◌, ◌++◌, refl, ap, ◌∙◌, subst}
-use Rattle.npf_types.specs.declared.key.Key.{Key}
-use Rattle.npf_types.specs.declared.key.Way.{Way}
-use Rattle.npf_core.specs.declared.act.Act.TheVariants.{Start}
-use Rattle.npf_core.specs.declared.act.Why.TheVariants.{Abandoned}
-use Rattle.npf_core.specs.declared.conn_id.ConnId.{ConnId}
-use Rattle.npf_core.specs.declared.entry.Entry.{Entry}
-use Rattle.npf_core.specs.declared.held.Held.{Held}
-use Rattle.npf_core.specs.declared.reply.Reply.TheVariants.{Nothing}
-use Rattle.npf_core.specs.History.{state_of}
-use Rattle.npf_connections.specs.Abandoning.{Abandons}
-use Rattle.npf_connections.specs.Adding.{Adds, AddsOwn}
-use Rattle.npf_connections.specs.Entries.{entry_of, hold_entries}
-use Rattle.npf_connections.specs.Pass.{Pass}
-use Rattle.npf_connections.specs.Said.{Did, Does, ends_said, under}
-use Rattle.npf_connections.specs.Stay.{GoesOn}
-use Rattle.npf_connections.specs.Ways.{HoldsThese}
-use Rattle.npf_connections.proofs.SaidLemmas.{did_abandon, did_more, did_so, did_sweep}
-use Rattle.npf_flow.specs.declared.flow.Flow.{Flow}
-use Rattle.npf_flow.specs.declared.step.FlowArg.{FlowArg}
-use Rattle.npf_flow.specs.declared.step.FlowReply.{FlowReply}
-use Rattle.npf_flow.specs.Flows.{flow_law}
-use Rattle.npf_engine_opening.specs.Saying.{FlowSaid, said_by_hold, start_said, abandon_said}
-use Rattle.npf_engine_opening.specs.Ways.{is_one_of}
-use Rattle.npf_engine_opening.proofs.WayLemmas.{these_same}
+use Rattle.npf_types.specs.declared.key.{Key.Key, Way.Way}
+use Rattle.npf_core.specs.declared.{act.{Act.TheVariants.Start, Why.TheVariants.Abandoned}, conn_id.ConnId.ConnId, entry.Entry.Entry, held.Held.Held}
+use Rattle.npf_core.specs.{declared.reply.Reply.TheVariants.Nothing, History.state_of}
+use Rattle.npf_connections.specs.{Abandoning.Abandons, Adding.{Adds, AddsOwn}, Entries.{entry_of, hold_entries}, Pass.Pass, Said.{Did, Does, ends_said, under}}
+use Rattle.npf_connections.{specs.{Stay.GoesOn, Ways.HoldsThese}, proofs.SaidLemmas.{did_abandon, did_more, did_so, did_sweep}}
+use Rattle.npf_flow.specs.{declared.{flow.Flow.Flow, step.{FlowArg.FlowArg, FlowReply.FlowReply}}, Flows.flow_law}
+use Rattle.npf_engine_opening.{specs.{Saying.{FlowSaid, said_by_hold, start_said, abandon_said}, Ways.is_one_of}, proofs.WayLemmas.these_same}
 
 -- what a pass over a table of flows shows
 abbrev pub View : Type 0

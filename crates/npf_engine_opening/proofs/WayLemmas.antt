@@ -1,13 +1,9 @@
 -- Which ways' keys a connection holds.
 use Rattle.std.proofs.Common.{◌≡◌, ◌≢◌, Bool, true, false, [], IsTrue, refl, sym}
-use Rattle.npf_types.specs.declared.key.Way.{Way}
-use Rattle.npf_types.specs.declared.key.Way.TheVariants.{Backward}
-use Rattle.npf_core.specs.declared.conn_id.ConnId.{ConnId}
-use Rattle.npf_core.specs.declared.held.Held.{Held}
-use Rattle.npf_core.specs.Machine.{Machine, HoldsNone}
+use Rattle.npf_types.specs.declared.key.Way.{Way, TheVariants.Backward}
+use Rattle.npf_core.specs.{declared.{conn_id.ConnId.ConnId, held.Held.Held}, Machine.{Machine, HoldsNone}}
 use Rattle.npf_connections.specs.Ways.{HoldsThese, KeepsWays}
-use Rattle.npf_nat.specs.declared.map_plan.MapPlan.{MapPlan}
-use Rattle.npf_nat.specs.declared.map_plan.MapPlan.TheVariants.{Fixed, Draw}
+use Rattle.npf_nat.specs.declared.map_plan.MapPlan.{MapPlan, TheVariants.{Fixed, Draw}}
 use Rattle.npf_engine_opening.specs.Ways.{is_one_of, ways_before}
 
 one_test : (a b : Bool) → (IsTrue a → IsTrue b) → (IsTrue b → IsTrue a) → a ≡ b

@@ -1,5 +1,5 @@
-pub mod Drawing
+pub mod Draw
 pub mod Opening
 pub mod Saying
-pub mod Starting
+pub mod Start
 pub mod Ways

@@ -17,10 +17,10 @@ use Rattle.npf_engine_opening.specs.declared.attempt.Attempt.{Attempt}
 use Rattle.npf_engine_opening.specs.declared.attempt.Opened.{Opened}
 use Rattle.npf_engine_opening.specs.declared.attempt.Refusal.{Refusal}
 use Rattle.npf_engine_opening.specs.declared.attempt.Refusal.TheVariants as Refusals
-use Rattle.npf_engine_opening.specs.declared.starting.Changes.{Changes}
-use Rattle.npf_engine_opening.specs.Drawing.{Draws}
+use Rattle.npf_engine_opening.specs.declared.start.Changes.{Changes}
+use Rattle.npf_engine_opening.specs.Draw.{Draws}
 use Rattle.npf_engine_opening.specs.Saying.{FlowSaid, claim_said, hold_said, step_said, abandon_said}
-use Rattle.npf_engine_opening.specs.Starting.{StartsConnection, packet_key}
+use Rattle.npf_engine_opening.specs.Start.{StartsConnection, packet_key}
 
 -- the changes by a drawn port
 abbrev pub drawn_changes : Facts → Addr → ℕ → Changes

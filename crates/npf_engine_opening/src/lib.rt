@@ -11,9 +11,9 @@
 #![tactic(auto)]
 
 mod attempt;
-mod drawing;
+mod draw;
 mod opening;
-mod starting;
+mod start;
 
 pub use attempt::{Attempt, Opened, Refusal};
 pub use opening::open;

@@ -1,7 +1,7 @@
 // A connection from its claim to its start, a key a function.
 //
 // What is said to the table is a list of acts with their answers, without the pass's number and its view, so that a packet's explanation takes
-// it as it is. What is given up is exactly what was held.
+// it is. What is given up is exactly what was held.
 ghost use Rattle.std.specs.Prelude.{◌≡◌, ◌≤◌, ◌+◌, [], ◌∷◌};
 ghost use Rattle.npf_core.specs.History.{state_of};
 ghost use Rattle.npf_connections.specs.Said.{Does};
@@ -14,8 +14,8 @@ ghost use Rattle.npf_engine_opening.specs.Ways.{is_one_of};
 ghost use Rattle.npf_types.specs.declared.key.Way.{Way};
 
 use crate::attempt::{Attempt, Opened, Refusal};
-use crate::drawing::draw;
-use crate::starting::{Changes, start};
+use crate::draw::draw;
+use crate::start::{Changes, start};
 use npf_connections::Connections;
 use npf_core::{ConnId, Held};
 use npf_flow::FlowLaw;

@@ -1,13 +1,9 @@
 -- Scans of the readers, one after the other.
 use Rattle.std.proofs.Common.{◌≡◌, ℕ, ◌+◌, ◌<◌, Bool, true, false, ◌==◌, ◌||◌, cond, List, [], ◌∷◌, refl, sym, ap, ◌∙◌, subst, ⊎_elim, arith}
-use Rattle.std.specs.List.{Contains}
-use Rattle.std.proofs.lemmas.Bool.{cases_eq}
-use Rattle.std.proofs.lemmas.List.Elements.{Contains-append_left, Contains-append_right, Contains-push}
+use Rattle.std.{specs.List.Contains, proofs.lemmas.{Bool.cases_eq, List.Elements.{Contains-append_left, Contains-append_right, Contains-push}}}
 use Rattle.atomic_table.specs.Table.{Me}
-use Rattle.npf_cells_rule.specs.declared.view.CellView.{CellView}
-use Rattle.npf_cells_pins.specs.declared.pin.EpochSide.{EpochSide}
-use Rattle.npf_cells_rule.specs.Views.{with_epochs}
-use Rattle.npf_cells_pins.specs.Pinning.{passes_by, scanning}
+use Rattle.npf_cells_rule.specs.{declared.view.CellView.CellView, Views.with_epochs}
+use Rattle.npf_cells_pins.specs.{declared.pin.EpochSide.EpochSide, Pinning.{passes_by, scanning}}
 
 -- a scan, by whether it passed the reader by
 abbrev after_scan : EpochSide → ℕ → Bool → EpochSide

@@ -7,7 +7,7 @@
 #![tactic(auto)]
 
 mod stay;
-mod trying;
+mod tries;
 
 pub use stay::{enter, leave};
-pub use trying::{scan_readers, try_advance};
+pub use tries::{scan_readers, try_advance};

@@ -1,3 +1,4 @@
+// A stay in the table: its begin and its end.
 ghost use Rattle.std.specs.Prelude.{◌≡◌, []};
 ghost use Rattle.npf_cells_pins.specs.declared.pin.Pin.TheVariants.{Idle};
 ghost use Rattle.npf_cells_rule.specs.Views.{with_epochs};

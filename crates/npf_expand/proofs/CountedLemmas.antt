@@ -1,25 +1,15 @@
 -- The lists of a rule have at most as many elements as are counted of its filter, and elements that pass no limit keep it.
 use Rattle.std.proofs.Common.{◌≡◌, ◌≤◌, ◌+◌, ℕ, ◌&&◌, nat_le, nat_lt, false, Option, Some, None, List, [], ◌∷◌, length, refl, arith}
-use Rattle.std.specs.List.{cons_option, filter_map, flat_map}
-use Rattle.std.proofs.lemmas.Bool.Decides.{nat_tests}
-use Rattle.std.proofs.lemmas.List.{length-append, length-map}
-use Rattle.std.proofs.lemmas.List.Sums.{sum_by-cons}
-use Rattle.npf_types.specs.declared.limits.TheConstants.{MAX_LIST_ELEMENTS}
-use Rattle.npf_types.specs.declared.span.Span.{Span}
-use Rattle.npf_syntax.specs.declared.filter.Addresses.{Addresses}
+use Rattle.std.{specs.List.{cons_option, filter_map, flat_map}, proofs.lemmas.{Bool.Decides.nat_tests, List.{length-append, length-map, Sums.sum_by-cons}}}
+use Rattle.npf_types.specs.declared.{limits.TheConstants.MAX_LIST_ELEMENTS, span.Span.Span}
+use Rattle.npf_syntax.specs.declared.{filter.{Addresses.Addresses, ProtoPart.ProtoPart}, value.Values.Values}
 use Rattle.npf_syntax.specs.declared.filter.Addresses.TheVariants as Written
-use Rattle.npf_syntax.specs.declared.filter.ProtoPart.{ProtoPart}
-use Rattle.npf_syntax.specs.declared.value.Values.{Values}
-use Rattle.npf_model.specs.declared.iface.Iface.{Iface}
-use Rattle.npf_model.specs.Count.{listed}
+use Rattle.npf_model.specs.{declared.iface.Iface.Iface, Count.listed}
 use Rattle.npf_expand_values.specs.Address.{addresses_count, address_items, host_item, items_of}
 use Rattle.npf_expand_values.specs.Atom.{Atom, NumberAtom, RangeAtom, WordAtom, StringAtom, BlockAtom, TableAtom, AddressesAtom, Env}
-use Rattle.npf_expand_values.specs.Port.{atom_ports, ports_count, ports_of}
-use Rattle.npf_expand_values.specs.Protocol.{protocol_of, spliced_ones}
-use Rattle.npf_expand_values.specs.Use.{count_of, element_count}
+use Rattle.npf_expand_values.specs.{Port.{atom_ports, ports_count, ports_of}, Protocol.{protocol_of, spliced_ones}, Use.{count_of, element_count}}
 use Rattle.npf_expand_values.specs.Variable.{listed_values, spliced}
-use Rattle.npf_expand.specs.Rule.{part_count, part_protocols, passing_faults}
-use Rattle.npf_expand.proofs.ElementLemmas.{untold}
+use Rattle.npf_expand.{specs.Rule.{part_count, part_protocols, passing_faults}, proofs.ElementLemmas.untold}
 
 kept_one : {Y : Type 0} (kept : Option Y) (ys : List Y) (n m : ℕ) → ((y : Y) → kept ≡ Some y → 1 ≤ n) → length ys ≤ m → length (cons_option kept ys) ≤ n + m
 kept_one None ys n m some few = omega arith

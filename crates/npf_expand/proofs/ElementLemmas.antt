@@ -1,57 +1,30 @@
 -- The elements that are counted of a rule's filter are those of its lists, where it has no fault.
 use Rattle.std.proofs.Common.{◌≡◌, ◌+◌, ℕ, Bool, true, false, ◌||◌, not, nat_lt, is_some, if◌then◌else◌, Option, Some, None, List, [], ◌∷◌, ◌++◌, length, refl, sym, ap, ap₂, ◌∙◌, append-nil, arith}
-use Rattle.std.specs.List.{cons_option, filter_map, flat_map, list_any, sum_by}
-use Rattle.std.proofs.lemmas.List.{length-map}
-use Rattle.std.proofs.lemmas.List.Concat.{length-flat_map}
-use Rattle.std.proofs.lemmas.List.Sums.{sum_by-append, sum_by-cons}
+use Rattle.std.{specs.List.{cons_option, filter_map, flat_map, list_any, sum_by}, proofs.lemmas.List.{length-map, Concat.length-flat_map}}
+use Rattle.std.proofs.lemmas.{List.Sums.{sum_by-append, sum_by-cons}, Bool.or_parts}
 use Rattle.npf_types.specs.declared.span.Span.{Span}
-use Rattle.npf_faults.specs.declared.fault.ConfFault.{ConfFault}
-use Rattle.npf_faults.specs.declared.fault.Fault.{Fault}
-use Rattle.npf_faults.specs.declared.fault.Fault.TheVariants.{Expected, UnknownService}
-use Rattle.npf_syntax.specs.declared.filter.Addresses.{Addresses}
+use Rattle.npf_shelf.proofs.ListLemmas.{nil_from_append_left, nil_from_append_right}
+use Rattle.npf_faults.specs.{declared.fault.{ConfFault.ConfFault, Fault.{Fault, TheVariants.{Expected, UnknownService}}}, First.fault_if}
+use Rattle.npf_syntax.specs.declared.{filter.{Addresses.Addresses, EndsTree.EndsTree, ProtoPart.ProtoPart}, rule.RuleTree.RuleTree, value.Value.Value}
 use Rattle.npf_syntax.specs.declared.filter.Addresses.TheVariants as Written
-use Rattle.npf_syntax.specs.declared.filter.Ends.{Ends}
-use Rattle.npf_syntax.specs.declared.filter.Ends.TheVariants as EndsAre
-use Rattle.npf_syntax.specs.declared.filter.ProtoPart.{ProtoPart}
-use Rattle.npf_syntax.specs.declared.rule.RuleTree.{RuleTree}
-use Rattle.npf_syntax.specs.declared.value.Value.{Value}
+use Rattle.npf_syntax.specs.declared.filter.EndsTree.TheVariants as EndsAre
 use Rattle.npf_syntax.specs.declared.value.Values.{Values}
-use Rattle.npf_model.specs.declared.iface.Iface.{Iface}
-use Rattle.npf_model.specs.declared.rule.Rule.{Rule}
-use Rattle.npf_model.specs.Count.{elements_of, elements_of_ends, listed}
-use Rattle.npf_faults.specs.First.{fault_if}
-use Rattle.npf_expand_values.specs.declared.role.Role.{Role}
-use Rattle.npf_expand_values.specs.declared.role.Role.TheVariants.{AsPort, AsAddress, AsProtocol}
+use Rattle.npf_model.specs.{declared.{iface.Iface.Iface, rule.Rule.Rule}, Count.{elements_of, elements_of_ends, listed}}
+use Rattle.npf_expand_values.specs.declared.role.Role.{Role, TheVariants.{AsPort, AsAddress, AsProtocol}}
 use Rattle.npf_expand_values.specs.Address.{address_items, addresses_count, addresses_faults, host_item, items_of}
-use Rattle.npf_expand_values.specs.Atom.{Atom, NumberAtom, RangeAtom, WordAtom, StringAtom, BlockAtom, TableAtom, AddressesAtom, Env}
-use Rattle.npf_expand_values.specs.Declarations.{Declared}
+use Rattle.npf_expand_values.specs.{Atom.{Atom, NumberAtom, RangeAtom, WordAtom, StringAtom, BlockAtom, TableAtom, AddressesAtom, Env}, Declarations.Declared}
 use Rattle.npf_expand_values.specs.Port.{atom_ports, ports_count, ports_faults, ports_of, same_port}
 use Rattle.npf_expand_values.specs.Protocol.{one_binding, one_span, protocol_faults, protocol_of, spliced_ones, written_ones}
 use Rattle.npf_expand_values.specs.Service.{number_named, protocols, services}
 use Rattle.npf_expand_values.specs.Use.{atoms_of, count_of, element_count, is_unfit, undefined_faults, use_faults, word_faults}
 use Rattle.npf_expand_values.specs.Variable.{binding_of, each_value_faults, empty_list_at, empty_list_faults, env_of, listed_values, own_faults, spliced, value_span}
 use Rattle.npf_expand.specs.LoneRule.{ElaboratesRule, elements_alone}
-use Rattle.npf_expand.specs.Rule.{ends_count, ends_faults, ends_of_written, filter_count, filter_faults, on_faults, part_count, part_faults, part_protocols, rule_faults, rule_of_tree, source_ends, destination_ends}
-
-front : {X : Type 0} (xs ys : List X) → xs ++ ys ≡ [] → xs ≡ []
-front [] ys none = refl
-front (x ∷ xs) ys none = cc
-
-back : {X : Type 0} (xs ys : List X) → xs ++ ys ≡ [] → ys ≡ []
-back [] ys none = none
-back (x ∷ xs) ys none = cc
+use Rattle.npf_expand.specs.Rule.{ends_count, ends_faults, ends_of_written, filter_count, filter_faults, on_faults, part_count, part_faults}
+use Rattle.npf_expand.specs.Rule.{part_protocols, rule_faults, rule_of_tree, source_ends, destination_ends}
 
 pub untold : (test : Bool) (span : Span) (fault : Fault) → fault_if test span fault ≡ [] → test ≡ false
 untold true span fault none = cc
 untold false span fault none = refl
-
-or_front : (a b : Bool) → (a || b) ≡ false → a ≡ false
-or_front true b none = cc
-or_front false b none = refl
-
-or_back : (a b : Bool) → (a || b) ≡ false → b ≡ false
-or_back true b none = cc
-or_back false b none = none
 
 both : (a b c d : ℕ) → a ≡ b → c ≡ d → a + c ≡ b + d
 both a b c d one other = ap₂ (λ x y. x + y) one other
@@ -123,15 +96,15 @@ module _ (role : Role) (size_of : Atom → ℕ) (each : HasSize role size_of) wh
       let unfit = list_any (is_unfit role) atoms in
       let words = flat_map (word_faults role) atoms in
       sum_by-cons size_of atom atoms
-      ∙ both _ _ _ _ (each atom (or_front (is_unfit role atom) unfit fit) (front (word_faults role atom) words told))
-      (fit_sum atoms (or_back (is_unfit role atom) unfit fit) (back (word_faults role atom) words told))
+      ∙ both _ _ _ _ (each atom (or_parts (is_unfit role atom) unfit fit).0 (nil_from_append_left (word_faults role atom) words told))
+      (fit_sum atoms (or_parts (is_unfit role atom) unfit fit).1 (nil_from_append_right (word_faults role atom) words told))
       ∙ sym (sum_by-cons count_of atom atoms)
 
   used_sum : (span : Span) (atoms : List Atom) → use_faults role span atoms ≡ [] → sum_by size_of atoms ≡ element_count atoms
   used_sum span atoms none =
       let unfit = fault_if (list_any (is_unfit role) atoms) span Expected in
       let words = flat_map (word_faults role) atoms in
-      fit_sum atoms (untold _ span Expected (front unfit words none)) (back unfit words none)
+      fit_sum atoms (untold _ span Expected (nil_from_append_left unfit words none)) (nil_from_append_right unfit words none)
 
   each_sum : {X : Type 0} (faults : X → List ConfFault) (atoms : X → List Atom) → ((x : X) → faults x ≡ [] → sum_by size_of (atoms x) ≡ element_count (atoms x))
       → (xs : List X) → flat_map faults xs ≡ [] → sum_by size_of (flat_map atoms xs) ≡ element_count (flat_map atoms xs)
@@ -139,14 +112,14 @@ module _ (role : Role) (size_of : Atom → ℕ) (each : HasSize role size_of) wh
   each_sum faults atoms sums (x ∷ xs) none =
       let rest = flat_map atoms xs in
       sum_by-append size_of (atoms x) rest
-      ∙ both _ _ _ _ (sums x (front (faults x) (flat_map faults xs) none)) (each_sum faults atoms sums xs (back (faults x) (flat_map faults xs) none))
+      ∙ both _ _ _ _ (sums x (nil_from_append_left (faults x) (flat_map faults xs) none)) (each_sum faults atoms sums xs (nil_from_append_right (faults x) (flat_map faults xs) none))
       ∙ sym (sum_by-append count_of (atoms x) rest)
 
   values_sum : (ifaces : List Iface) (env : Env) (values : List Value) → flat_map (each_value_faults ifaces env role) values ≡ []
       → sum_by size_of (spliced ifaces env values) ≡ element_count (spliced ifaces env values)
   values_sum ifaces env values none = each_sum (each_value_faults ifaces env role) (λ value. atoms_of (binding_of ifaces env value))
       (λ value clean. used_sum (value_span value) (atoms_of (binding_of ifaces env value))
-      (back (own_faults ifaces env value) (use_faults role (value_span value) (atoms_of (binding_of ifaces env value))) clean)) values none
+      (nil_from_append_right (own_faults ifaces env value) (use_faults role (value_span value) (atoms_of (binding_of ifaces env value))) clean)) values none
 
 module _ (ifaces : List Iface) (env : Env) (tables : List (List ℕ)) where
   values_items : (values : List Value) → flat_map (each_value_faults ifaces env AsAddress) values ≡ []
@@ -158,28 +131,28 @@ module _ (ifaces : List Iface) (env : Env) (tables : List (List ℕ)) where
   addresses_listed (Written.Any span) none = refl
   addresses_listed (Written.One value span) none = values_items (value ∷ []) (append-nil (each_value_faults ifaces env AsAddress value) ∙ none)
   addresses_listed (Written.List list span) none =
-      values_items list.values (back (empty_list_at list.span list.values) (flat_map (each_value_faults ifaces env AsAddress) list.values) none)
+      values_items list.values (nil_from_append_right (empty_list_at list.span list.values) (flat_map (each_value_faults ifaces env AsAddress) list.values) none)
 
   ports_listed : (ports : Option Values) → ports_faults ifaces env ports ≡ [] → listed (ports_of ifaces env ports) ≡ ports_count ifaces env ports
   ports_listed None none = refl
   ports_listed (Some values) none = kept_length atom_ports (spliced ifaces env (listed_values values))
       ∙ values_sum AsPort (λ atom. kept_size (atom_ports atom)) port_size ifaces env (listed_values values)
-      (back (empty_list_faults values) (flat_map (each_value_faults ifaces env AsPort) (listed_values values)) none)
+      (nil_from_append_right (empty_list_faults values) (flat_map (each_value_faults ifaces env AsPort) (listed_values values)) none)
 
   part_listed : (part : Option ProtoPart) → part_faults ifaces env part ≡ [] → length (part_protocols ifaces env part) ≡ part_count ifaces env part
   part_listed None none = refl
   part_listed (Some part) none = kept_length protocol_of (spliced_ones env part.protocols)
       ∙ each_sum AsProtocol (λ atom. kept_size (protocol_of atom)) protocol_size (protocol_faults env) (λ one. atoms_of (one_binding env one))
       (λ one clean. used_sum AsProtocol (λ atom. kept_size (protocol_of atom)) protocol_size (one_span one) (atoms_of (one_binding env one))
-      (back (undefined_faults (one_span one) (one_binding env one)) (use_faults AsProtocol (one_span one) (atoms_of (one_binding env one))) clean))
+      (nil_from_append_right (undefined_faults (one_span one) (one_binding env one)) (use_faults AsProtocol (one_span one) (atoms_of (one_binding env one))) clean))
       (written_ones part.protocols) none
 
-  ends_listed : (ends : Option Ends) → ends_faults ifaces env ends ≡ [] → elements_of_ends (ends_of_written ifaces env tables ends) ≡ ends_count ifaces env ends
+  ends_listed : (ends : Option EndsTree) → ends_faults ifaces env ends ≡ [] → elements_of_ends (ends_of_written ifaces env tables ends) ≡ ends_count ifaces env ends
   ends_listed None none = refl
   ends_listed (Some (EndsAre.Addresses addresses ports span)) none =
       let of_addresses = addresses_faults ifaces env addresses in
       let of_ports = ports_faults ifaces env ports in
-      both _ _ _ _ (addresses_listed addresses (front of_addresses of_ports none)) (ports_listed ports (back of_addresses of_ports none))
+      both _ _ _ _ (addresses_listed addresses (nil_from_append_left of_addresses of_ports none)) (ports_listed ports (nil_from_append_right of_addresses of_ports none))
   ends_listed (Some (EndsAre.Ports ports span)) none = ap (λ n. 0 + n) (ports_listed (Some ports) none) ∙ from_zero (ports_count ifaces env (Some ports))
 
 pub elements_counted : (ifaces : List Iface) (env : Env) (declared : Declared) (tree : RuleTree) → rule_faults ifaces env tree ≡ []
@@ -189,12 +162,12 @@ elements_counted ifaces env declared tree none =
     let of_part = part_faults ifaces env filter.proto in
     let of_source = ends_faults ifaces env (source_ends filter.ends) in
     let of_target = ends_faults ifaces env (destination_ends filter.ends) in
-    let clean : (of_part ++ of_source) ++ of_target ≡ [] = back (on_faults ifaces env tree.on) (filter_faults ifaces env filter) none in
-    let before = front (of_part ++ of_source) of_target clean in
+    let clean : (of_part ++ of_source) ++ of_target ≡ [] = nil_from_append_right (on_faults ifaces env tree.on) (filter_faults ifaces env filter) none in
+    let before = nil_from_append_left (of_part ++ of_source) of_target clean in
     both _ _ _ _
-    (both _ _ _ _ (part_listed ifaces env declared.tables filter.proto (front of_part of_source before))
-    (ends_listed ifaces env declared.tables (source_ends filter.ends) (back of_part of_source before)))
-    (ends_listed ifaces env declared.tables (destination_ends filter.ends) (back (of_part ++ of_source) of_target clean))
+    (both _ _ _ _ (part_listed ifaces env declared.tables filter.proto (nil_from_append_left of_part of_source before))
+    (ends_listed ifaces env declared.tables (source_ends filter.ends) (nil_from_append_right of_part of_source before)))
+    (ends_listed ifaces env declared.tables (destination_ends filter.ends) (nil_from_append_right (of_part ++ of_source) of_target clean))
 
 -- the same of a rule that stands in no text
 pub lone_elements : (tree : RuleTree) (declared : Declared) (ifaces : List Iface) (rule : Rule) → ElaboratesRule tree declared ifaces rule

@@ -1,10 +1,7 @@
 -- What the first of some values says.
 use Rattle.std.proofs.Common.{◌≡◌, ℕ, Option, Some, None, List, [], ◌∷◌, refl}
 use Rattle.npf_types.specs.declared.prefix.Prefix.{Prefix}
-use Rattle.npf_expand_values.specs.Atom.{Atom}
-use Rattle.npf_expand_values.specs.Kept.{first_atom}
-use Rattle.npf_expand_values.specs.Port.{atom_ports}
-use Rattle.npf_expand_values.specs.Protocol.{first_protocol, protocol_of}
+use Rattle.npf_expand_values.specs.{Atom.Atom, Kept.first_atom, Port.atom_ports, Protocol.{first_protocol, protocol_of}}
 use Rattle.npf_expand.specs.Map.{every_v4, first_block, first_port, side_block}
 
 abbrev pub block_where : Option Atom → Prefix

@@ -1,29 +1,15 @@
 -- What is left of a text's statements, of which so many were read.
 use Rattle.std.proofs.Common.{◌≡◌, ◌≤◌, ◌<◌, ◌+◌, ℕ, None, List, [], ◌∷◌, ◌++◌, length, get_or, take, drop, refl, sym, ap, ap₂, subst, ◌∙◌, append-nil, append_assoc}
-use Rattle.std.specs.List.{flat_map}
-use Rattle.std.proofs.Math.Path.{fun_ext}
-use Rattle.std.proofs.lemmas.List.{drop_more, drop_all, take_more}
-use Rattle.npf_syntax.specs.declared.stmt.Stmt.{Stmt}
-use Rattle.npf_syntax.specs.declared.stmt.Tree.{Tree}
-use Rattle.npf_model.specs.declared.group.Group.{Group}
-use Rattle.npf_model.specs.declared.iface.Iface.{Iface}
-use Rattle.npf_model.specs.declared.map.Map.{Map}
-use Rattle.npf_model.specs.declared.model.Model.{Model}
+use Rattle.std.{specs.List.flat_map, proofs.{Math.Path.fun_ext, lemmas.List.{drop_more, drop_all, take_more}}}
+use Rattle.npf_syntax.specs.declared.stmt.{Stmt.Stmt, Tree.Tree}
+use Rattle.npf_model.specs.declared.{group.Group.Group, iface.Iface.Iface, map.Map.Map, model.Model.Model}
 use Rattle.npf_faults.specs.First.{earlier, first_fault}
 use Rattle.npf_faults.proofs.FirstLemmas.{earlier-assoc, earlier-none, first_fault-append, no_first_fault, none_of_earlier}
-use Rattle.npf_expand_values.specs.Atom.{Env}
-use Rattle.npf_expand_values.specs.Declarations.{Declared, declared_in}
-use Rattle.npf_expand_values.specs.Kept.{AreSound, env_in}
-use Rattle.npf_expand_values.specs.Summary.{counted}
-use Rattle.npf_expand_values.specs.Variable.{Definition, env_of}
+use Rattle.npf_expand_values.specs.{Atom.Env, Declarations.{Declared, declared_in}, Scope.env_in, Summary.counted, Variable.{Definition, env_of}}
 use Rattle.npf_expand.specs.declared.elaborate.State.{State}
 use Rattle.npf_expand.specs.Elaborates.{Elaborates, behind, default_group, gathered, maps_of, named_group, procedures_of, stmt_elements, stmt_faults, stmts_faults, tree_faults}
-use Rattle.npf_expand.specs.Group.{head_faults}
-use Rattle.npf_expand.specs.Map.{map_faults}
-use Rattle.npf_expand.specs.Settings.{asks_icmp, settings_of}
-use Rattle.npf_expand.specs.Step.{Adding, AddsToModel, IsStmtRead, env_behind}
-use Rattle.npf_expand.specs.Table.{tables_of}
-use Rattle.npf_expand.proofs.StepLemmas.{counted-more, items_faults-counted, passing_faults-counted}
+use Rattle.npf_expand.specs.{Group.head_faults, Map.map_faults, Settings.{asks_icmp, settings_of}, Step.{Adding, AddsToModel, IsStmtRead, env_behind}}
+use Rattle.npf_expand.{specs.Table.tables_of, proofs.StepLemmas.{counted-more, items_faults-counted, passing_faults-counted}}
 
 -- the definitions behind statements
 abbrev pub behind_all : List Definition → List Stmt → List Definition
@@ -69,7 +55,6 @@ module _ (ifaces : List Iface) where
 
     -- what a state says of statements of which so many were read
     pub record StmtsLeft (state : State) (stmts : List Stmt) (read : ℕ) : Type 0 where
-      pub sound : AreSound state.variables
       pub env : env_in state.variables ≡ env_of ifaces (behind_all [] (take read stmts))
       pub faults : first_fault (stmts_faults ifaces declared [] 0 stmts)
           ≡ earlier state.met.first (first_fault (stmts_faults ifaces declared (behind_all [] (take read stmts)) state.met.elements (drop read stmts)))
@@ -123,7 +108,6 @@ module _ (ifaces : List Iface) where
           let elements = stmt_elements ifaces declared env stmt in
           let behind_it = stmts_faults ifaces declared (behind older stmt) (state.met.elements + elements) rest in
           record {
-            sound = steps.sound;
             env = fun_ext steps.env ∙ ap (λ (e : Env). env_behind ifaces e stmt) left.env ∙ env_of-behind older stmt ∙ ap (env_of ifaces) moved;
             faults = left.faults ∙ ap (λ (l : List Stmt). earlier state.met.first (first_fault (stmts_faults ifaces declared older state.met.elements l))) front
                 ∙ ap (λ (e : Env). earlier state.met.first (first_fault (stmt_faults ifaces declared e state.met.elements stmt
@@ -137,11 +121,10 @@ module _ (ifaces : List Iface) where
             maps = λ none. more (maps_of ifaces declared) _ state.maps.items next.maps.items (left.maps (none_before none)) (adds none).maps;
           }
 
-    pub stmts_start : (state : State) (stmts : List Stmt) → AreSound state.variables → ((text : List ℕ) → env_in state.variables text ≡ None)
+    pub stmts_start : (state : State) (stmts : List Stmt) → ((text : List ℕ) → env_in state.variables text ≡ None)
         → (state.met.first ≡ None) × (state.met.elements ≡ 0) → (state.groups.items ≡ []) × (state.defaults.items ≡ []) × (state.maps.items ≡ [])
         → StmtsLeft state stmts 0
-    stmts_start state stmts sound unbound met empty = record {
-      sound = sound;
+    stmts_start state stmts unbound met empty = record {
       env = fun_ext unbound;
       faults = sym (ap₂ (λ first elements. earlier first (first_fault (stmts_faults ifaces declared [] elements stmts))) met.0 met.1);
       groups = λ none. sym (ap (λ (l : List Group). l ++ gathered ifaces declared (named_group ifaces declared) [] stmts) empty.0);
@@ -157,7 +140,8 @@ module _ (ifaces : List Iface) where
     pub stmts_first : (state : State) (stmts : List Stmt) (read : ℕ) → length stmts ≤ read → StmtsLeft state stmts read
         → state.met.first ≡ first_fault (stmts_faults ifaces declared [] 0 stmts)
     stmts_first state stmts read past left =
-        sym (left.faults ∙ ap (λ (l : List Stmt). earlier state.met.first (first_fault (stmts_faults ifaces declared (behind_all [] (take read stmts)) state.met.elements l))) (drop_all read stmts past)
+        sym (left.faults
+        ∙ ap (λ (l : List Stmt). earlier state.met.first (first_fault (stmts_faults ifaces declared (behind_all [] (take read stmts)) state.met.elements l))) (drop_all read stmts past)
         ∙ earlier-none state.met.first)
 
     pub stmts_adding : (state : State) (stmts : List Stmt) (read : ℕ) → length stmts ≤ read → StmtsLeft state stmts read → state.met.first ≡ None
@@ -182,7 +166,14 @@ model_in stmts ifaces =
     }
 
 abbrev pub state_model : List Group → List Group → List Map → List Stmt → Model
-state_model groups defaults maps stmts = record { groups = groups ++ defaults; tables = flat_map tables_of stmts; maps = maps; procedures = flat_map procedures_of stmts; settings = settings_of stmts; alg_icmp = asks_icmp stmts }
+state_model groups defaults maps stmts = record {
+  groups = groups ++ defaults;
+  tables = flat_map tables_of stmts;
+  maps = maps;
+  procedures = flat_map procedures_of stmts;
+  settings = settings_of stmts;
+  alg_icmp = asks_icmp stmts;
+}
 
 module _ (tree : Tree) (ifaces known : List Iface) (declared : Declared) (stmts : List Stmt) (state : State) (same_ifaces : known ≡ ifaces)
     (same_names : declared ≡ declared_in stmts) (same_stmts : stmts ≡ tree.stmts) where

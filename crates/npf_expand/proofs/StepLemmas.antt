@@ -1,34 +1,21 @@
 -- What is met behind what was met before.
-use Rattle.std.proofs.Common.{◌≡◌, ◌≤◌, ◌<◌, ◌+◌, ℕ, false, is_some, ◌&&◌, nat_le, nat_lt, Option, Some, None, List, [], ◌∷◌, ◌++◌, length, get_or, drop, map, refl, sym, ap, ◌∙◌, append-nil, append_assoc, arith}
-use Rattle.std.proofs.lemmas.List.{drop_more, drop_all}
-use Rattle.npf_types.specs.declared.limits.TheConstants.{MAX_LIST_ELEMENTS}
-use Rattle.npf_types.specs.declared.span.Span.{Span}
-use Rattle.npf_faults.specs.declared.fault.ConfFault.{ConfFault}
-use Rattle.npf_faults.specs.declared.fault.Excess.TheVariants.{Elements}
-use Rattle.npf_faults.specs.declared.fault.Fault.TheVariants.{TooMany}
-use Rattle.npf_syntax.specs.declared.group.Item.{Item as WrittenItem}
-use Rattle.npf_syntax.specs.declared.group.Item.TheVariants as ItemIs
-use Rattle.npf_syntax.specs.declared.rule.Direction.{Direction}
-use Rattle.npf_syntax.specs.declared.stmt.Stmt.{Stmt}
-use Rattle.npf_syntax.specs.declared.value.Iface.{Iface as WrittenIface}
-use Rattle.npf_syntax.specs.declared.word.Str.{Str}
-use Rattle.npf_syntax.specs.declared.group.GroupHead.{GroupHead}
+use Rattle.std.proofs.Common.{◌≡◌, ◌≤◌, ◌<◌, ◌+◌, ℕ, false, is_some, ◌&&◌, nat_le, nat_lt, Option, None, List, [], ◌∷◌, ◌++◌, length}
+use Rattle.std.proofs.{Common.{get_or, drop, map, refl, sym, ap, ◌∙◌, append-nil, append_assoc, arith}, lemmas.List.{drop_more, drop_all}}
+use Rattle.npf_types.specs.declared.{limits.TheConstants.MAX_LIST_ELEMENTS, span.Span.Span}
+use Rattle.npf_faults.specs.declared.fault.{ConfFault.ConfFault, Excess.TheVariants.Elements, Fault.TheVariants.TooMany}
+use Rattle.npf_syntax.specs.declared.{group.ItemTree.ItemTree as WrittenItem, rule.Direction.Direction, stmt.Stmt.Stmt}
+use Rattle.npf_syntax.specs.declared.group.ItemTree.TheVariants as ItemIs
+use Rattle.npf_syntax.specs.declared.{value.IfaceTree.IfaceTree as WrittenIface, word.Str.Str, group.GroupHead.GroupHead}
 use Rattle.npf_syntax.specs.declared.group.GroupHead.TheVariants as Head
-use Rattle.npf_model.specs.declared.group.Item.{Item}
-use Rattle.npf_model.specs.declared.iface.Iface.{Iface}
-use Rattle.npf_faults.specs.First.{earlier, fault_if, first_fault}
-use Rattle.npf_faults.proofs.FirstLemmas.{earlier-assoc, earlier-none, first_fault-append, none_of_earlier}
-use Rattle.npf_expand_values.specs.Atom.{Env}
-use Rattle.npf_expand_values.specs.Declarations.{Declared}
-use Rattle.npf_expand_values.specs.Summary.{counted}
-use Rattle.npf_expand.specs.declared.met.Met.{Met}
-use Rattle.npf_expand.specs.Elaborates.{default_group, named_group}
-use Rattle.npf_expand.specs.Group.{group_of_tree, item_elements, item_faults, item_of_tree, items_elements, items_faults}
-use Rattle.npf_expand.specs.Meets.{Meets}
+use Rattle.npf_model.specs.declared.{group.Item.Item, iface.Iface.Iface}
+use Rattle.npf_faults.{specs.First.{earlier, fault_if, first_fault}, proofs.FirstLemmas.{earlier-assoc, earlier-none, first_fault-append, none_of_earlier}}
+use Rattle.npf_expand_values.{specs.{Atom.Env, Declarations.Declared, Summary.counted}, proofs.{PlaceLemmas.none_there, FaultLemmas.first_of_both}}
+use Rattle.npf_expand.specs.{declared.met.NodeTally.NodeTally, Elaborates.{default_group, named_group}}
+use Rattle.npf_expand.specs.{Group.{group_of_tree, item_elements, item_faults, item_of_tree, items_elements, items_faults}, Meets.Meets}
 use Rattle.npf_expand.specs.Rule.{passing_faults, rule_faults}
-use Rattle.npf_expand_values.proofs.FaultLemmas.{first_of_both}
 
-same_passing : (a b m n : ℕ) → counted a ≡ counted b → counted m ≡ counted n → (nat_le a MAX_LIST_ELEMENTS && nat_lt MAX_LIST_ELEMENTS (a + m)) ≡ (nat_le b MAX_LIST_ELEMENTS && nat_lt MAX_LIST_ELEMENTS (b + n))
+same_passing : (a b m n : ℕ) → counted a ≡ counted b → counted m ≡ counted n →
+    (nat_le a MAX_LIST_ELEMENTS && nat_lt MAX_LIST_ELEMENTS (a + m)) ≡ (nat_le b MAX_LIST_ELEMENTS && nat_lt MAX_LIST_ELEMENTS (b + n))
 same_passing a b m n one other = grind arith
 
 pub passing_faults-counted : (a b m n : ℕ) (span : Span) → counted a ≡ counted b → counted m ≡ counted n → passing_faults a m span ≡ passing_faults b n span
@@ -53,7 +40,7 @@ module _ (ifaces : List Iface) (env : Env) (declared : Declared) where
       ∙ ap (λ faults. item_faults ifaces env declared b item ++ faults)
       (items_faults-counted (a + item_elements ifaces env declared item) (b + item_elements ifaces env declared item) items (counted-more a b _ _ same refl))
 
-pub met_rule : (old new : Met) (fault passes both : Option ConfFault) (more : ℕ) (span : Span) (faults : List ConfFault) (elements : ℕ)
+pub met_rule : (old new : NodeTally) (fault passes both : Option ConfFault) (more : ℕ) (span : Span) (faults : List ConfFault) (elements : ℕ)
     → new.first ≡ earlier old.first both → both ≡ earlier fault passes → passes ≡ first_fault (passing_faults old.elements more span)
     → new.elements ≡ counted (old.elements + more) → fault ≡ first_fault faults → more ≡ counted elements
     → Meets old new (faults ++ passing_faults old.elements elements span) elements
@@ -63,12 +50,8 @@ met_rule old new fault passes both more span faults elements is_first is_both is
   count = omega (arith, is_after, is_more);
 }
 
-none_there : {X : Type 0} (o : Option X) → is_some o ≡ false → o ≡ None
-none_there None none = refl
-none_there (Some x) none = cc
-
 -- what may be gathered where no fault was met
-pub few_gathered : (old new : Met) (faults : List ConfFault) (elements : ℕ) → Meets old new faults elements → is_some new.first ≡ false
+pub few_gathered : (old new : NodeTally) (faults : List ConfFault) (elements : ℕ) → Meets old new faults elements → is_some new.first ≡ false
     → elements ≤ MAX_LIST_ELEMENTS
 few_gathered old new faults elements meets none =
     let count = meets.count in
@@ -77,13 +60,13 @@ few_gathered old new faults elements meets none =
 
 module _ (ifaces : List Iface) (env : Env) (declared : Declared) where
   -- what is left of a group's items, of which so many were read
-  pub record ItemsLeft (old now : Met) (built : List Item) (items : List WrittenItem) (read : ℕ) : Type 0 where
+  pub record ItemsLeft (old now : NodeTally) (built : List Item) (items : List WrittenItem) (read : ℕ) : Type 0 where
     pub faults : earlier old.first (first_fault (items_faults ifaces env declared old.elements items))
         ≡ earlier now.first (first_fault (items_faults ifaces env declared now.elements (drop read items)))
     pub count : counted (old.elements + items_elements ifaces env declared items) ≡ counted (now.elements + items_elements ifaces env declared (drop read items))
     pub model : now.first ≡ None → map (item_of_tree ifaces env declared) items ≡ built ++ map (item_of_tree ifaces env declared) (drop read items)
 
-  pub items_step : (old now next : Met) (built more : List Item) (items : List WrittenItem) (read : ℕ) (item d : WrittenItem) → read < length items → item ≡ get_or items read d
+  pub items_step : (old now next : NodeTally) (built more : List Item) (items : List WrittenItem) (read : ℕ) (item d : WrittenItem) → read < length items → item ≡ get_or items read d
       → ItemsLeft old now built items read → Meets now next (item_faults ifaces env declared now.elements item) (item_elements ifaces env declared item)
       → (next.first ≡ None → more ≡ built ++ item_of_tree ifaces env declared item ∷ []) → ItemsLeft old next more items (read + 1)
   items_step old now next built more items read item d below is left meets pushed =
@@ -105,19 +88,19 @@ module _ (ifaces : List Iface) (env : Env) (declared : Declared) where
             ∙ ap (λ (b : List Item). b ++ map (item_of_tree ifaces env declared) rest) (sym (pushed none));
       }
 
-  pub items_met : (old now : Met) (built : List Item) (items : List WrittenItem) (read : ℕ) → length items ≤ read → ItemsLeft old now built items read
+  pub items_met : (old now : NodeTally) (built : List Item) (items : List WrittenItem) (read : ℕ) → length items ≤ read → ItemsLeft old now built items read
       → Meets old now (items_faults ifaces env declared old.elements items) (items_elements ifaces env declared items)
   items_met old now built items read past left = record {
     first = sym (left.faults ∙ ap (λ (l : List WrittenItem). earlier now.first (first_fault (items_faults ifaces env declared now.elements l))) (drop_all read items past) ∙ earlier-none now.first);
     count = sym (left.count ∙ ap (λ (l : List WrittenItem). counted (now.elements + items_elements ifaces env declared l)) (drop_all read items past) ∙ omega arith);
   }
 
-  pub items_built : (old now : Met) (built : List Item) (items : List WrittenItem) (read : ℕ) → length items ≤ read → ItemsLeft old now built items read
+  pub items_built : (old now : NodeTally) (built : List Item) (items : List WrittenItem) (read : ℕ) → length items ≤ read → ItemsLeft old now built items read
       → now.first ≡ None → built ≡ map (item_of_tree ifaces env declared) items
   items_built old now built items read past left none =
       sym (left.model none ∙ ap (λ (l : List WrittenItem). built ++ map (item_of_tree ifaces env declared) l) (drop_all read items past) ∙ append-nil built)
 
-  pub group_met : (old mid new : Met) (faults : List ConfFault) (items : List WrittenItem) (elements : ℕ) → Meets old mid faults 0
+  pub group_met : (old mid new : NodeTally) (faults : List ConfFault) (items : List WrittenItem) (elements : ℕ) → Meets old mid faults 0
       → Meets mid new (items_faults ifaces env declared mid.elements items) elements
       → Meets old new (faults ++ items_faults ifaces env declared old.elements items) elements
   group_met old mid new faults items elements one other = record {

@@ -5,8 +5,8 @@ use Rattle.npf_types.specs.Named.{named}
 use Rattle.npf_faults.specs.declared.fault.ConfFault.{ConfFault}
 use Rattle.npf_syntax.specs.declared.group.GroupHead.{GroupHead}
 use Rattle.npf_syntax.specs.declared.group.GroupHead.TheVariants as Head
-use Rattle.npf_syntax.specs.declared.group.Item.{Item as WrittenItem}
-use Rattle.npf_syntax.specs.declared.group.Item.TheVariants as ItemIs
+use Rattle.npf_syntax.specs.declared.group.ItemTree.{ItemTree as WrittenItem}
+use Rattle.npf_syntax.specs.declared.group.ItemTree.TheVariants as ItemIs
 use Rattle.npf_model.specs.declared.group.Group.{Group}
 use Rattle.npf_model.specs.declared.group.Item.{Item}
 use Rattle.npf_model.specs.declared.group.Item.TheVariants.{One, Dynamic}

@@ -10,11 +10,11 @@ use Rattle.npf_types.specs.Address.{width}
 use Rattle.npf_types.specs.Block.{block}
 use Rattle.npf_faults.specs.declared.fault.ConfFault.{ConfFault}
 use Rattle.npf_syntax.specs.declared.filter.Filter.{Filter}
-use Rattle.npf_syntax.specs.declared.map.Arrow.{Arrow as WrittenArrow}
-use Rattle.npf_syntax.specs.declared.map.Arrow.TheVariants as ArrowIs
+use Rattle.npf_syntax.specs.declared.map.ArrowTree.{ArrowTree as WrittenArrow}
+use Rattle.npf_syntax.specs.declared.map.ArrowTree.TheVariants as ArrowIs
 use Rattle.npf_syntax.specs.declared.map.MapKind.{MapKind}
-use Rattle.npf_syntax.specs.declared.map.Side.{Side as WrittenSide}
-use Rattle.npf_syntax.specs.declared.value.Iface.{Iface as WrittenIface}
+use Rattle.npf_syntax.specs.declared.map.SideTree.{SideTree as WrittenSide}
+use Rattle.npf_syntax.specs.declared.value.IfaceTree.{IfaceTree as WrittenIface}
 use Rattle.npf_syntax.specs.declared.value.One.{One}
 use Rattle.npf_syntax.specs.declared.value.Value.{Value}
 use Rattle.npf_syntax.specs.declared.word.Word.{Word}

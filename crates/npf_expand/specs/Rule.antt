@@ -13,18 +13,18 @@ use Rattle.npf_faults.specs.declared.fault.ConfFault.{ConfFault}
 use Rattle.npf_faults.specs.declared.fault.Excess.TheVariants.{Elements}
 use Rattle.npf_faults.specs.declared.fault.Fault.TheVariants.{TooMany}
 use Rattle.npf_syntax.specs.declared.filter.Detail.{Detail}
-use Rattle.npf_syntax.specs.declared.filter.Ends.{Ends as WrittenEnds}
-use Rattle.npf_syntax.specs.declared.filter.Ends.TheVariants as EndsAre
+use Rattle.npf_syntax.specs.declared.filter.EndsTree.{EndsTree as WrittenEnds}
+use Rattle.npf_syntax.specs.declared.filter.EndsTree.TheVariants as EndsAre
 use Rattle.npf_syntax.specs.declared.filter.Family.{Family}
 use Rattle.npf_syntax.specs.declared.filter.Filter.{Filter}
 use Rattle.npf_syntax.specs.declared.filter.ProtoPart.{ProtoPart}
 use Rattle.npf_syntax.specs.declared.filter.Where.{Where}
-use Rattle.npf_syntax.specs.declared.rule.Answer.{Answer}
+use Rattle.npf_syntax.specs.declared.rule.BlockReturn.{BlockReturn}
 use Rattle.npf_syntax.specs.declared.rule.Direction.{Direction}
 use Rattle.npf_syntax.specs.declared.rule.RuleAction.{RuleAction}
 use Rattle.npf_syntax.specs.declared.rule.RuleTree.{RuleTree}
 use Rattle.npf_syntax.specs.declared.rule.Stateful.{Stateful}
-use Rattle.npf_syntax.specs.declared.value.Iface.{Iface as WrittenIface}
+use Rattle.npf_syntax.specs.declared.value.IfaceTree.{IfaceTree as WrittenIface}
 use Rattle.npf_syntax.specs.declared.word.Number.{Number}
 use Rattle.npf_syntax.specs.declared.word.Word.{Word}
 use Rattle.npf_model.specs.declared.ends.Ends.{Ends}
@@ -41,11 +41,11 @@ use Rattle.npf_expand_values.specs.Port.{ports_count, ports_faults, ports_of}
 use Rattle.npf_expand_values.specs.Protocol.{protocols_faults, protocols_of, spliced_ones}
 use Rattle.npf_expand_values.specs.Use.{element_count}
 
-abbrev pub return_of : Option Answer → Return
+abbrev pub return_of : Option BlockReturn → Return
 return_of None = Nothing
-return_of (Some (Answer.Return _)) = Any
-return_of (Some (Answer.ReturnRst _)) = Rst
-return_of (Some (Answer.ReturnIcmp _)) = Icmp
+return_of (Some (BlockReturn.Return _)) = Any
+return_of (Some (BlockReturn.ReturnRst _)) = Rst
+return_of (Some (BlockReturn.ReturnIcmp _)) = Icmp
 
 abbrev pub decision_of : RuleAction → Decision
 decision_of (RuleAction.Block answer span) = Block (return_of answer)

@@ -7,7 +7,7 @@ ghost use Rattle.std.specs.List.{flat_map};
 ghost use Rattle.npf_types.specs.declared.span.Span.{Span};
 ghost use Rattle.npf_syntax.specs.declared.stmt.Stmt.{Stmt};
 ghost use Rattle.npf_faults.specs.First.{first_fault};
-ghost use Rattle.npf_expand_values.specs.Kept.{AreSound, env_in};
+ghost use Rattle.npf_expand_values.specs.Scope.{env_in};
 ghost use Rattle.npf_expand_values.specs.Source.{declared_by};
 ghost use Rattle.npf_expand.specs.Elaborates.{Elaborates, RefusesTree, procedures_of, stmts_faults};
 ghost use Rattle.npf_expand.specs.Settings.{asks_icmp, settings_of};
@@ -16,14 +16,14 @@ ghost use Rattle.npf_expand.specs.Table.{tables_of};
 
 use crate::group::read_group;
 use crate::map::{MapLine, map_fault, map_of, pass_count};
-use crate::met::Met;
+use crate::met::NodeTally;
 use crate::procedure::procedure_of;
 use crate::settings::{asks_icmp, settings_of};
 use crate::table::table_of;
 use npf_expand_values::{Declarations, Interfaces, Scope, Variables};
 use npf_faults::Refused;
 use npf_model::{Group, Ifaces, Map, Model, Procedure, TableDecl};
-use npf_syntax::{GroupHead, Item, Stmt, Tree, Values, Var};
+use npf_syntax::{GroupHead, ItemTree, Stmt, Tree, Values, Var};
 use npf_types::{List, NoMemory, Span};
 use std::alloc::Global;
 
@@ -76,7 +76,7 @@ fn read_stmts<'a>(
 #[derive(Drop)]
 pub(crate) struct State<'a> {
     pub(crate) variables: Variables<'a>,
-    pub(crate) met: Met,
+    pub(crate) met: NodeTally,
     pub(crate) groups: Vec<Group>,
     pub(crate) defaults: Vec<Group>,
     pub(crate) maps: Vec<Map>,
@@ -84,14 +84,13 @@ pub(crate) struct State<'a> {
 
 impl<'a> State<'a> {
     fn new(alloc: Global) -> State<'a>
-        ensures sound { AreSound result.variables }
         ensures none { (text : List ℕ) → env_in result.variables text ≡ None }
         ensures met { (result.met.first ≡ None) × (result.met.elements ≡ 0) }
         ensures empty { (result.groups.items ≡ []) × (result.defaults.items ≡ []) × (result.maps.items ≡ []) }
     {
         State {
             variables: Variables::new(alloc),
-            met: Met::none(),
+            met: NodeTally::none(),
             groups: Vec::new(alloc),
             defaults: Vec::new(alloc),
             maps: Vec::new(alloc),
@@ -105,7 +104,6 @@ impl<'a> State<'a> {
         declarations: &Declarations<'a>,
         stmt: &'a Stmt,
     ) -> Result<(), NoMemory>
-        requires { AreSound self.old.variables }
         ensures { OnOk result (IsStmtRead interfaces.now.list.now (declared_by declarations.now.source) self.old self.new stmt.now) }
     {
         match stmt {
@@ -155,7 +153,6 @@ impl<'a> State<'a> {
         var: &'a Var,
         values: &'a Values,
     ) -> Result<(), NoMemory>
-        requires { AreSound self.old.variables }
         ensures { OnOk result ((span : Span) → IsStmtRead interfaces.now.list.now (declared_by declarations.now.source) self.old self.new (Stmt.Define var.now values.now span)) }
     {
         let scope = Scope {
@@ -178,7 +175,6 @@ impl<'a> State<'a> {
         line: &MapLine<'a>,
         span: Span,
     ) -> Result<(), NoMemory>
-        requires { AreSound self.old.variables }
         ensures { OnOk result (IsStmtRead interfaces.now.list.now (declared_by declarations.now.source) self.old self.new
             (Stmt.Map line.now.iface.now line.now.kind.now line.now.proto.now line.now.left.now line.now.arrow line.now.right.now line.now.pass.now span)) }
     {
@@ -202,9 +198,8 @@ impl<'a> State<'a> {
         interfaces: &'a Interfaces<'_>,
         declarations: &Declarations<'a>,
         head: &'a GroupHead,
-        items: &'a [Item],
+        items: &'a [ItemTree],
     ) -> Result<(), NoMemory>
-        requires { AreSound self.old.variables }
         ensures { OnOk result ((span : Span) → IsStmtRead interfaces.now.list.now (declared_by declarations.now.source) self.old self.new (Stmt.Group head.now items.now span)) }
     {
         let scope = Scope {

@@ -5,7 +5,6 @@ ghost use Rattle.std.specs.Option.{option_map};
 ghost use Rattle.npf_faults.specs.First.{first_fault};
 ghost use Rattle.npf_expand_values.specs.Address.{address_items, addresses_count, addresses_faults, listed_addresses};
 ghost use Rattle.npf_expand_values.specs.Atom.{kept_atom};
-ghost use Rattle.npf_expand_values.specs.Kept.{AreSound};
 ghost use Rattle.npf_expand_values.specs.Port.{atom_ports, ports_count, ports_faults, ports_of};
 ghost use Rattle.npf_expand_values.specs.Protocol.{one_binding, protocol_faults, protocol_of, protocols_faults, written_ones};
 ghost use Rattle.npf_expand_values.specs.Scope.{declared_of_scope, env_of_scope, ifaces_of_scope};
@@ -20,13 +19,12 @@ use npf_expand_values::{
 use npf_faults::{ConfFault, earlier};
 use npf_model::{AddrItem, Ends as ModelEnds, Rule, StateOpt};
 use npf_syntax::{
-    Addresses, Boxed, Detail, Ends, Filter, One, ProtoPart, Protocols, Value, Values, Where,
+    Addresses, Boxed, Detail, EndsTree, Filter, One, ProtoPart, Protocols, Value, Values, Where,
 };
 use npf_types::{Decision, List, NoMemory};
 use std::alloc::{AllocError, Global};
 
 fn ones_fault<'a>(scope: &Scope<'_, 'a, '_>, ones: &'a [One]) -> Option<ConfFault>
-    requires { AreSound scope.now.variables.now }
     ensures { result ≡ first_fault (flat_map (protocol_faults (env_of_scope scope.now)) ones.now) }
 {
     let mut first = None;
@@ -40,7 +38,6 @@ fn part_fault<'a>(
     scope: &Scope<'_, 'a, '_>,
     part: &'a Option<Boxed<ProtoPart>>,
 ) -> Option<ConfFault>
-    requires { AreSound scope.now.variables.now }
     ensures { result ≡ first_fault (part_faults (ifaces_of_scope scope.now) (env_of_scope scope.now) part.now) }
 {
     match part {
@@ -51,7 +48,6 @@ fn part_fault<'a>(
 
 #[tactic(auto, using(npf_expand_values::proofs::FaultLemmas::both_faults))]
 fn addresses_fault<'a>(scope: &Scope<'_, 'a, '_>, addresses: &'a Addresses) -> Option<ConfFault>
-    requires { AreSound scope.now.variables.now }
     ensures { result ≡ first_fault (addresses_faults (ifaces_of_scope scope.now) (env_of_scope scope.now) addresses.now) }
 {
     match addresses {
@@ -68,7 +64,6 @@ fn addresses_fault<'a>(scope: &Scope<'_, 'a, '_>, addresses: &'a Addresses) -> O
 }
 
 fn ports_fault<'a>(scope: &Scope<'_, 'a, '_>, ports: &'a Option<Values>) -> Option<ConfFault>
-    requires { AreSound scope.now.variables.now }
     ensures { result ≡ first_fault (ports_faults (ifaces_of_scope scope.now) (env_of_scope scope.now) ports.now) }
 {
     match ports {
@@ -78,56 +73,33 @@ fn ports_fault<'a>(scope: &Scope<'_, 'a, '_>, ports: &'a Option<Values>) -> Opti
 }
 
 #[tactic(auto, using(npf_expand_values::proofs::FaultLemmas::both_faults))]
-fn ends_fault<'a>(scope: &Scope<'_, 'a, '_>, ends: &'a Ends) -> Option<ConfFault>
-    requires { AreSound scope.now.variables.now }
-    ensures { result ≡ first_fault (ends_faults (ifaces_of_scope scope.now) (env_of_scope scope.now) (Some ends.now)) }
+fn ends_fault<'a>(scope: &Scope<'_, 'a, '_>, ends: Option<&'a EndsTree>) -> Option<ConfFault>
+    ensures { result ≡ first_fault (ends_faults (ifaces_of_scope scope.now) (env_of_scope scope.now) (option_map (λ written. written.now) ends.entry)) }
 {
     match ends {
-        Ends::Addresses {
-            addresses,
-            ports,
-            ..
-        } => earlier(addresses_fault(scope, addresses), ports_fault(scope, ports)),
-        Ends::Ports { ports, .. } => scope.values_fault(Role::AsPort, ports),
-    }
-}
-
-fn source_fault<'a>(scope: &Scope<'_, 'a, '_>, ends: &'a Where) -> Option<ConfFault>
-    requires { AreSound scope.now.variables.now }
-    ensures { result ≡ first_fault (ends_faults (ifaces_of_scope scope.now) (env_of_scope scope.now) (source_ends ends.now)) }
-{
-    match ends {
-        Where::From { from, .. } => ends_fault(scope, from.get()),
-        _ => None,
-    }
-}
-
-fn destination_fault<'a>(scope: &Scope<'_, 'a, '_>, ends: &'a Where) -> Option<ConfFault>
-    requires { AreSound scope.now.variables.now }
-    ensures { result ≡ first_fault (ends_faults (ifaces_of_scope scope.now) (env_of_scope scope.now) (destination_ends ends.now)) }
-{
-    match ends {
-        Where::All { .. } => None,
-        Where::From { to, .. } => match to {
-            Some(to) => ends_fault(scope, to.get()),
-            None => None,
-        },
-        Where::To { to, .. } => ends_fault(scope, to.get()),
+        None => None,
+        Some(
+            EndsTree::Addresses {
+                addresses,
+                ports,
+                ..
+            },
+        ) => earlier(addresses_fault(scope, addresses), ports_fault(scope, ports)),
+        Some(EndsTree::Ports { ports, .. }) => scope.values_fault(Role::AsPort, ports),
     }
 }
 
 /// The first fault of a filter.
 #[tactic(auto, using(npf_expand_values::proofs::FaultLemmas::both_faults))]
 pub(crate) fn filter_fault<'a>(scope: &Scope<'_, 'a, '_>, filter: &'a Filter) -> Option<ConfFault>
-    requires { AreSound scope.now.variables.now }
     ensures { result ≡ first_fault (filter_faults (ifaces_of_scope scope.now) (env_of_scope scope.now) filter.now) }
 {
     earlier(
         earlier(
             part_fault(scope, &filter.proto),
-            source_fault(scope, &filter.ends),
+            ends_fault(scope, source_ends(&filter.ends)),
         ),
-        destination_fault(scope, &filter.ends),
+        ends_fault(scope, destination_ends(&filter.ends)),
     )
 }
 
@@ -136,7 +108,6 @@ fn addresses_count<'a>(
     alloc: Global,
     addresses: &'a Addresses,
 ) -> Result<usize, NoMemory>
-    requires { AreSound scope.now.variables.now }
     ensures { IfOk result (λ count. count ≡ counted (addresses_count (ifaces_of_scope scope.now) (env_of_scope scope.now) addresses.now)) }
 {
     match listed_addresses(addresses) {
@@ -150,7 +121,6 @@ fn ports_count<'a>(
     alloc: Global,
     ports: &'a Option<Values>,
 ) -> Result<usize, NoMemory>
-    requires { AreSound scope.now.variables.now }
     ensures { IfOk result (λ count. count ≡ counted (ports_count (ifaces_of_scope scope.now) (env_of_scope scope.now) ports.now)) }
 {
     match ports {
@@ -164,7 +134,6 @@ fn part_count<'a>(
     alloc: Global,
     part: &'a Option<Boxed<ProtoPart>>,
 ) -> Result<usize, NoMemory>
-    requires { AreSound scope.now.variables.now }
     ensures { IfOk result (λ count. count ≡ counted (part_count (ifaces_of_scope scope.now) (env_of_scope scope.now) part.now)) }
 {
     match part {
@@ -177,54 +146,24 @@ fn part_count<'a>(
 fn ends_count<'a>(
     scope: &Scope<'_, 'a, '_>,
     alloc: Global,
-    ends: &'a Ends,
+    ends: Option<&'a EndsTree>,
 ) -> Result<usize, NoMemory>
-    requires { AreSound scope.now.variables.now }
-    ensures { IfOk result (λ count. count ≡ counted (ends_count (ifaces_of_scope scope.now) (env_of_scope scope.now) (Some ends.now))) }
+    ensures { IfOk result (λ count. count ≡ counted (ends_count (ifaces_of_scope scope.now) (env_of_scope scope.now) (option_map (λ written. written.now) ends.entry))) }
 {
     match ends {
-        Ends::Addresses {
-            addresses,
-            ports,
-            ..
-        } => {
+        None => Ok(0),
+        Some(
+            EndsTree::Addresses {
+                addresses,
+                ports,
+                ..
+            },
+        ) => {
             let of_addresses = addresses_count(scope, alloc, addresses)?;
             let of_ports = ports_count(scope, alloc, ports)?;
             Ok(counted_both(of_addresses, of_ports))
         }
-        Ends::Ports { ports, .. } => scope.count(alloc, listed_values(ports)),
-    }
-}
-
-fn source_count<'a>(
-    scope: &Scope<'_, 'a, '_>,
-    alloc: Global,
-    ends: &'a Where,
-) -> Result<usize, NoMemory>
-    requires { AreSound scope.now.variables.now }
-    ensures { IfOk result (λ count. count ≡ counted (ends_count (ifaces_of_scope scope.now) (env_of_scope scope.now) (source_ends ends.now))) }
-{
-    match ends {
-        Where::From { from, .. } => ends_count(scope, alloc, from.get()),
-        _ => Ok(0),
-    }
-}
-
-fn destination_count<'a>(
-    scope: &Scope<'_, 'a, '_>,
-    alloc: Global,
-    ends: &'a Where,
-) -> Result<usize, NoMemory>
-    requires { AreSound scope.now.variables.now }
-    ensures { IfOk result (λ count. count ≡ counted (ends_count (ifaces_of_scope scope.now) (env_of_scope scope.now) (destination_ends ends.now))) }
-{
-    match ends {
-        Where::All { .. } => Ok(0),
-        Where::From { to, .. } => match to {
-            Some(to) => ends_count(scope, alloc, to.get()),
-            None => Ok(0),
-        },
-        Where::To { to, .. } => ends_count(scope, alloc, to.get()),
+        Some(EndsTree::Ports { ports, .. }) => scope.count(alloc, listed_values(ports)),
     }
 }
 
@@ -235,12 +174,11 @@ pub(crate) fn filter_count<'a>(
     alloc: Global,
     filter: &'a Filter,
 ) -> Result<usize, NoMemory>
-    requires { AreSound scope.now.variables.now }
     ensures { IfOk result (λ count. count ≡ counted (filter_count (ifaces_of_scope scope.now) (env_of_scope scope.now) filter.now)) }
 {
     let of_part = part_count(scope, alloc, &filter.proto)?;
-    let of_source = source_count(scope, alloc, &filter.ends)?;
-    let of_destination = destination_count(scope, alloc, &filter.ends)?;
+    let of_source = ends_count(scope, alloc, source_ends(&filter.ends))?;
+    let of_destination = ends_count(scope, alloc, destination_ends(&filter.ends))?;
     Ok(counted_both(counted_both(of_part, of_source), of_destination))
 }
 
@@ -249,7 +187,6 @@ fn address_items<'a>(
     alloc: Global,
     addresses: &'a Addresses,
 ) -> Result<Option<List<AddrItem>>, NoMemory>
-    requires { AreSound scope.now.variables.now }
     ensures { IfOk result (λ items. items
         ≡ address_items (ifaces_of_scope scope.now) (env_of_scope scope.now) (declared_of_scope scope.now).tables addresses.now) }
 {
@@ -268,7 +205,6 @@ fn ports_of<'a>(
     alloc: Global,
     ports: &'a Option<Values>,
 ) -> Result<Option<List<(u16, u16)>>, NoMemory>
-    requires { AreSound scope.now.variables.now }
     ensures { IfOk result (λ all. all ≡ ports_of (ifaces_of_scope scope.now) (env_of_scope scope.now) ports.now) }
 {
     match ports {
@@ -282,7 +218,6 @@ fn listed_ports<'a>(
     alloc: Global,
     ports: &'a Values,
 ) -> Result<List<(u16, u16)>, NoMemory>
-    requires { AreSound scope.now.variables.now }
     ensures { IfOk result (λ all. Some all ≡ ports_of (ifaces_of_scope scope.now) (env_of_scope scope.now) (Some ports.now)) }
 {
     let atoms = scope.atoms(alloc, listed_values(ports))?;
@@ -295,7 +230,6 @@ fn protocols_of<'a>(
     alloc: Global,
     part: &'a Option<Boxed<ProtoPart>>,
 ) -> Result<List<u8>, NoMemory>
-    requires { AreSound scope.now.variables.now }
     ensures { IfOk result (λ all. all ≡ part_protocols (ifaces_of_scope scope.now) (env_of_scope scope.now) part.now) }
 {
     match part {
@@ -309,7 +243,6 @@ fn listed_protocols<'a>(
     alloc: Global,
     ones: &'a [One],
 ) -> Result<List<u8>, NoMemory>
-    requires { AreSound scope.now.variables.now }
     ensures { IfOk result (λ all. all ≡ filter_map protocol_of (flat_map (λ one. atoms_of (one_binding (env_of_scope scope.now) one)) ones.now)) }
 {
     let atoms = scope.atoms_of_ones(alloc, ones)?;
@@ -320,56 +253,26 @@ fn listed_protocols<'a>(
 fn ends_of<'a>(
     scope: &Scope<'_, 'a, '_>,
     alloc: Global,
-    ends: &'a Ends,
+    ends: Option<&'a EndsTree>,
 ) -> Result<ModelEnds, NoMemory>
-    requires { AreSound scope.now.variables.now }
-    ensures { IfOk result (λ all. all ≡ ends_of_written (ifaces_of_scope scope.now) (env_of_scope scope.now) (declared_of_scope scope.now).tables (Some ends.now)) }
+    ensures { IfOk result (λ all. all ≡ ends_of_written (ifaces_of_scope scope.now) (env_of_scope scope.now) (declared_of_scope scope.now).tables (option_map (λ written. written.now) ends.entry)) }
 {
     match ends {
-        Ends::Addresses {
-            addresses,
-            ports,
-            ..
-        } => Ok(ModelEnds {
+        None => Ok(any_ends()),
+        Some(
+            EndsTree::Addresses {
+                addresses,
+                ports,
+                ..
+            },
+        ) => Ok(ModelEnds {
             addrs: address_items(scope, alloc, addresses)?,
             ports: ports_of(scope, alloc, ports)?,
         }),
-        Ends::Ports { ports, .. } => Ok(ModelEnds {
+        Some(EndsTree::Ports { ports, .. }) => Ok(ModelEnds {
             addrs: None,
             ports: Some(listed_ports(scope, alloc, ports)?),
         }),
-    }
-}
-
-fn source_of<'a>(
-    scope: &Scope<'_, 'a, '_>,
-    alloc: Global,
-    ends: &'a Where,
-) -> Result<ModelEnds, NoMemory>
-    requires { AreSound scope.now.variables.now }
-    ensures { IfOk result (λ all. all ≡ ends_of_written (ifaces_of_scope scope.now) (env_of_scope scope.now) (declared_of_scope scope.now).tables (source_ends ends.now)) }
-{
-    match ends {
-        Where::From { from, .. } => ends_of(scope, alloc, from.get()),
-        _ => Ok(any_ends()),
-    }
-}
-
-fn destination_of<'a>(
-    scope: &Scope<'_, 'a, '_>,
-    alloc: Global,
-    ends: &'a Where,
-) -> Result<ModelEnds, NoMemory>
-    requires { AreSound scope.now.variables.now }
-    ensures { IfOk result (λ all. all ≡ ends_of_written (ifaces_of_scope scope.now) (env_of_scope scope.now) (declared_of_scope scope.now).tables (destination_ends ends.now)) }
-{
-    match ends {
-        Where::All { .. } => Ok(any_ends()),
-        Where::From { to, .. } => match to {
-            Some(to) => ends_of(scope, alloc, to.get()),
-            None => Ok(any_ends()),
-        },
-        Where::To { to, .. } => ends_of(scope, alloc, to.get()),
     }
 }
 
@@ -379,12 +282,11 @@ pub(crate) fn filter_rule<'a>(
     alloc: Global,
     filter: &'a Filter,
 ) -> Result<Rule, NoMemory>
-    requires { AreSound scope.now.variables.now }
     ensures { IfOk result (λ rule. rule ≡ filter_rule (ifaces_of_scope scope.now) (env_of_scope scope.now) (declared_of_scope scope.now).tables filter.now) }
 {
     let protos = protocols_of(scope, alloc, &filter.proto)?;
-    let from = source_of(scope, alloc, &filter.ends)?;
-    let to = destination_of(scope, alloc, &filter.ends)?;
+    let from = ends_of(scope, alloc, source_ends(&filter.ends))?;
+    let to = ends_of(scope, alloc, destination_ends(&filter.ends))?;
     Ok(Rule {
         decision: Decision::Pass,
         state: StateOpt::Not,
@@ -399,6 +301,29 @@ pub(crate) fn filter_rule<'a>(
         to,
         procedure: None,
     })
+}
+
+// What is written of the source, if anything is.
+fn source_ends(ends: &Where) -> Option<&EndsTree>
+    ensures { option_map (λ written. written.now) result ≡ source_ends ends.now }
+{
+    match ends {
+        Where::From { from, .. } => Some(from.get()),
+        _ => None,
+    }
+}
+
+fn destination_ends(ends: &Where) -> Option<&EndsTree>
+    ensures { option_map (λ written. written.now) result ≡ destination_ends ends.now }
+{
+    match ends {
+        Where::All { .. } => None,
+        Where::From { to, .. } => match to {
+            Some(to) => Some(to.get()),
+            None => None,
+        },
+        Where::To { to, .. } => Some(to.get()),
+    }
 }
 
 fn any_ends() -> ModelEnds

@@ -4,7 +4,6 @@ ghost use Rattle.std.specs.Option.{option_map};
 ghost use Rattle.npf_faults.specs.First.{first_fault};
 ghost use Rattle.npf_expand_values.specs.Declarations.{table_number};
 ghost use Rattle.npf_expand_values.specs.Iface.{on_iface};
-ghost use Rattle.npf_expand_values.specs.Kept.{AreSound};
 ghost use Rattle.npf_expand.specs.Group.{group_of_tree, head_faults, item_elements, item_faults, item_of_tree, items_elements, items_faults};
 ghost use Rattle.npf_expand.specs.Meets.{Meets};
 ghost use Rattle.npf_expand.specs.Rule.{dir_of, filter_count, on_faults, rule_faults, rule_of_tree};
@@ -13,13 +12,13 @@ ghost use Rattle.npf_types.specs.Named.{named};
 ghost use Rattle.npf_expand_values.specs.Scope.{declared_of_scope, env_of_scope, ifaces_of_scope};
 
 use crate::filter::{filter_count, filter_fault, filter_rule};
-use crate::met::Met;
+use crate::met::NodeTally;
 use crate::rule::{decision_of, dir_of, state_of};
 use crate::text::text_of;
 use npf_expand_values::{Scope, name_of};
 use npf_faults::{ConfFault, earlier};
 use npf_model::{Group, Item, OnIf, Rule};
-use npf_syntax::{Boxed, Direction, GroupHead, Iface, Item as WrittenItem, RuleTree, Str};
+use npf_syntax::{Boxed, Direction, GroupHead, IfaceTree, ItemTree as WrittenItem, RuleTree, Str};
 use npf_types::{List, NoMemory};
 use std::alloc::Global;
 
@@ -27,11 +26,10 @@ use std::alloc::Global;
 pub(crate) fn read_group<'a>(
     scope: &Scope<'_, 'a, '_>,
     alloc: Global,
-    met: &mut Met,
+    met: &mut NodeTally,
     head: &'a GroupHead,
     items: &'a [WrittenItem],
 ) -> Result<Group, NoMemory>
-    requires { AreSound scope.now.variables.now }
     ensures met { OnOk result (Meets met.old met.new
         (head_faults (ifaces_of_scope scope.now) (env_of_scope scope.now) (declared_of_scope scope.now) head.now
         ++ items_faults (ifaces_of_scope scope.now) (env_of_scope scope.now) (declared_of_scope scope.now) met.old.elements items.now)
@@ -51,7 +49,6 @@ fn group_of<'a>(
     head: &'a GroupHead,
     items: List<Item>,
 ) -> Result<Group, NoMemory>
-    requires { AreSound scope.now.variables.now }
     ensures { IfOk result (λ group. group ≡ record
         (group_of_tree (ifaces_of_scope scope.now) (env_of_scope scope.now) (declared_of_scope scope.now) head.now []) { items = items }) }
 {
@@ -74,7 +71,6 @@ fn group_of<'a>(
 }
 
 fn head_fault<'a>(scope: &Scope<'_, 'a, '_>, head: &'a GroupHead) -> Option<ConfFault>
-    requires { AreSound scope.now.variables.now }
     ensures { result ≡ first_fault (head_faults (ifaces_of_scope scope.now) (env_of_scope scope.now) (declared_of_scope scope.now) head.now) }
 {
     match head {
@@ -86,10 +82,9 @@ fn head_fault<'a>(scope: &Scope<'_, 'a, '_>, head: &'a GroupHead) -> Option<Conf
 fn read_items<'a>(
     scope: &Scope<'_, 'a, '_>,
     alloc: Global,
-    met: &mut Met,
+    met: &mut NodeTally,
     items: &'a [WrittenItem],
 ) -> Result<List<Item>, NoMemory>
-    requires { AreSound scope.now.variables.now }
     ensures met { OnOk result (Meets met.old met.new
         (items_faults (ifaces_of_scope scope.now) (env_of_scope scope.now) (declared_of_scope scope.now) met.old.elements items.now)
         (items_elements (ifaces_of_scope scope.now) (env_of_scope scope.now) (declared_of_scope scope.now) items.now)) }
@@ -107,11 +102,10 @@ fn read_items<'a>(
 fn read_item<'a>(
     scope: &Scope<'_, 'a, '_>,
     alloc: Global,
-    met: &mut Met,
+    met: &mut NodeTally,
     built: &mut Vec<Item>,
     item: &'a WrittenItem,
 ) -> Result<(), NoMemory>
-    requires { AreSound scope.now.variables.now }
     ensures met { OnOk result (Meets met.old met.new
         (item_faults (ifaces_of_scope scope.now) (env_of_scope scope.now) (declared_of_scope scope.now) met.old.elements item.now)
         (item_elements (ifaces_of_scope scope.now) (env_of_scope scope.now) (declared_of_scope scope.now) item.now)) }
@@ -143,8 +137,7 @@ fn add_rule<'a>(
     built: &mut Vec<Item>,
     rule: &'a RuleTree,
 ) -> Result<(), NoMemory>
-    requires sound { AreSound scope.now.variables.now }
-    requires few { filter_count (ifaces_of_scope scope.now) (env_of_scope scope.now) rule.now.filter ≤ MAX_LIST_ELEMENTS }
+    requires { filter_count (ifaces_of_scope scope.now) (env_of_scope scope.now) rule.now.filter ≤ MAX_LIST_ELEMENTS }
     ensures { OnOk result (built.new.items ≡ built.old.items
         ++ Item.One (rule_of_tree (ifaces_of_scope scope.now) (env_of_scope scope.now) (declared_of_scope scope.now) rule.now) ∷ []) }
 {
@@ -157,9 +150,8 @@ fn ruleset_of<'a>(
     alloc: Global,
     name: &Str,
     dir: &Option<Direction>,
-    on: &'a Option<Boxed<Iface>>,
+    on: &'a Option<Boxed<IfaceTree>>,
 ) -> Item
-    requires { AreSound scope.now.variables.now }
     ensures { result ≡ Item.Dynamic (named name.now.text) (option_map dir_of dir.now)
         (option_map (on_iface (ifaces_of_scope scope.now) (env_of_scope scope.now)) on.now) 1 [] }
 {
@@ -172,8 +164,7 @@ fn ruleset_of<'a>(
     }
 }
 
-fn on_fault<'a>(scope: &Scope<'_, 'a, '_>, on: &'a Option<Boxed<Iface>>) -> Option<ConfFault>
-    requires { AreSound scope.now.variables.now }
+fn on_fault<'a>(scope: &Scope<'_, 'a, '_>, on: &'a Option<Boxed<IfaceTree>>) -> Option<ConfFault>
     ensures { result ≡ first_fault (on_faults (ifaces_of_scope scope.now) (env_of_scope scope.now) on.now) }
 {
     match on {
@@ -182,8 +173,7 @@ fn on_fault<'a>(scope: &Scope<'_, 'a, '_>, on: &'a Option<Boxed<Iface>>) -> Opti
     }
 }
 
-fn on_of<'a>(scope: &Scope<'_, 'a, '_>, on: &'a Option<Boxed<Iface>>) -> Option<OnIf>
-    requires { AreSound scope.now.variables.now }
+fn on_of<'a>(scope: &Scope<'_, 'a, '_>, on: &'a Option<Boxed<IfaceTree>>) -> Option<OnIf>
     ensures { result ≡ option_map (on_iface (ifaces_of_scope scope.now) (env_of_scope scope.now)) on.now }
 {
     match on {
@@ -195,7 +185,6 @@ fn on_of<'a>(scope: &Scope<'_, 'a, '_>, on: &'a Option<Boxed<Iface>>) -> Option<
 /// The first fault of a rule, but for the number of its elements.
 #[tactic(auto, using(npf_expand_values::proofs::FaultLemmas::both_faults))]
 pub(crate) fn rule_fault<'a>(scope: &Scope<'_, 'a, '_>, rule: &'a RuleTree) -> Option<ConfFault>
-    requires { AreSound scope.now.variables.now }
     ensures { result ≡ first_fault (rule_faults (ifaces_of_scope scope.now) (env_of_scope scope.now) rule.now) }
 {
     earlier(on_fault(scope, &rule.on), filter_fault(scope, &rule.filter))
@@ -206,7 +195,6 @@ pub(crate) fn rule_of<'a>(
     alloc: Global,
     tree: &'a RuleTree,
 ) -> Result<Rule, NoMemory>
-    requires { AreSound scope.now.variables.now }
     ensures { IfOk result (λ rule. rule ≡ rule_of_tree (ifaces_of_scope scope.now) (env_of_scope scope.now) (declared_of_scope scope.now) tree.now) }
 {
     let mut rule = filter_rule(scope, alloc, &tree.filter)?;

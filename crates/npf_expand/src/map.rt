@@ -4,7 +4,6 @@ ghost use Rattle.std.specs.Option.{option_map};
 ghost use Rattle.npf_types.specs.declared.limits.TheConstants.{MAX_LIST_ELEMENTS};
 ghost use Rattle.npf_faults.specs.First.{first_fault};
 ghost use Rattle.npf_expand_values.specs.Atom.{kept_atom};
-ghost use Rattle.npf_expand_values.specs.Kept.{AreSound};
 ghost use Rattle.npf_expand_values.specs.Variable.{binding_of};
 ghost use Rattle.npf_expand_values.specs.Protocol.{one_protocol, one_protocol_faults};
 ghost use Rattle.npf_expand_values.specs.Scope.{declared_of_scope, env_of_scope, ifaces_of_scope};
@@ -18,26 +17,27 @@ use crate::filter::{filter_count, filter_fault, filter_rule};
 use npf_expand_values::{Atom, Role, Scope, block_of};
 use npf_faults::{ConfFault, earlier};
 use npf_model::{Algo, Arrow, Map, Rule, Side as ModelSide};
-use npf_syntax::{Arrow as Sign, Boxed, Filter, Iface, MapKind, One, Side, Value, Word};
+use npf_syntax::{
+    ArrowTree as Sign, Boxed, Filter, IfaceTree, MapKind, One, SideTree, Value, Word,
+};
 use npf_types::{Addr, NoMemory, Prefix};
 use std::alloc::Global;
 
 /// The parts of a map's line.
 #[derive(Clone, Copy)]
 pub(crate) struct MapLine<'a> {
-    pub(crate) iface: &'a Iface,
+    pub(crate) iface: &'a IfaceTree,
     pub(crate) kind: &'a MapKind,
     pub(crate) proto: &'a Option<Boxed<One>>,
-    pub(crate) left: &'a Side,
+    pub(crate) left: &'a SideTree,
     pub(crate) arrow: Sign,
-    pub(crate) right: &'a Side,
+    pub(crate) right: &'a SideTree,
     pub(crate) pass: &'a Option<Boxed<Filter>>,
 }
 
 /// The first fault of a map, but for the number of its filter's elements.
 #[tactic(auto, using(npf_expand_values::proofs::FaultLemmas::both_faults))]
 pub(crate) fn map_fault<'a>(scope: &Scope<'_, 'a, '_>, line: &MapLine<'a>) -> Option<ConfFault>
-    requires { AreSound scope.now.variables.now }
     ensures { result ≡ first_fault (map_faults (ifaces_of_scope scope.now) (env_of_scope scope.now)
         line.now.iface.now line.now.proto.now line.now.left.now line.now.right.now line.now.pass.now) }
 {
@@ -58,8 +58,7 @@ pub(crate) fn map_of<'a>(
     alloc: Global,
     line: &MapLine<'a>,
 ) -> Result<Map, NoMemory>
-    requires sound { AreSound scope.now.variables.now }
-    requires few { filter_elements (ifaces_of_scope scope.now) (declared_of_scope scope.now) (env_of_scope scope.now) line.now.pass.now
+    requires { filter_elements (ifaces_of_scope scope.now) (declared_of_scope scope.now) (env_of_scope scope.now) line.now.pass.now
         ≤ MAX_LIST_ELEMENTS }
     ensures { IfOk result (λ map. map ≡ map_of_tree (ifaces_of_scope scope.now) (env_of_scope scope.now) (declared_of_scope scope.now).tables
         line.now.iface.now line.now.kind.now line.now.proto.now line.now.left.now line.now.arrow line.now.right.now line.now.pass.now) }
@@ -80,7 +79,6 @@ fn one_protocol_fault<'a>(
     scope: &Scope<'_, 'a, '_>,
     proto: &'a Option<Boxed<One>>,
 ) -> Option<ConfFault>
-    requires { AreSound scope.now.variables.now }
     ensures { result ≡ first_fault (one_protocol_faults (env_of_scope scope.now) proto.now) }
 {
     match proto {
@@ -90,7 +88,6 @@ fn one_protocol_fault<'a>(
 }
 
 fn side_port_fault<'a>(scope: &Scope<'_, 'a, '_>, port: &'a Option<Value>) -> Option<ConfFault>
-    requires { AreSound scope.now.variables.now }
     ensures { result ≡ first_fault (side_port_faults (ifaces_of_scope scope.now) (env_of_scope scope.now) port.now) }
 {
     match port {
@@ -100,8 +97,7 @@ fn side_port_fault<'a>(scope: &Scope<'_, 'a, '_>, port: &'a Option<Value>) -> Op
 }
 
 #[tactic(auto, using(npf_expand_values::proofs::FaultLemmas::both_faults))]
-fn side_fault<'a>(scope: &Scope<'_, 'a, '_>, side: &'a Side) -> Option<ConfFault>
-    requires { AreSound scope.now.variables.now }
+fn side_fault<'a>(scope: &Scope<'_, 'a, '_>, side: &'a SideTree) -> Option<ConfFault>
     ensures { result ≡ first_fault (side_faults (ifaces_of_scope scope.now) (env_of_scope scope.now) side.now) }
 {
     earlier(
@@ -114,7 +110,6 @@ fn map_filter_fault<'a>(
     scope: &Scope<'_, 'a, '_>,
     pass: &'a Option<Boxed<Filter>>,
 ) -> Option<ConfFault>
-    requires { AreSound scope.now.variables.now }
     ensures { result ≡ first_fault (map_filter_faults (ifaces_of_scope scope.now) (env_of_scope scope.now) pass.now) }
 {
     match pass {
@@ -129,7 +124,6 @@ pub(crate) fn pass_count<'a>(
     alloc: Global,
     pass: &'a Option<Boxed<Filter>>,
 ) -> Result<usize, NoMemory>
-    requires { AreSound scope.now.variables.now }
     ensures { IfOk result (λ count. count ≡ counted (filter_elements (ifaces_of_scope scope.now) (declared_of_scope scope.now) (env_of_scope scope.now) pass.now)) }
 {
     match pass {
@@ -143,7 +137,6 @@ fn map_filter<'a>(
     alloc: Global,
     pass: &'a Option<Boxed<Filter>>,
 ) -> Result<Option<Rule>, NoMemory>
-    requires { AreSound scope.now.variables.now }
     ensures { IfOk result (λ rule. rule ≡ option_map (filter_rule (ifaces_of_scope scope.now) (env_of_scope scope.now) (declared_of_scope scope.now).tables) pass.now) }
 {
     match pass {
@@ -154,7 +147,6 @@ fn map_filter<'a>(
 
 #[tactic(auto, using(crate::proofs::FirstAtom::first_protocol_is))]
 fn one_protocol<'a>(scope: &Scope<'_, 'a, '_>, proto: &'a Option<Boxed<One>>) -> Option<u8>
-    requires { AreSound scope.now.variables.now }
     ensures { result ≡ one_protocol (env_of_scope scope.now) proto.now }
 {
     let Some(one) = proto else {
@@ -168,7 +160,6 @@ fn one_protocol<'a>(scope: &Scope<'_, 'a, '_>, proto: &'a Option<Boxed<One>>) ->
 
 #[tactic(auto, using(crate::proofs::FirstAtom::first_port_is))]
 fn side_port<'a>(scope: &Scope<'_, 'a, '_>, port: &'a Option<Value>) -> Option<(u16, u16)>
-    requires { AreSound scope.now.variables.now }
     ensures { result ≡ side_port (ifaces_of_scope scope.now) (env_of_scope scope.now) port.now }
 {
     let Some(value) = port else {
@@ -182,7 +173,6 @@ fn side_port<'a>(scope: &Scope<'_, 'a, '_>, port: &'a Option<Value>) -> Option<(
 
 #[tactic(auto, using(crate::proofs::FirstAtom::first_block_is))]
 fn side_net<'a>(scope: &Scope<'_, 'a, '_>, value: &'a Value) -> Prefix
-    requires { AreSound scope.now.variables.now }
     ensures { result ≡ first_block (atoms_of (binding_of (ifaces_of_scope scope.now) (env_of_scope scope.now) value.now)) }
 {
     match scope.first_of_value(value) {
@@ -191,8 +181,7 @@ fn side_net<'a>(scope: &Scope<'_, 'a, '_>, value: &'a Value) -> Prefix
     }
 }
 
-fn side_of<'a>(scope: &Scope<'_, 'a, '_>, side: &'a Side) -> ModelSide
-    requires { AreSound scope.now.variables.now }
+fn side_of<'a>(scope: &Scope<'_, 'a, '_>, side: &'a SideTree) -> ModelSide
     ensures { result ≡ side_of (ifaces_of_scope scope.now) (env_of_scope scope.now) side.now }
 {
     ModelSide {

@@ -14,19 +14,19 @@ use npf_types::limits::MAX_LIST_ELEMENTS;
 /// The fault that stands first, and how many elements there are: at most one more than all lists may have, and no more than they
 /// may where no fault was met.
 #[derive(Clone, Copy)]
-pub(crate) struct Met {
+pub(crate) struct NodeTally {
     pub(crate) first: Option<ConfFault>,
     pub(crate) elements: usize,
     ghost few: { first ≡ None → elements ≤ MAX_LIST_ELEMENTS },
 }
 
-impl Met {
+impl NodeTally {
     ghost use Rattle.npf_expand.specs.Meets.{Meets};
 
-    pub(crate) fn none() -> Met
+    pub(crate) fn none() -> NodeTally
         ensures { (result.first ≡ None) × (result.elements ≡ 0) }
     {
-        Met {
+        NodeTally {
             first: None,
             elements: 0,
         }

@@ -4,7 +4,7 @@ ghost use Rattle.std.specs.Option.{option_map};
 ghost use Rattle.npf_expand.specs.Rule.{as_byte, decision_of, dir_of, flag_bit, flag_bits, flags_of_detail, icmp_of_detail, is_inet6, mask_bits, return_of, state_of_words};
 
 use npf_model::StateOpt;
-use npf_syntax::{Answer, Detail, Direction, Family, Number, RuleAction, Stateful, Word};
+use npf_syntax::{BlockReturn, Detail, Direction, Family, Number, RuleAction, Stateful, Word};
 use npf_types::{Decision, Dir, Return};
 
 pub(crate) fn decision_of(action: &RuleAction) -> Decision
@@ -16,14 +16,14 @@ pub(crate) fn decision_of(action: &RuleAction) -> Decision
     }
 }
 
-fn return_of(answer: &Option<Answer>) -> Return
+fn return_of(answer: &Option<BlockReturn>) -> Return
     ensures { result ≡ return_of answer.now }
 {
     match answer {
         None => Return::Nothing,
-        Some(Answer::Return { .. }) => Return::Any,
-        Some(Answer::ReturnRst { .. }) => Return::Rst,
-        Some(Answer::ReturnIcmp { .. }) => Return::Icmp,
+        Some(BlockReturn::Return { .. }) => Return::Any,
+        Some(BlockReturn::ReturnRst { .. }) => Return::Rst,
+        Some(BlockReturn::ReturnIcmp { .. }) => Return::Icmp,
     }
 }
 

@@ -1,49 +1,17 @@
 -- How the file of interfaces is read line by line.
-use Rattle.std.proofs.Common.{◌≡◌, ◌≢◌, ◌==◌, ◌<◌, ◌≤◌, ◌+◌, ℕ, zero, suc, Bool, true, false, not, cond, Some, None, List, [], ◌∷◌, ◌++◌, Contains, length, map, take, drop, get_or, position, refl, sym, ap, subst, ◌∙◌, ◌||◌, true≢false, append-nil, Bor, arith}
-use Rattle.std.specs.List.{AllPairs, before_first, filter, onto_first, position_or_len, slice_split}
-use Rattle.std.proofs.lemmas.Bool.{eqb-true, ltb-false}
-use Rattle.std.proofs.lemmas.List.{take_all, take_more, map-append, get_or-map, get_or_default, length-map, take-append-drop, drop_more, length-take-le}
-use Rattle.std.proofs.lemmas.List.Elements.{filter-append}
-use Rattle.std.proofs.lemmas.List.Folds.{list_any-append}
-use Rattle.std.proofs.lemmas.Map.Views.{Contains-from_any, list_any-from_Contains}
-use Rattle.std.proofs.lemmas.List.Quantifiers.{position-Some, all_pairs_push}
-use Rattle.std.proofs.lemmas.List.Splits.{length-slice_split}
-use Rattle.std.proofs.lemmas.List.Sums.{position_or_len_is}
-use Rattle.std.proofs.lemmas.Option.{slice_get_read}
-use Rattle.std.proofs.Math.Seq.{take-suc}
-use Rattle.npf_types.specs.declared.address.Addr.{Addr}
-use Rattle.npf_types.specs.declared.name.Name.{Name}
+use Rattle.std.proofs.Common.{◌≡◌, ◌≢◌, ◌==◌, ◌<◌, ◌≤◌, ◌+◌, ℕ, zero, suc, Bool, true, false, not, cond, List, [], ◌∷◌, ◌++◌, Contains, length, map, take}
+use Rattle.std.proofs.Common.{drop, get_or, refl, sym, ap, subst, ◌∙◌, ◌||◌, true≢false, append-nil, Bor, arith}
+use Rattle.std.{specs.List.{AllPairs, filter, onto_first, slice_split}, proofs.lemmas.Bool.eqb-true}
+use Rattle.std.proofs.lemmas.List.{take_more, map-append, get_or-map, get_or_default, length-map, take-append-drop, drop_more, length-take-le}
+use Rattle.std.proofs.lemmas.{List.{Elements.filter-append, Folds.list_any-append}, Map.Views.{Contains-from_any, list_any-from_Contains}}
+use Rattle.std.proofs.{lemmas.{List.{Quantifiers.all_pairs_push, Splits.length-slice_split}, Option.slice_get_read}, Math.Seq.take-suc}
+use Rattle.npf_types.specs.{declared.{address.Addr.Addr, name.Name.Name}, contracts.name.NameEq.TheImpl.Laws.laws-law, AddressText.IsAddressText}
 use Rattle.npf_types.specs.contracts.name.NamePartialEq.TheImpl as name_eq
-use Rattle.npf_types.specs.contracts.name.NameEq.TheImpl.Laws.{laws-law}
-use Rattle.npf_types.specs.AddressText.{IsAddressText}
 use Rattle.npf_types.proofs.NameLemmas.{Name-same}
-use Rattle.std.specs.Cmp.{IsEquivalence}
-use Rattle.std.specs.List.{list_any}
-use Rattle.std.proofs.lemmas.Bool.{and_parts}
-use Rattle.std.proofs.lemmas.Map.Views.{exact_unsigned_eq}
-use Rattle.std.proofs.lemmas.Slice.Eq.{bytes_eq-Decides}
-use Rattle.std.specs.Str.{bytes_eq}
+use Rattle.std.{specs.{Cmp.IsEquivalence, List.list_any, Str.bytes_eq}, proofs.lemmas.{Bool.and_parts, Map.Views.exact_unsigned_eq, Slice.Eq.bytes_eq-Decides}}
 use Rattle.npf_model.specs.declared.iface.Iface.{Iface}
-use Rattle.npf_faults.specs.declared.fault.ConfFault.{ConfFault}
-use Rattle.npf_faults.specs.declared.fault.Fault.TheVariants.{BadIfaceFile}
+use Rattle.npf_faults.specs.declared.fault.{ConfFault.ConfFault, Fault.TheVariants.BadIfaceFile}
 use Rattle.npf_expand_interfaces.specs.IfaceFile.{Each, AreInterfaces, IsBadBehind, IsFirstBadIfaceLine, IsInterface, bytes_of_lines, has_some, iface_names, line_words, file_lines, written_lines}
-
--- the place that `position` finds ends what stands before it
-pub before_place : (p : ℕ → Bool) (xs : List ℕ) (at : ℕ) → position p xs ≡ Some at → take at xs ≡ before_first p xs
-before_place p xs at found =
-    let is = position-Some p xs at 0 found in
-    let within : at < length xs = is.0 in
-    ap (λ n. take n xs) (sym (position_or_len_is p xs at 0 (omega arith) is.2 (λ _. is.1)))
-
-not_found : {X : Type 0} (b : Bool) (x : X) → cond b (Some x) None ≡ None → b ≡ false
-not_found true x none = cc
-not_found false x none = refl
-
--- where it finds none, all stands before
-pub before_none : (p : ℕ → Bool) (xs : List ℕ) → position p xs ≡ None → xs ≡ before_first p xs
-before_none p xs none =
-    let all : length xs ≤ position_or_len p xs = ltb-false _ _ (not_found _ _ none) in
-    sym (take_all (position_or_len p xs) xs all)
 
 -- one item more at the end of each
 pub Each-push : {X Y : Type 0} (R : X → Y → Type 0) (xs : List X) (ys : List Y) (x : X) (y : Y) → Each R xs ys → R x y

@@ -1,9 +1,5 @@
 -- Lists of faults that have none.
-use Rattle.std.proofs.Common.{◌≡◌, Bool, true, false, List, [], ◌∷◌, ◌++◌, refl, ap, ◌∙◌}
-use Rattle.std.specs.List.{flat_map}
-use Rattle.npf_types.specs.declared.span.Span.{Span}
-use Rattle.npf_faults.specs.declared.fault.Fault.{Fault}
-use Rattle.npf_faults.specs.First.{fault_if}
+use Rattle.std.{proofs.Common.{◌≡◌, List, [], ◌∷◌, ◌++◌, refl, ap, ◌∙◌}, specs.List.flat_map}
 
 module _ {X : Type 0} where
   pub front : (xs ys : List X) → xs ++ ys ≡ [] → xs ≡ []
@@ -30,8 +26,3 @@ pub each_none : {X Y Z : Type 0} (f : X → List Y) (g : X → List Z) → ((x :
 each_none f g same [] none = refl
 each_none f g same (x ∷ xs) none =
     both (g x) (flat_map g xs) (same x (front (f x) (flat_map f xs) none)) (each_none f g same xs (back (f x) (flat_map f xs) none))
-
--- a test that tells no fault doesn't hold
-pub untold : (test : Bool) (span : Span) (fault : Fault) → fault_if test span fault ≡ [] → test ≡ false
-untold true span fault none = cc
-untold false span fault none = refl

@@ -1,25 +1,16 @@
 -- Filters without faults are the same with a longer list of interfaces. The places where values stand have no name outside of
 -- npf_expand, so `search` finds which one it is.
-use Rattle.std.proofs.Common.{◌≡◌, ℕ, ◌+◌, Option, Some, None, List, [], ◌++◌, refl, ap, ◌∙◌}
-use Rattle.std.specs.List.{flat_map, filter_map}
+use Rattle.std.{proofs.Common.{◌≡◌, ℕ, ◌+◌, Option, Some, None, List, [], ◌++◌, refl, ap, ◌∙◌}, specs.List.{flat_map, filter_map}}
 use Rattle.npf_faults.specs.declared.fault.ConfFault.{ConfFault}
-use Rattle.npf_syntax.specs.declared.filter.Addresses.{Addresses}
+use Rattle.npf_syntax.specs.declared.{filter.{Addresses.Addresses, EndsTree.EndsTree as WrittenEnds, Filter.Filter}, value.Values.Values}
 use Rattle.npf_syntax.specs.declared.filter.Addresses.TheVariants as Written
-use Rattle.npf_syntax.specs.declared.filter.Ends.{Ends as WrittenEnds}
-use Rattle.npf_syntax.specs.declared.filter.Ends.TheVariants as EndsAre
-use Rattle.npf_syntax.specs.declared.filter.Filter.{Filter}
-use Rattle.npf_syntax.specs.declared.value.Values.{Values}
-use Rattle.npf_model.specs.declared.ends.AddrItem.{AddrItem}
-use Rattle.npf_model.specs.declared.ends.Ends.{Ends}
-use Rattle.npf_model.specs.declared.iface.Iface.{Iface}
-use Rattle.npf_expand_values.specs.Address.{addresses_count, addresses_faults, address_items, items_of}
-use Rattle.npf_expand_values.specs.Atom.{Binding, Env}
-use Rattle.npf_expand_values.specs.Port.{atom_ports, ports_count, ports_faults, ports_of}
-use Rattle.npf_expand_values.specs.Use.{atoms_of, element_count}
+use Rattle.npf_syntax.specs.declared.filter.EndsTree.TheVariants as EndsAre
+use Rattle.npf_model.specs.declared.{ends.{AddrItem.AddrItem, Ends.Ends}, iface.Iface.Iface}
+use Rattle.npf_expand_values.specs.{Address.{addresses_count, addresses_faults, address_items, items_of}, Atom.{Binding, Env}}
+use Rattle.npf_expand_values.specs.{Port.{atom_ports, ports_count, ports_faults, ports_of}, Use.{atoms_of, element_count}}
 use Rattle.npf_expand_values.specs.Variable.{binding_of, listed_values, spliced}
 use Rattle.npf_expand.specs.Rule.{destination_ends, ends_count, ends_faults, ends_of_written, filter_count, filter_faults, filter_rule, part_count, part_faults, source_ends}
-use Rattle.npf_expand_renumbering.proofs.CleanLemmas.{back, both, front}
-use Rattle.npf_expand_renumbering.proofs.IfaceLemmas.{KeepsAddresses}
+use Rattle.npf_expand_renumbering.proofs.{CleanLemmas.{back, both, front}, IfaceLemmas.KeepsAddresses}
 use Rattle.npf_expand_renumbering.proofs.ValueLemmas.{each_value_none, each_value_same, listed_none, listed_same}
 
 module _ (ifaces longer : List Iface) where

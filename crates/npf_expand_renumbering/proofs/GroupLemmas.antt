@@ -1,25 +1,15 @@
 -- Groups without faults, numbered anew, are what they are with a longer list of interfaces.
-use Rattle.std.proofs.Common.{◌≡◌, ℕ, ◌+◌, Option, List, [], ◌∷◌, ◌++◌, map, refl, ap, ◌∙◌}
-use Rattle.std.specs.Option.{option_map}
+use Rattle.std.{proofs.Common.{◌≡◌, ℕ, ◌+◌, Option, List, [], ◌∷◌, ◌++◌, map, refl, ap, ◌∙◌}, specs.Option.option_map}
 use Rattle.npf_types.specs.Named.{named}
-use Rattle.npf_syntax.specs.declared.group.GroupHead.{GroupHead}
+use Rattle.npf_syntax.specs.declared.group.{GroupHead.GroupHead, ItemTree.ItemTree as WrittenItem}
 use Rattle.npf_syntax.specs.declared.group.GroupHead.TheVariants as Head
-use Rattle.npf_syntax.specs.declared.group.Item.{Item as WrittenItem}
-use Rattle.npf_syntax.specs.declared.group.Item.TheVariants as ItemIs
-use Rattle.npf_model.specs.declared.group.Item.{Item}
-use Rattle.npf_model.specs.declared.group.Item.TheVariants.{One, Dynamic}
-use Rattle.npf_model.specs.declared.iface.Iface.{Iface}
-use Rattle.npf_model.specs.declared.rule.OnIf.{OnIf}
-use Rattle.npf_model.specs.declared.rule.Rule.{Rule}
+use Rattle.npf_syntax.specs.declared.group.ItemTree.TheVariants as ItemIs
+use Rattle.npf_model.specs.declared.{group.Item.{Item, TheVariants.{One, Dynamic}}, iface.Iface.Iface, rule.{OnIf.OnIf, Rule.Rule}}
 use Rattle.npf_model.specs.Numbering.{numbered_group, numbered_item}
-use Rattle.npf_expand_values.specs.Atom.{Env}
-use Rattle.npf_expand_values.specs.Declarations.{Declared}
+use Rattle.npf_expand_values.specs.{Atom.Env, Declarations.Declared}
 use Rattle.npf_expand.specs.Group.{group_of_tree, head_faults, item_elements, item_faults, item_of_tree, items_elements, items_faults}
 use Rattle.npf_expand.specs.Rule.{dir_of, filter_count, passing_faults, rule_faults}
-use Rattle.npf_expand_renumbering.proofs.CleanLemmas.{back, both, front}
-use Rattle.npf_expand_renumbering.proofs.IfaceLemmas.{KeepsAddresses}
-use Rattle.npf_expand_renumbering.proofs.WholeLemmas.{IsWhole}
-use Rattle.npf_expand_renumbering.proofs.FilterLemmas.{IsSame}
+use Rattle.npf_expand_renumbering.proofs.{CleanLemmas.{back, both, front}, IfaceLemmas.KeepsAddresses, WholeLemmas.IsWhole, FilterLemmas.IsSame}
 use Rattle.npf_expand_renumbering.proofs.RuleLemmas.{option_same, rule_same}
 
 module _ (ifaces longer : List Iface) (keeps : KeepsAddresses ifaces longer) (declared : Declared) where

@@ -1,16 +1,12 @@
 -- An interface that has an address that is asked for is the first of its name in a longer list too.
-use Rattle.std.proofs.Common.{◌≡◌, ℕ, Bool, true, false, Option, Some, None, List, [], ◌∷◌, ◌++◌, refl, ap, ◌∙◌, if◌then◌else◌}
-use Rattle.std.specs.List.{filter}
+use Rattle.std.{proofs.Common.{◌≡◌, ℕ, Bool, true, false, Option, Some, None, List, [], ◌∷◌, ◌++◌, refl, ap, ◌∙◌, if◌then◌else◌}, specs.List.filter}
 use Rattle.std.specs.Str.{bytes_eq}
-use Rattle.npf_types.specs.declared.address.Addr.{Addr}
-use Rattle.npf_types.specs.declared.span.Span.{Span}
-use Rattle.npf_types.specs.Name.{name_bytes}
-use Rattle.npf_faults.specs.declared.fault.Fault.TheVariants.{UnknownInterface}
+use Rattle.npf_types.specs.{declared.{address.Addr.Addr, span.Span.Span}, Name.name_bytes}
+use Rattle.npf_faults.specs.{declared.fault.Fault.TheVariants.UnknownInterface, First.fault_if}
 use Rattle.npf_syntax.specs.declared.value.Function.{Function}
 use Rattle.npf_model.specs.declared.iface.Iface.{Iface}
-use Rattle.npf_faults.specs.First.{fault_if}
 use Rattle.npf_expand_values.specs.Iface.{address_faults, addresses_of, addresses_of_first, has_none, is_of}
-use Rattle.npf_expand_renumbering.proofs.CleanLemmas.{untold}
+use Rattle.npf_expand.proofs.ElementLemmas.{untold}
 
 -- the longer list gives the addresses that the shorter one gives
 abbrev pub KeepsAddresses : List Iface → List Iface → Type 0

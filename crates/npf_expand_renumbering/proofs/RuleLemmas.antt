@@ -1,35 +1,17 @@
 -- Rules and maps without faults, numbered anew, are what they are with a longer list of interfaces.
-use Rattle.std.proofs.Common.{◌≡◌, ℕ, Option, Some, None, List, [], ◌++◌, refl, ap, ◌∙◌}
-use Rattle.std.specs.Option.{option_map}
-use Rattle.npf_syntax.specs.declared.filter.Filter.{Filter}
-use Rattle.npf_syntax.specs.declared.map.Arrow.{Arrow as WrittenArrow}
-use Rattle.npf_syntax.specs.declared.map.MapKind.{MapKind}
-use Rattle.npf_syntax.specs.declared.map.Side.{Side as WrittenSide}
-use Rattle.npf_syntax.specs.declared.rule.RuleTree.{RuleTree}
-use Rattle.npf_syntax.specs.declared.value.Iface.{Iface as WrittenIface}
-use Rattle.npf_syntax.specs.declared.value.One.{One}
-use Rattle.npf_syntax.specs.declared.value.Value.{Value}
-use Rattle.npf_model.specs.declared.iface.Iface.{Iface}
-use Rattle.npf_model.specs.declared.map.Map.{Map}
-use Rattle.npf_model.specs.declared.map.Side.{Side}
-use Rattle.npf_model.specs.declared.rule.OnIf.{OnIf}
-use Rattle.npf_model.specs.declared.rule.Rule.{Rule}
+use Rattle.std.{proofs.Common.{◌≡◌, ℕ, Option, Some, None, List, [], ◌++◌, refl, ap, ◌∙◌}, specs.Option.option_map}
+use Rattle.npf_syntax.specs.declared.{filter.Filter.Filter, map.{ArrowTree.ArrowTree as WrittenArrow, MapKind.MapKind, SideTree.SideTree as WrittenSide}}
+use Rattle.npf_syntax.specs.declared.{rule.RuleTree.RuleTree, value.{IfaceTree.IfaceTree as WrittenIface, One.One, Value.Value}}
+use Rattle.npf_model.specs.declared.{iface.Iface.Iface, map.{Map.Map, Side.Side}, rule.{OnIf.OnIf, Rule.Rule}}
 use Rattle.npf_model.specs.Numbering.{numbered_map, numbered_on, numbered_rule}
 use Rattle.npf_types.specs.declared.prefix.Prefix.{Prefix}
-use Rattle.npf_expand_values.specs.Atom.{Binding, Env}
-use Rattle.npf_expand_values.specs.Declarations.{Declared}
-use Rattle.npf_expand_values.specs.Iface.{iface_faults, on_iface}
-use Rattle.npf_expand_values.specs.Protocol.{one_protocol, one_protocol_faults}
-use Rattle.npf_expand_values.specs.Use.{atoms_of}
-use Rattle.npf_expand_values.specs.Variable.{binding_of}
+use Rattle.npf_expand_values.specs.{Atom.{Binding, Env}, Declarations.Declared, Iface.{iface_faults, on_iface}, Protocol.{one_protocol, one_protocol_faults}}
+use Rattle.npf_expand_values.specs.{Use.atoms_of, Variable.binding_of}
 use Rattle.npf_expand.specs.Elaborates.{filter_elements}
 use Rattle.npf_expand.specs.Map.{algo_of, arrow_of_sign, first_block, first_port, map_faults, map_filter_faults, map_of_tree, side_faults, side_of, side_port, side_port_faults}
 use Rattle.npf_expand.specs.Rule.{filter_count, filter_faults, filter_rule, on_faults, rule_faults, rule_of_tree}
-use Rattle.npf_expand_renumbering.proofs.CleanLemmas.{back, both, front}
-use Rattle.npf_expand_renumbering.proofs.IfaceLemmas.{KeepsAddresses}
-use Rattle.npf_expand_renumbering.proofs.ValueLemmas.{single_none, single_same}
-use Rattle.npf_expand_renumbering.proofs.WholeLemmas.{IsWhole, on_same}
-use Rattle.npf_expand_renumbering.proofs.FilterLemmas.{IsSame, as_it_is, filter_same, no_count}
+use Rattle.npf_expand_renumbering.proofs.{CleanLemmas.{back, both, front}, IfaceLemmas.KeepsAddresses, ValueLemmas.{single_none, single_same}}
+use Rattle.npf_expand_renumbering.proofs.{WholeLemmas.{IsWhole, on_same}, FilterLemmas.{IsSame, as_it_is, filter_same, no_count}}
 
 abbrev side_with : Prefix → Option (ℕ × ℕ) → Side
 side_with net ports = record { net = net; ports = ports }

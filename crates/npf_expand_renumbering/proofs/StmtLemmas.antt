@@ -1,28 +1,13 @@
 -- Statements and trees without faults, numbered anew, are what they are with a longer list of interfaces.
-use Rattle.std.proofs.Common.{◌≡◌, ℕ, ◌+◌, List, [], ◌∷◌, ◌++◌, map, refl, sym, ap, ◌∙◌}
-use Rattle.std.specs.List.{flat_map}
-use Rattle.std.proofs.lemmas.List.{map-append}
+use Rattle.std.{proofs.{Common.{◌≡◌, ℕ, ◌+◌, List, [], ◌∷◌, ◌++◌, map, refl, sym, ap, ◌∙◌}, lemmas.List.map-append}, specs.List.flat_map}
 use Rattle.npf_syntax.specs.declared.group.GroupHead.TheVariants as Head
 use Rattle.npf_syntax.specs.declared.stmt.Stmt.{Stmt}
-use Rattle.npf_model.specs.declared.group.Group.{Group}
-use Rattle.npf_model.specs.declared.iface.Iface.{Iface}
-use Rattle.npf_model.specs.declared.map.Map.{Map}
-use Rattle.npf_model.specs.declared.model.Model.{Model}
-use Rattle.npf_model.specs.Numbering.{numbered, numbered_group, numbered_map}
-use Rattle.npf_expand_values.specs.Atom.{Env}
-use Rattle.npf_expand_values.specs.Declarations.{Declared, declared_in}
-use Rattle.npf_expand_values.specs.Variable.{Definition, env_of}
+use Rattle.npf_model.specs.{declared.{group.Group.Group, iface.Iface.Iface, map.Map.Map, model.Model.Model}, Numbering.{numbered, numbered_group, numbered_map}}
+use Rattle.npf_expand_values.specs.{Atom.Env, Declarations.{Declared, declared_in}, Variable.{Definition, env_of}}
 use Rattle.npf_expand.specs.Elaborates.{behind, default_group, filter_elements, gathered, maps_of, named_group, procedures_of, stmt_elements, stmt_faults, stmts_faults}
-use Rattle.npf_expand.specs.Map.{map_faults}
-use Rattle.npf_expand.specs.Rule.{passing_faults}
-use Rattle.npf_expand.specs.Settings.{asks_icmp, settings_of}
-use Rattle.npf_expand.specs.Table.{tables_of}
-use Rattle.npf_expand_renumbering.specs.Renumbers.{Renumbers}
-use Rattle.npf_expand_renumbering.proofs.CleanLemmas.{back, both, front}
-use Rattle.npf_expand_renumbering.proofs.IfaceLemmas.{KeepsAddresses, keeps_addresses}
-use Rattle.npf_expand_renumbering.proofs.ValueLemmas.{definition_none}
-use Rattle.npf_expand_renumbering.proofs.WholeLemmas.{AreClean, IsWhole, env_same, whole_env}
-use Rattle.npf_expand_renumbering.proofs.RuleLemmas.{map_same}
+use Rattle.npf_expand.specs.{Map.map_faults, Rule.passing_faults, Settings.{asks_icmp, settings_of}, Table.tables_of}
+use Rattle.npf_expand_renumbering.{specs.Renumbers.Renumbers, proofs.{CleanLemmas.{back, both, front}, IfaceLemmas.{KeepsAddresses, keeps_addresses}}}
+use Rattle.npf_expand_renumbering.proofs.{ValueLemmas.definition_none, WholeLemmas.{AreClean, IsWhole, env_same, whole_env}, RuleLemmas.map_same}
 use Rattle.npf_expand_renumbering.proofs.GroupLemmas.{group_same}
 
 module _ (ifaces longer : List Iface) (keeps : KeepsAddresses ifaces longer) (declared : Declared) where
@@ -118,7 +103,14 @@ module _ (ifaces longer : List Iface) (keeps : KeepsAddresses ifaces longer) (de
       (stmts_none (behind older stmt) (clean_behind older counted stmt clean alone) next stmts (back here left none))
 
 abbrev model_with : List Group → List Map → List Stmt → Model
-model_with groups maps stmts = record { groups = groups; tables = flat_map tables_of stmts; maps = maps; procedures = flat_map procedures_of stmts; settings = settings_of stmts; alg_icmp = asks_icmp stmts }
+model_with groups maps stmts = record {
+  groups = groups;
+  tables = flat_map tables_of stmts;
+  maps = maps;
+  procedures = flat_map procedures_of stmts;
+  settings = settings_of stmts;
+  alg_icmp = asks_icmp stmts;
+}
 
 pub renumbers_lem : Renumbers
 renumbers_lem tree ifaces more model elaborates =

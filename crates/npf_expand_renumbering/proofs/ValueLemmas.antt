@@ -1,16 +1,13 @@
 -- Values that have no fault are the same with a longer list of interfaces.
-use Rattle.std.proofs.Common.{◌≡◌, Bool, Option, Some, None, List, [], ◌++◌, refl, sym, ap, ◌∙◌}
-use Rattle.std.specs.List.{flat_map}
+use Rattle.std.{proofs.Common.{◌≡◌, Bool, Option, Some, None, List, [], ◌++◌, refl, sym, ap, ◌∙◌}, specs.List.flat_map}
 use Rattle.npf_faults.specs.declared.fault.ConfFault.{ConfFault}
-use Rattle.npf_syntax.specs.declared.value.Value.{Value}
-use Rattle.npf_syntax.specs.declared.value.Values.{Values}
+use Rattle.npf_syntax.specs.declared.value.{Value.Value, Values.Values}
 use Rattle.npf_model.specs.declared.iface.Iface.{Iface}
-use Rattle.npf_expand_values.specs.Atom.{Atom, AddressesAtom, Binding, Env}
-use Rattle.npf_expand_values.specs.Iface.{address_faults, iface_faults, iface_name}
-use Rattle.npf_expand_values.specs.Variable.{bound_faults, single_value_faults, alone_binding, binding_of, defined, definition_faults, each_value_faults, empty_list_faults, is_bound_to_list, is_list, listed_values, own_faults, spliced, unless_refused, value_span}
+use Rattle.npf_expand_values.specs.{Atom.{Atom, AddressesAtom, Binding, Env}, Iface.{address_faults, iface_faults, iface_name}}
+use Rattle.npf_expand_values.specs.Variable.{bound_faults, single_value_faults, alone_binding, binding_of, defined, definition_faults, each_value_faults, empty_list_faults}
+use Rattle.npf_expand_values.specs.Variable.{is_bound_to_list, is_list, listed_values, own_faults, spliced, unless_refused, value_span}
 use Rattle.npf_expand_values.specs.Use.{atoms_of, use_faults}
-use Rattle.npf_expand_renumbering.proofs.CleanLemmas.{back, both, each_none, each_same, front}
-use Rattle.npf_expand_renumbering.proofs.IfaceLemmas.{KeepsAddresses, still_there}
+use Rattle.npf_expand_renumbering.proofs.{CleanLemmas.{back, both, each_none, each_same, front}, IfaceLemmas.{KeepsAddresses, still_there}}
 
 abbrev pub bound : Bool → List Atom → Binding
 bound many atoms = record { many = many; atoms = atoms }

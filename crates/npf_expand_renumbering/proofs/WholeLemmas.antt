@@ -1,28 +1,16 @@
 -- Where no definition has a fault each name that is bound has values, and one where it isn't bound to a list. So an interface
 -- that has no fault has a name.
 use Rattle.std.proofs.Common.{◌≡◌, ℕ, Bool, true, false, not, ◌||◌, Option, Some, None, List, [], ◌∷◌, ◌++◌, refl, sym, ap, ◌∙◌, append-nil, if◌then◌else◌}
-use Rattle.std.proofs.Math.Path.{fun_ext}
-use Rattle.std.specs.List.{flat_map}
-use Rattle.std.specs.Str.{bytes_eq}
-use Rattle.npf_types.specs.declared.span.Span.{Span}
-use Rattle.npf_types.specs.NameText.{is_name}
-use Rattle.npf_faults.specs.declared.fault.ConfFault.{ConfFault}
-use Rattle.npf_faults.specs.declared.fault.Fault.TheVariants.{Expected}
-use Rattle.npf_syntax.specs.declared.value.Iface.{Iface as WrittenIface}
-use Rattle.npf_syntax.specs.declared.value.Iface.TheVariants as IfaceIs
-use Rattle.npf_syntax.specs.declared.value.Value.{Value}
-use Rattle.npf_syntax.specs.declared.value.Values.{Values}
-use Rattle.npf_syntax.specs.declared.word.Var.{Var}
-use Rattle.npf_model.specs.declared.iface.Iface.{Iface}
-use Rattle.npf_model.specs.Numbering.{numbered_on}
-use Rattle.npf_faults.specs.First.{fault_if}
+use Rattle.std.{proofs.Math.Path.fun_ext, specs.{List.flat_map, Str.bytes_eq}}
+use Rattle.npf_types.specs.{declared.span.Span.Span, NameText.is_name}
+use Rattle.npf_faults.specs.{declared.fault.{ConfFault.ConfFault, Fault.TheVariants.Expected}, First.fault_if}
+use Rattle.npf_syntax.specs.declared.{value.{IfaceTree.IfaceTree as WrittenIface, Value.Value, Values.Values}, word.Var.Var}
+use Rattle.npf_syntax.specs.declared.value.IfaceTree.TheVariants as IfaceIs
+use Rattle.npf_model.specs.{declared.iface.Iface.Iface, Numbering.numbered_on}
 use Rattle.npf_expand_values.specs.Atom.{Atom, NumberAtom, RangeAtom, WordAtom, StringAtom, BlockAtom, TableAtom, AddressesAtom, Binding, Env}
-use Rattle.npf_expand_values.specs.Iface.{bound_name, iface_faults, iface_name, name_text, on_iface, on_text}
-use Rattle.npf_expand_values.specs.Use.{atoms_of, undefined_faults}
+use Rattle.npf_expand_values.specs.{Iface.{bound_name, iface_faults, iface_name, name_text, on_iface, on_text}, Use.{atoms_of, undefined_faults}}
 use Rattle.npf_expand_values.specs.Variable.{Definition, binding_of, defined, definition_faults, empty_list_at, env_of, is_bound_to_list, is_list, listed_values, own_faults, spliced}
-use Rattle.npf_expand_renumbering.proofs.CleanLemmas.{front}
-use Rattle.npf_expand_renumbering.proofs.IfaceLemmas.{KeepsAddresses}
-use Rattle.npf_expand_renumbering.proofs.ValueLemmas.{bound, defined_is, defined_same}
+use Rattle.npf_expand_renumbering.proofs.{CleanLemmas.front, IfaceLemmas.KeepsAddresses, ValueLemmas.{bound, defined_is, defined_same}}
 
 -- there are values, and more than one only where a list is
 abbrev pub is_full : Bool → List Atom → Bool

@@ -1,12 +1,9 @@
 -- The first fault of two lists of faults.
 use Rattle.std.proofs.Common.{◌≡◌, true, false, is_some, Option, Some, None, List, [], ◌∷◌, ◌++◌, refl, sym, ap, ◌∙◌, true≢false}
-use Rattle.std.specs.Prelude.{Result, Ok, Err, OnOk}
-use Rattle.npf_faults.specs.declared.fault.ConfFault.{ConfFault}
+use Rattle.std.specs.Prelude.{Result, Ok, Err, OnErr, OnOk}
+use Rattle.npf_faults.{specs.{declared.fault.ConfFault.ConfFault, First.{earlier, first_fault}}, proofs.FirstLemmas.{first_fault-append, no_first_fault}}
 use Rattle.npf_model.specs.declared.iface.Iface.{Iface}
-use Rattle.npf_faults.specs.First.{earlier, first_fault}
-use Rattle.npf_faults.proofs.FirstLemmas.{first_fault-append, no_first_fault}
-use Rattle.npf_expand_values.specs.Atom.{Atom}
-use Rattle.npf_expand_values.specs.Variable.{unless_refused}
+use Rattle.npf_expand_values.{specs.{Atom.Atom, Variable.unless_refused}, proofs.PlaceLemmas.none_there}
 
 pub first_of_both : (xs ys : List ConfFault) (a b : Option ConfFault) → a ≡ first_fault xs → b ≡ first_fault ys → earlier a b ≡ first_fault (xs ++ ys)
 first_of_both xs ys a b one other = ap (λ o. earlier o b) one ∙ ap (earlier (first_fault xs)) other ∙ sym (first_fault-append xs ys)
@@ -19,22 +16,18 @@ pub refused : (ifaces : List Iface) (faults : List ConfFault) (fault : Option Co
     → [] ≡ unless_refused ifaces faults atoms
 refused ifaces faults fault atoms is some = refused_by ifaces faults atoms (sym (ap is_some is) ∙ some)
 
-none_of : {X : Type 0} (o : Option X) → is_some o ≡ false → o ≡ None
-none_of None none = refl
-none_of (Some _) none = cc
-
 pub not_refused : (ifaces : List Iface) (faults : List ConfFault) (fault : Option ConfFault) (atoms : List Atom) → fault ≡ first_fault faults → is_some fault ≡ false
     → atoms ≡ unless_refused ifaces faults atoms
-not_refused ifaces faults fault atoms is none = sym (ap (λ fs. unless_refused ifaces fs atoms) (no_first_fault faults (sym is ∙ none_of fault none)))
-
-pub both_faults : (xs ys : List ConfFault) → first_fault (xs ++ ys) ≡ earlier (first_fault xs) (first_fault ys)
-both_faults xs ys = first_fault-append xs ys
+not_refused ifaces faults fault atoms is none = sym (ap (λ fs. unless_refused ifaces fs atoms) (no_first_fault faults (sym is ∙ none_there fault none)))
 
 pub some_or_none : {X : Type 0} (o : Option X) → is_some o ≡ true → o ≡ None → ⊥
 some_or_none None some none = true≢false (sym some)
 some_or_none (Some x) some none = true≢false (ap is_some none)
 
--- what holds where a call goes well holds of what follows from it
-pub on_ok : {T E : Type 0} (P Q : Type 0) (r : Result T E) → (P → Q) → OnOk r P → OnOk r Q
-on_ok P Q (Ok v) f is = f is
-on_ok P Q (Err e) f is = is
+pub both_faults : (xs ys : List ConfFault) → first_fault (xs ++ ys) ≡ earlier (first_fault xs) (first_fault ys)
+both_faults xs ys = first_fault-append xs ys
+
+-- what follows both where a call goes well and where it doesn't
+pub either_way : {T E : Type 0} (P Q R : Type 0) (r : Result T E) → (P → R) → (Q → R) → OnOk r P → OnErr r Q → R
+either_way P Q R (Ok v) well ill is other = well is
+either_way P Q R (Err e) well ill is other = ill other

@@ -1,24 +1,11 @@
 -- An interface's place among the interfaces is that of its name among their names.
 use Rattle.std.proofs.Common.{◌≡◌, ◌+◌, ◌<◌, length, ℕ, suc, Bool, true, false, Option, Some, None, List, [], ◌∷◌, get_or, map, if◌then◌else◌, refl, sym, ap, ◌∙◌, true≢false, arith}
-use Rattle.std.proofs.lemmas.List.{get_or-map, get_or_default, length-map}
-use Rattle.std.specs.Option.{option_map}
-use Rattle.std.specs.Str.{bytes_eq}
-use Rattle.std.proofs.lemmas.Slice.Eq.{bytes_eq-Decides}
-use Rattle.std.proofs.lemmas.Bool.{false_from_ne_true}
-use Rattle.npf_types.specs.declared.name.Name.{Name}
-use Rattle.npf_types.specs.Name.{name_bytes}
-use Rattle.npf_model.specs.declared.iface.Iface.{Iface}
-use Rattle.npf_types.specs.declared.interface.IfId.{IfId}
-use Rattle.npf_model.specs.Numbering.{is_named, number_of_name, number_of_place}
-use Rattle.npf_model.specs.Verdict.{first_where}
-use Rattle.std.specs.List.{filter}
-use Rattle.npf_types.specs.declared.address.Addr.{Addr}
-use Rattle.npf_types.specs.declared.address.Addr.TheVariants.{V4, V6}
-use Rattle.npf_types.specs.declared.span.Span.{Span}
+use Rattle.std.{proofs.lemmas.{List.{get_or-map, get_or_default, length-map}, Slice.Eq.bytes_eq-Decides}, specs.{Option.option_map, Str.bytes_eq}}
+use Rattle.std.{proofs.lemmas.Bool.false_from_ne_true, specs.List.filter}
+use Rattle.npf_types.specs.{declared.{name.Name.Name, interface.IfId.IfId, address.Addr.{Addr, TheVariants.{V4, V6}}, span.Span.Span}, Name.name_bytes}
+use Rattle.npf_model.specs.{declared.iface.Iface.Iface, Numbering.{is_named, number_of_name, number_of_place}, Verdict.first_where}
 use Rattle.npf_syntax.specs.declared.value.Function.{Function}
-use Rattle.npf_expand_values.specs.declared.iface.Families.{Families}
-use Rattle.npf_expand_values.specs.Iface.{addresses_of_first, is_of}
-use Rattle.npf_expand_values.specs.Parted.{AreParted, iface_texts, is_v4, is_v6}
+use Rattle.npf_expand_values.specs.{declared.iface.Families.Families, Iface.{addresses_of_first, is_of}, Parted.{AreParted, iface_texts, is_v4, is_v6}}
 
 bytes_eq-flip : (xs ys : List ℕ) (b : Bool) → bytes_eq xs ys ≡ b → bytes_eq ys xs ≡ b
 bytes_eq-flip xs ys true is = (bytes_eq-Decides ys xs).1 (sym ((bytes_eq-Decides xs ys).0 is))

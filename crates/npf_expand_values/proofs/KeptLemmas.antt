@@ -1,28 +1,18 @@
 -- What is kept of definitions, by their places, and what stays where one more stands behind them.
-use Rattle.std.proofs.Common.{◌≡◌, ◌<◌, ◌≤◌, ◌+◌, ℕ, Bool, true, false, Option, Some, None, List, [], ◌∷◌, ◌++◌, All, length, reverse, get_or, refl, sym, ap, subst, ◌∙◌, inl, inr, ◌⊎◌, append-nil, map, take, arith}
-use Rattle.std.specs.Prelude.{slice_get, if◌then◌else◌}
-use Rattle.std.specs.HashMap.{get_by}
-use Rattle.std.specs.Str.{bytes_eq}
-use Rattle.std.specs.List.{cons_option, filter_map, flat_map}
-use Rattle.std.specs.Option.{option_map, option_or}
+use Rattle.std.proofs.Common.{◌≡◌, ◌<◌, ◌≤◌, ◌+◌, ℕ, Bool, true, false, Option, Some, None, List, [], ◌∷◌, ◌++◌, All, length, reverse, get_or}
+use Rattle.std.{proofs.Common.{refl, sym, ap, subst, ◌∙◌, inl, inr, ◌⊎◌, append-nil, map, take, arith}, specs.Prelude.{slice_get, if◌then◌else◌}}
+use Rattle.std.specs.{HashMap.get_by, Str.bytes_eq, List.{cons_option, filter_map, flat_map}, Option.{option_map, option_or}}
 use Rattle.std.proofs.lemmas.Grind.{flat_map-append}
 use Rattle.std.proofs.lemmas.List.{length-reverse, length_push, map-append, reverse-append, reverse-reverse, take_more, get_or_append_left}
-use Rattle.std.proofs.lemmas.List.Elements.{All-append, All-weaker, All-head, All-push, All-tail}
-use Rattle.std.proofs.lemmas.Option.{slice_get_within, slice_get-get_or}
+use Rattle.std.proofs.lemmas.{List.Elements.{All-append, All-weaker, All-head, All-push, All-tail}, Option.{slice_get_within, slice_get-get_or}}
 use Rattle.std.proofs.Math.Seq.{get_or-append_seam}
-use Rattle.npf_expand_values.specs.declared.atom.Atom.{Atom as Kept}
-use Rattle.npf_expand_values.specs.declared.summary.Summary.{Summary}
-use Rattle.npf_expand_values.specs.declared.variable.Bound.{Bound}
-use Rattle.npf_expand_values.specs.declared.variable.Def.{Def}
-use Rattle.npf_expand_values.specs.declared.variable.Part.{Part}
-use Rattle.npf_expand_values.specs.declared.variable.Part.TheVariants.{Single, Defined}
-use Rattle.npf_expand_values.specs.declared.variable.Spliced.{Spliced}
-use Rattle.npf_expand_values.specs.declared.variable.Variables.{Variables}
+use Rattle.npf_shelf.proofs.OptionLemmas.{Some-injective}
+use Rattle.npf_expand_values.specs.declared.{atom.Atom.Atom as Kept, summary.Summary.Summary, variable.{Bound.Bound, Def.Def, Part.Part}}
+use Rattle.npf_expand_values.specs.declared.variable.{Part.TheVariants.{Single, Defined}, Spliced.Spliced, Variables.Variables}
 use Rattle.npf_expand_values.specs.Atom.{Atom, Binding, kept_atom}
-use Rattle.npf_expand_values.specs.Kept.{AreDefs, AreKeptBy, AreKeptIn, AreSound, AreSpliced, IsBound, IsDefBehind, IsOfFirst, at_place, bindings_of, def_binding, env_in, first_atom, kept_parts, known, part_atoms, parts_atoms}
-use Rattle.npf_expand_values.specs.Summary.{joined_summary, summary_of}
-use Rattle.npf_expand_values.specs.Use.{atoms_of}
-use Rattle.npf_expand_values.proofs.SummaryLemmas.{summary_of-append}
+use Rattle.npf_expand_values.specs.Kept.{AreDefs, AreKeptBy, AreKeptIn, AreSpliced, IsBound, IsDefBehind, IsOfFirst, bindings_of}
+use Rattle.npf_expand_values.specs.{Kept.{def_binding, first_atom, kept_parts, part_atoms, parts_atoms}, Scope.{at_place, env_in, known}}
+use Rattle.npf_expand_values.{specs.{Summary.{joined_summary, summary_of}, Use.atoms_of}, proofs.SummaryLemmas.summary_of-append}
 
 pub slice_get-kept : {X : Type 0} (xs : List X) (x : X) (i : ℕ) → i < length xs → slice_get (xs ++ x ∷ []) i ≡ slice_get xs i
 slice_get-kept xs x i within =
@@ -96,16 +86,13 @@ def_at_last older newest is =
 below_or : (n m : ℕ) → n < m + 1 → (n < m) ⊎ (n ≡ m)
 below_or n m below = grind arith
 
-same_some : {X : Type 0} (x y : X) → Some x ≡ Some y → x ≡ y
-same_some x y same = cc
-
 def_at_or : (older : List Def) (newest : Def) (place : ℕ) (def : Def) → IsDefBehind (bindings_of older) newest → slice_get (reverse older ++ newest ∷ []) place ≡ Some def
     → ((slice_get (reverse older) place ≡ Some def) → IsDefAt (bindings_of older) place def) → (place < length older) ⊎ (place ≡ length older)
     → IsDefAt (bindings_of (newest ∷ older)) place def
 def_at_or older newest place def behind there earlier (inl below) = def_at-more (bindings_of older) _ place def (earlier
     (sym (slice_get-kept (reverse older) newest place (subst (λ n. place < n) (sym (length-reverse older)) below)) ∙ there))
 def_at_or older newest place def behind there earlier (inr last) =
-    let same : newest ≡ def = same_some newest def (sym (slice_get-pushed (reverse older) newest)
+    let same : newest ≡ def = Some-injective newest def (sym (slice_get-pushed (reverse older) newest)
     ∙ ap (slice_get (reverse older ++ newest ∷ [])) (length-reverse older ∙ sym last) ∙ there) in
     subst (IsDefAt (bindings_of (newest ∷ older)) place) same
     (subst (λ n. IsDefAt (bindings_of (newest ∷ older)) n newest) (sym last) (def_at_last older newest behind))
@@ -118,9 +105,9 @@ def_at (newest ∷ older) place def are there =
     def_at_or older newest place def are.0 at (def_at older place def are.1) (below_or place (length older) below)
 
 -- the same, of variables
-pub known_at : (variables : Variables) (place : ℕ) (def : Def) → AreSound variables → slice_get variables.defs.items place ≡ Some def → IsDefAt (known variables) place def
-known_at variables place def sound there =
-    def_at (reverse variables.defs.items) place def sound.defs
+pub known_at : (variables : Variables) (place : ℕ) (def : Def) → slice_get variables.defs.items place ≡ Some def → IsDefAt (known variables) place def
+known_at variables place def there =
+    def_at (reverse variables.defs.items) place def variables.behind
     (subst (λ (defs : List Def). slice_get defs place ≡ Some def) (sym (reverse-reverse variables.defs.items)) there)
 
 pub length-known : (variables : Variables) → length (known variables) ≡ length variables.defs.items
@@ -171,39 +158,39 @@ at_place-kept : (bindings : List Binding) (more : Binding) (place : Option ℕ) 
 at_place-kept bindings more None within = refl
 at_place-kept bindings more (Some k) within = slice_get-kept bindings more k (within k refl)
 
--- one definition more, the latest of its name
-module _ (variables next : Variables) (name : List ℕ) (def : Def) (sound : AreSound variables)
-    (pushed : next.defs.items ≡ variables.defs.items ++ def ∷ [])
-    (put : (text : List ℕ) → get_by (λ key. bytes_eq text key.now) next.latest
-    ≡ (if bytes_eq name text then Some (length variables.defs.items) else get_by (λ key. bytes_eq text key.now) variables.latest)) where
-  known_next : known next ≡ known variables ++ def_binding (known variables) def ∷ []
-  known_next = ap (λ (defs : List Def). bindings_of (reverse defs)) pushed ∙ known-put variables.defs.items def
+-- one definition more
+module _ (variables : Variables) (def : Def) (defs : List Def) (pushed : defs ≡ variables.defs.items ++ def ∷ []) where
+  pub pushed_behind : IsDefBehind (known variables) def → AreDefs (reverse defs)
+  pushed_behind behind = subst AreDefs (sym (ap (λ (l : List Def). reverse l) pushed ∙ reverse-append variables.defs.items (def ∷ []))) (behind, variables.behind)
 
-  within_known : (text : List ℕ) (k : ℕ) → get_by (λ key. bytes_eq text key.now) variables.latest ≡ Some k → k < length (known variables)
-  within_known text k there = subst (λ n. k < n) (sym (length-known variables)) (sound.within text k there)
+  pub pushed_within : (k : ℕ) → k < length variables.defs.items + 1 → k < length defs
+  pushed_within k below = subst (λ n. k < n) (sym (ap length pushed ∙ length_push variables.defs.items def)) below
 
-  bound_by : (text : List ℕ) (b : Bool) (place : Option ℕ) → place ≡ (if b then Some (length variables.defs.items) else get_by (λ key. bytes_eq text key.now) variables.latest)
-      → at_place (known variables ++ def_binding (known variables) def ∷ []) place ≡ (if b then Some (def_binding (known variables) def) else env_in variables text)
-  bound_by text true place is = ap (at_place (known variables ++ def_binding (known variables) def ∷ [])) (is ∙ ap Some (sym (length-known variables)))
-      ∙ slice_get-pushed (known variables) (def_binding (known variables) def)
-  bound_by text false place is = ap (at_place (known variables ++ def_binding (known variables) def ∷ [])) is
-      ∙ at_place-kept (known variables) (def_binding (known variables) def) _ (within_known text)
+  -- the latest of its name
+  module _ (name : List ℕ) (place : List ℕ → Option ℕ) (put : (text : List ℕ) → place text
+      ≡ (if bytes_eq name text then Some (length variables.defs.items) else get_by (λ key. bytes_eq text key.now) variables.latest)) where
+    within_known : (text : List ℕ) (k : ℕ) → get_by (λ key. bytes_eq text key.now) variables.latest ≡ Some k → k < length (known variables)
+    within_known text k there = subst (λ n. k < n) (sym (length-known variables)) (variables.within text k there)
 
-  pub put_bound : (text : List ℕ) → env_in next text ≡ (if bytes_eq name text then Some (def_binding (known variables) def) else env_in variables text)
-  put_bound text = ap (λ (bindings : List Binding). at_place bindings (get_by (λ key. bytes_eq text key.now) next.latest)) known_next
-      ∙ bound_by text (bytes_eq name text) _ (put text)
+    bound_by : (text : List ℕ) (b : Bool) (place : Option ℕ) → place ≡ (if b then Some (length variables.defs.items) else get_by (λ key. bytes_eq text key.now) variables.latest)
+        → at_place (known variables ++ def_binding (known variables) def ∷ []) place ≡ (if b then Some (def_binding (known variables) def) else env_in variables text)
+    bound_by text true place is = ap (at_place (known variables ++ def_binding (known variables) def ∷ [])) (is ∙ ap Some (sym (length-known variables)))
+        ∙ slice_get-pushed (known variables) (def_binding (known variables) def)
+    bound_by text false place is = ap (at_place (known variables ++ def_binding (known variables) def ∷ [])) is
+        ∙ at_place-kept (known variables) (def_binding (known variables) def) _ (within_known text)
 
-  within_by : (text : List ℕ) (k : ℕ) (b : Bool) → (if b then Some (length variables.defs.items) else get_by (λ key. bytes_eq text key.now) variables.latest) ≡ Some k
-      → k < length variables.defs.items + 1
-  within_by text k true there = let same : length variables.defs.items ≡ k = same_some _ k there in omega (arith, same)
-  within_by text k false there = let below = sound.within text k there in omega (arith, below)
+    pub put_bound : (text : List ℕ) → at_place (bindings_of (reverse defs)) (place text)
+        ≡ (if bytes_eq name text then Some (def_binding (known variables) def) else env_in variables text)
+    put_bound text = ap (λ (bindings : List Binding). at_place bindings (place text)) (ap (λ (l : List Def). bindings_of (reverse l)) pushed ∙ known-put variables.defs.items def)
+        ∙ bound_by text (bytes_eq name text) _ (put text)
 
-  pub put_sound : IsDefBehind (known variables) def → AreSound next
-  put_sound behind = record {
-    defs = subst AreDefs (sym (ap (λ (defs : List Def). reverse defs) pushed ∙ reverse-append variables.defs.items (def ∷ []))) (behind, sound.defs);
-    within = λ text k there. subst (λ n. k < n) (sym (ap length pushed ∙ length_push variables.defs.items def))
-        (within_by text k (bytes_eq name text) (sym (put text) ∙ there));
-  }
+    within_by : (text : List ℕ) (k : ℕ) (b : Bool) → (if b then Some (length variables.defs.items) else get_by (λ key. bytes_eq text key.now) variables.latest) ≡ Some k
+        → k < length variables.defs.items + 1
+    within_by text k true there = let same : length variables.defs.items ≡ k = Some-injective _ k there in omega (arith, same)
+    within_by text k false there = let below = variables.within text k there in omega (arith, below)
+
+    pub put_within : (text : List ℕ) (k : ℕ) → place text ≡ Some k → k < length defs
+    put_within text k there = pushed_within k (within_by text k (bytes_eq name text) (sym (put text) ∙ there))
 
 -- parts, the last of which is replaced by those of its definition
 pub last_of_first : (count : ℕ) (front : List Part) (last : Part) → All (IsOfFirst count) (front ++ last ∷ []) → IsOfFirst count last

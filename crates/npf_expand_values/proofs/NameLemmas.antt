@@ -1,8 +1,6 @@
 -- The name that stands for texts that are none.
 use Rattle.std.proofs.Common.{◌≡◌, ℕ, Bool, true, false, List, [], ◌∷◌, refl}
-use Rattle.npf_types.specs.NameText.{is_name}
-use Rattle.npf_types.specs.Named.{named, name_where}
-use Rattle.npf_types.proofs.NameLemmas.{Name-same}
+use Rattle.npf_types.{specs.{NameText.is_name, Named.{named, name_where}}, proofs.NameLemmas.Name-same}
 
 pub no_name : (text : List ℕ) → is_name text ≡ false → named text ≡ named (97 ∷ [])
 no_name text off = by (is_name text) refl off where

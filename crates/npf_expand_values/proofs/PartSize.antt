@@ -1,13 +1,8 @@
 -- A size of parts, which falls where a part is replaced by those of its definition: they name older definitions.
-use Rattle.std.proofs.Common.{◌≡◌, ◌<◌, ◌≤◌, ◌+◌, ◌*◌, ◌^◌, ℕ, suc, List, [], ◌∷◌, ◌++◌, All, length, get_or, sym, ap, subst, ◌∙◌, arith}
-use Rattle.std.specs.List.{sum_by}
-use Rattle.std.proofs.Math.Nat.{mul-le-mul_right, one-le-pow, pow-le-pow_right, pow-succ'}
-use Rattle.std.proofs.lemmas.List.Elements.{All-weaker}
+use Rattle.std.{proofs.Common.{◌≡◌, ◌<◌, ◌≤◌, ◌+◌, ◌*◌, ◌^◌, ℕ, suc, List, [], ◌∷◌, ◌++◌, All, length, get_or, sym, ap, subst, ◌∙◌, arith}, specs.List.sum_by}
+use Rattle.std.proofs.{Math.Nat.{mul-le-mul_right, one-le-pow, pow-le-pow_right, pow-succ'}, lemmas.List.Elements.All-weaker}
 use Rattle.std.proofs.lemmas.List.Sums.{get_or-le-sum_by, sum_by-append, sum_by-le}
-use Rattle.npf_expand_values.specs.declared.variable.Def.{Def}
-use Rattle.npf_expand_values.specs.declared.variable.Part.{Part}
-use Rattle.npf_expand_values.specs.declared.variable.Part.TheVariants.{Single, Defined}
-use Rattle.npf_expand_values.specs.Kept.{IsOfFirst, kept_parts}
+use Rattle.npf_expand_values.specs.{declared.variable.{Def.Def, Part.{Part, TheVariants.{Single, Defined}}}, Kept.{IsOfFirst, kept_parts}}
 
 abbrev parts_of : Def → ℕ
 parts_of def = length (kept_parts def.values)
@@ -35,7 +30,8 @@ def_smaller defs place def within is older =
     let power = most ^ place in
     let few : parts_of def ≤ sum_by parts_of defs = subst (λ (d : Def). parts_of d ≤ sum_by parts_of defs) (sym is) (get_or-le-sum_by parts_of defs place def within) in
     let some : 0 < most = omega arith in
-    let each = sum_by-le (part_size most) power (kept_parts def.values) (All-weaker (IsOfFirst place) (λ part. part_size most part ≤ power) (λ part. small_part most place part some) (kept_parts def.values) older) in
+    let each = sum_by-le (part_size most) power (kept_parts def.values)
+    (All-weaker (IsOfFirst place) (λ part. part_size most part ≤ power) (λ part. small_part most place part some) (kept_parts def.values) older) in
     let positive : 1 ≤ power = one-le-pow place most some in
     let product : (parts_of def + 1) * power ≤ most * power = mul-le-mul_right power (let e : parts_of def + 1 ≤ most = omega (arith, few) in e) in
     let next : most ^ (place + 1) ≡ most * power = ap (λ n. most ^ n) (let e : place + 1 ≡ suc place = omega arith in e) ∙ pow-succ' most place in

@@ -1,10 +1,7 @@
 -- Where a name first stands among names, and among those with one more.
-use Rattle.std.proofs.Common.{◌≡◌, ◌+◌, ◌<◌, ℕ, Bool, true, false, is_some, Option, Some, None, List, [], ◌∷◌, ◌++◌, length, get_or, map, take, if◌then◌else◌, refl, sym, ap, subst, true≢false, ◌∙◌, arith}
-use Rattle.std.specs.Option.{option_or}
-use Rattle.std.proofs.lemmas.Bool.{false_from_ne_true}
-use Rattle.std.proofs.lemmas.List.{get_or-map, length-map, take_more}
-use Rattle.std.specs.Str.{bytes_eq}
-use Rattle.std.proofs.lemmas.Slice.Eq.{bytes_eq-Decides}
+use Rattle.std.proofs.Common.{◌≡◌, ◌+◌, ◌<◌, ℕ, Bool, true, false, is_some, Option, Some, None, List, [], ◌∷◌, ◌++◌, length, get_or, map}
+use Rattle.std.{proofs.{Common.{take, if◌then◌else◌, refl, sym, ap, subst, true≢false, ◌∙◌, arith}, lemmas.Bool.false_from_ne_true}, specs.Option.option_or}
+use Rattle.std.{proofs.lemmas.{List.{get_or-map, length-map, take_more}, Slice.Eq.bytes_eq-Decides}, specs.Str.bytes_eq}
 use Rattle.npf_model.specs.Verdict.{first_where}
 
 pub first_where-push : {X : Type 0} (test : X → Bool) (n : ℕ) (xs : List X) (x : X)

@@ -1,18 +1,9 @@
 -- What becomes of values, one behind the other, is what becomes of each, joined.
-use Rattle.std.proofs.Common.{◌≡◌, ℕ, ◌+◌, Bool, Option, List, ◌++◌, ap, ◌∙◌, arith}
-use Rattle.std.specs.List.{flat_map}
-use Rattle.std.proofs.lemmas.Grind.{flat_map-append}
-use Rattle.std.proofs.lemmas.List.Folds.{list_any-append}
-use Rattle.std.proofs.lemmas.List.Sums.{sum_by-append}
-use Rattle.npf_faults.specs.declared.fault.ConfFault.{ConfFault}
-use Rattle.npf_faults.specs.First.{first_fault}
-use Rattle.npf_faults.proofs.FirstLemmas.{first_fault-append}
-use Rattle.npf_expand_values.specs.declared.role.Role.{Role}
-use Rattle.npf_expand_values.specs.declared.role.Role.TheVariants.{AsPort, AsAddress, AsProtocol, AsInterface}
-use Rattle.npf_expand_values.specs.declared.summary.Fate.{Fate}
-use Rattle.npf_expand_values.specs.declared.summary.Summary.{Summary}
-use Rattle.npf_expand_values.specs.Atom.{Atom}
-use Rattle.npf_expand_values.specs.Summary.{counted, fate_of, joined_summary, joined_fate, summary_of}
+use Rattle.std.{proofs.{Common.{◌≡◌, ℕ, ◌+◌, Bool, Option, List, ◌++◌, ap, ◌∙◌, arith}, lemmas.Grind.flat_map-append}, specs.List.flat_map}
+use Rattle.std.proofs.lemmas.List.{Folds.list_any-append, Sums.sum_by-append}
+use Rattle.npf_faults.{specs.{declared.fault.ConfFault.ConfFault, First.first_fault}, proofs.FirstLemmas.first_fault-append}
+use Rattle.npf_expand_values.specs.declared.{role.Role.{Role, TheVariants.{AsPort, AsAddress, AsProtocol, AsInterface}}, summary.{Fate.Fate, Summary.Summary}}
+use Rattle.npf_expand_values.specs.{Atom.Atom, Summary.{counted, fate_of, joined_summary, joined_fate, summary_of}}
 use Rattle.npf_expand_values.specs.Use.{count_of, element_count, is_unfit, word_faults}
 
 abbrev fate : Bool → Option ConfFault → Fate
@@ -25,8 +16,8 @@ fate_of-append : (role : Role) (xs ys : List Atom) → fate_of role (xs ++ ys) �
 fate_of-append role xs ys = same_fate _ _ _ _ (list_any-append (is_unfit role) xs ys)
     (ap first_fault (flat_map-append (word_faults role) xs ys) ∙ first_fault-append (flat_map (word_faults role) xs) (flat_map (word_faults role) ys))
 
-pub counted-both : (a b : ℕ) → counted (a + b) ≡ counted (counted a + counted b)
-counted-both a b = omega arith
+pub counted_of_both : (a b : ℕ) → counted (a + b) ≡ counted (counted a + counted b)
+counted_of_both a b = omega arith
 
 abbrev summary : ℕ → Fate → Fate → Fate → Fate → Summary
 summary count port address protocol interface = record { count = count; port = port; address = address; protocol = protocol; interface = interface }
@@ -36,8 +27,5 @@ same_summary n m p q a b r s i j same_count same_port same_address same_protocol
 
 pub summary_of-append : (xs ys : List Atom) → summary_of (xs ++ ys) ≡ joined_summary (summary_of xs) (summary_of ys)
 summary_of-append xs ys = same_summary _ _ _ _ _ _ _ _ _ _
-    (ap counted (sum_by-append count_of xs ys) ∙ counted-both (element_count xs) (element_count ys))
+    (ap counted (sum_by-append count_of xs ys) ∙ counted_of_both (element_count xs) (element_count ys))
     (fate_of-append AsPort xs ys) (fate_of-append AsAddress xs ys) (fate_of-append AsProtocol xs ys) (fate_of-append AsInterface xs ys)
-
-pub counted_of_both : (a b : ℕ) → counted (a + b) ≡ counted (counted a + counted b)
-counted_of_both a b = counted-both a b

@@ -14,6 +14,7 @@ pub data Atom : Type 0 where
   BlockAtom : (addr : Addr) (len : Option ℕ) → Atom
   TableAtom : (name : List ℕ) → Atom
   AddressesAtom : (addrs : List Addr) → Atom
+  deriving IsSet as Atom-set
 
 -- what a name is bound to: its values, and whether they are a list. Only a name whose definition is refused is bound to none.
 pub record Binding : Type 0 where

@@ -11,8 +11,8 @@ use Rattle.npf_types.specs.NameText.{is_name}
 use Rattle.npf_faults.specs.declared.fault.ConfFault.{ConfFault}
 use Rattle.npf_faults.specs.declared.fault.Fault.TheVariants.{UnknownInterface}
 use Rattle.npf_syntax.specs.declared.value.Function.{Function}
-use Rattle.npf_syntax.specs.declared.value.Iface.{Iface as WrittenIface}
-use Rattle.npf_syntax.specs.declared.value.Iface.TheVariants as IfaceIs
+use Rattle.npf_syntax.specs.declared.value.IfaceTree.{IfaceTree as WrittenIface}
+use Rattle.npf_syntax.specs.declared.value.IfaceTree.TheVariants as IfaceIs
 use Rattle.npf_model.specs.declared.iface.Iface.{Iface}
 use Rattle.npf_model.specs.declared.rule.OnIf.{OnIf}
 use Rattle.npf_model.specs.Numbering.{number_of_name}

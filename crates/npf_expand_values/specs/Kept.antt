@@ -1,10 +1,10 @@
 -- What the code keeps, and no part of what the language means: in place of the values of a variable in a list the place of its definition, so
 -- that nothing is spliced before it is used.
-use Rattle.std.specs.Prelude.{◌≡◌, ◌<◌, ◌≤◌, ℕ, false, Option, Some, None, List, [], ◌∷◌, ◌++◌, All, length, reverse, slice_get}
-use Rattle.std.specs.HashMap.{get_by}
+use Rattle.std.specs.Prelude.{◌≡◌, ◌<◌, ◌≤◌, ℕ, false, Option, Some, None, List, [], ◌∷◌, ◌++◌, All, length, slice_get}
+use Rattle.std.specs.Coded.{×_prop, Unit-prop, le_prop}
 use Rattle.std.specs.List.{flat_map}
 use Rattle.std.specs.Option.{option_map}
-use Rattle.std.specs.Str.{bytes_eq}
+use Rattle.std.proofs.Props.{props}
 use Rattle.npf_expand_values.specs.declared.atom.Atom.{Atom as Kept}
 use Rattle.npf_expand_values.specs.declared.summary.Summary.{Summary}
 use Rattle.npf_expand_values.specs.declared.variable.Bound.{Bound}
@@ -14,8 +14,7 @@ use Rattle.npf_expand_values.specs.declared.variable.DefValues.TheVariants.{Noth
 use Rattle.npf_expand_values.specs.declared.variable.Part.{Part}
 use Rattle.npf_expand_values.specs.declared.variable.Part.TheVariants.{Single, Defined}
 use Rattle.npf_expand_values.specs.declared.variable.Spliced.{Spliced}
-use Rattle.npf_expand_values.specs.declared.variable.Variables.{Variables}
-use Rattle.npf_expand_values.specs.Atom.{Atom, Binding, Env, kept_atom}
+use Rattle.npf_expand_values.specs.Atom.{Atom, Atom-set, Binding, kept_atom}
 use Rattle.npf_expand_values.specs.Summary.{summary_of}
 use Rattle.npf_expand_values.specs.Use.{atoms_of}
 
@@ -73,9 +72,27 @@ pub record IsDefBehind (bindings : List Binding) (def : Def) : Type 0 where
   pub kept : AreKeptIn def.values (parts_atoms bindings (kept_parts def.values))
   pub alone : def.many ≡ false → length (parts_atoms bindings (kept_parts def.values)) ≤ 1
 
+-- each definition is behind those before it; of the definitions the newest stands first
 abbrev pub AreDefs : List Def → Type 0
 AreDefs [] = Unit {0}
 AreDefs (newest ∷ older) = IsDefBehind (bindings_of older) newest × AreDefs older
+
+IsOfFirst-prop : (count : ℕ) (part : Part) → IsProp (IsOfFirst count part)
+IsOfFirst-prop count (Single atom) = Unit-prop
+IsOfFirst-prop count (Defined place) = le_prop
+
+AreKeptIn-prop : (values : DefValues) (atoms : List Atom) → IsProp (AreKeptIn values atoms)
+AreKeptIn-prop Nothing atoms = Prim.hlevel (Atom-set, props)
+AreKeptIn-prop (One atom) atoms = Prim.hlevel (Atom-set, props)
+AreKeptIn-prop (Many values) atoms = Prim.hlevel (Atom-set, props)
+
+IsDefBehind-prop : (bindings : List Binding) (def : Def) → IsProp (IsDefBehind bindings def)
+IsDefBehind-prop bindings def = Prim.hlevel (IsOfFirst-prop, AreKeptIn-prop, props)
+
+-- definitions are so in one way
+pub AreDefs-prop : (defs : List Def) → IsProp (AreDefs defs)
+AreDefs-prop [] = Unit-prop
+AreDefs-prop (newest ∷ older) = ×_prop (IsDefBehind-prop (bindings_of older) newest) (AreDefs-prop older)
 
 -- what is known of a value that is bound so
 pub record IsBound (bindings : List Binding) (bound : Bound) (binding : Binding) : Type 0 where
@@ -89,21 +106,3 @@ abbrev pub IsBoundWhere : List Binding → Option Bound → Option Binding → T
 IsBoundWhere bindings None None = Unit {0}
 IsBoundWhere bindings (Some bound) (Some binding) = IsBound bindings bound binding
 IsBoundWhere bindings _ _ = ⊥
-
--- what the definitions so far bind
-abbrev pub known : Variables → List Binding
-known variables = bindings_of (reverse variables.defs.items)
-
-abbrev pub at_place : List Binding → Option ℕ → Option Binding
-at_place bindings None = None
-at_place bindings (Some place) = slice_get bindings place
-
--- what names are bound to
-abbrev pub env_in : Variables → Env
-env_in variables text = at_place (known variables) (get_by (λ name. bytes_eq text name.now) variables.latest)
-
--- each definition is behind those before it, and a name's latest one is there
-pub record AreSound (variables : Variables) : Type 0 where
-  pub defs : AreDefs (reverse variables.defs.items)
-  pub within : (text : List ℕ) → (place : ℕ) → get_by (λ name. bytes_eq text name.now) variables.latest ≡ Some place
-      → place < length variables.defs.items

@@ -3,15 +3,14 @@ ghost use Rattle.std.specs.Prelude.{◌≡◌, ◌+◌, ◌<◌, IfOk, Some, get
 ghost use Rattle.std.specs.List.{filter};
 ghost use Rattle.npf_types.specs.declared.address.Addr.{Addr};
 ghost use Rattle.npf_model.specs.declared.iface.Iface.{Iface};
-ghost use Rattle.npf_model.specs.Numbering.{number_of_name, number_of_place};
+ghost use Rattle.npf_model.specs.Numbering.{number_of_name};
 ghost use Rattle.npf_expand_values.specs.Iface.{addresses_of, is_of};
 ghost use Rattle.npf_expand_values.specs.Parted.{AreParted, iface_texts, is_v4, is_v6};
 ghost use Rattle.npf_expand_values.specs.Place.{ArePlaces};
 
 use crate::place::Places;
-use npf_model::Iface;
+use npf_model::{Iface, number_of_place};
 use npf_syntax::Function;
-use npf_types::limits::MAX_INTERFACES;
 use npf_types::{Addr, IfId, Name, NoMemory};
 use std::alloc::{AllocError, Global};
 
@@ -52,8 +51,8 @@ impl<'a> Interfaces<'a> {
         ensures { result ≡ record { 0 = number_of_name self.now.list.now name.now } }
     {
         match self.places.place(name.as_bytes()) {
-            Some(place) => numbered(place),
-            None => IfId(0),
+            Some(place) => number_of_place(place + 1),
+            None => IfId::UNKNOWN,
         }
     }
 
@@ -127,14 +126,4 @@ fn is_v4(addr: &Addr) -> bool
     ensures { result ≡ is_v4 addr.now }
 {
     matches!(addr, Addr::V4(_))
-}
-
-fn numbered(place: usize) -> IfId
-    ensures { result ≡ record { 0 = number_of_place (Some (place + 1)) } }
-{
-    if place < MAX_INTERFACES {
-        IfId(place as u16 + 1)
-    } else {
-        IfId(0)
-    }
 }

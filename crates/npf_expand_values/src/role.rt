@@ -1,3 +1,5 @@
+// What a value is written for, in a rule or a map.
+
 /// Where a value stands, which says what it may be.
 #[derive(Clone, Copy, Debug, PartialEq, Eq)]
 pub enum Role {

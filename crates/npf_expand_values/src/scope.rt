@@ -5,7 +5,7 @@ ghost use Rattle.std.specs.Option.{option_map};
 ghost use Rattle.npf_faults.specs.First.{first_fault};
 ghost use Rattle.npf_expand_values.specs.Atom.{kept_atom};
 ghost use Rattle.npf_expand_values.specs.Iface.{address_faults, addresses_of, function_faults, iface_binding, iface_faults, iface_name, iface_span, on_iface};
-ghost use Rattle.npf_expand_values.specs.Kept.{AreSound, AreSpliced, IsBoundWhere};
+ghost use Rattle.npf_expand_values.specs.Kept.{AreSpliced, IsBoundWhere};
 ghost use Rattle.npf_expand_values.specs.Protocol.{one_binding, one_span};
 ghost use Rattle.npf_expand_values.specs.Scope.{env_of_scope, ifaces_of_scope, known_of_scope};
 ghost use Rattle.npf_expand_values.specs.Use.{atoms_of};
@@ -19,7 +19,7 @@ use crate::role::Role;
 use crate::variable::{Bound, Spliced, Variables};
 use npf_faults::{ConfFault, Fault, earlier, fault_if};
 use npf_model::OnIf;
-use npf_syntax::{Function, Iface, Number, One, Value};
+use npf_syntax::{Function, IfaceTree, Number, One, Value};
 use npf_types::{Addr, IfId, NoMemory, Span};
 use std::alloc::Global;
 
@@ -33,7 +33,6 @@ pub struct Scope<'s, 'a, 'i> {
 
 impl<'a> Scope<'_, 'a, '_> {
     pub(crate) fn value_binding(&self, value: &'a Value) -> Option<Bound<'a>>
-        requires { AreSound self.now.variables.now }
         ensures { IsBoundWhere (known_of_scope self.now) result (binding_of (ifaces_of_scope self.now) (env_of_scope self.now) value.now) }
     {
         match value {
@@ -53,8 +52,7 @@ impl<'a> Scope<'_, 'a, '_> {
         }
     }
 
-    fn addresses(&self, function: Function, iface: &'a Iface) -> &'a [Addr]
-        requires { AreSound self.now.variables.now }
+    fn addresses(&self, function: Function, iface: &'a IfaceTree) -> &'a [Addr]
         ensures { result.now ≡ addresses_of (ifaces_of_scope self.now) function (iface_name (env_of_scope self.now) iface.now) }
     {
         match self.iface_name(iface) {
@@ -64,7 +62,6 @@ impl<'a> Scope<'_, 'a, '_> {
     }
 
     pub(crate) fn one_binding(&self, one: &'a One) -> Option<Bound<'a>>
-        requires { AreSound self.now.variables.now }
         ensures { IsBoundWhere (known_of_scope self.now) result (one_binding (env_of_scope self.now) one.now) }
     {
         match one {
@@ -74,20 +71,18 @@ impl<'a> Scope<'_, 'a, '_> {
         }
     }
 
-    pub(crate) fn iface_binding(&self, iface: &'a Iface) -> Option<Bound<'a>>
-        requires { AreSound self.now.variables.now }
+    pub(crate) fn iface_binding(&self, iface: &'a IfaceTree) -> Option<Bound<'a>>
         ensures { IsBoundWhere (known_of_scope self.now) result (iface_binding (env_of_scope self.now) iface.now) }
     {
         match iface {
-            Iface::Var { var, .. } => self.variables.find(var.name.as_slice()),
-            Iface::Word { word, .. } => Some(Bound::alone(Atom::Word(word))),
-            Iface::Str { string, .. } => Some(Bound::alone(Atom::Str(string))),
+            IfaceTree::Var { var, .. } => self.variables.find(var.name.as_slice()),
+            IfaceTree::Word { word, .. } => Some(Bound::alone(Atom::Word(word))),
+            IfaceTree::Str { string, .. } => Some(Bound::alone(Atom::Str(string))),
         }
     }
 
     /// The name of the interface that stands there, where it is one.
-    fn iface_name(&self, iface: &'a Iface) -> Option<&'a [u8]>
-        requires { AreSound self.now.variables.now }
+    fn iface_name(&self, iface: &'a IfaceTree) -> Option<&'a [u8]>
         ensures { option_map (λ name. name.now) result ≡ iface_name (env_of_scope self.now) iface.now }
     {
         match self.iface_binding(iface) {
@@ -97,8 +92,7 @@ impl<'a> Scope<'_, 'a, '_> {
     }
 
     /// The first fault of an interface where it is named.
-    pub fn iface_fault(&self, iface: &'a Iface) -> Option<ConfFault>
-        requires { AreSound self.now.variables.now }
+    pub fn iface_fault(&self, iface: &'a IfaceTree) -> Option<ConfFault>
         ensures { result ≡ first_fault (iface_faults (env_of_scope self.now) iface.now) }
     {
         match self.iface_binding(iface) {
@@ -108,8 +102,7 @@ impl<'a> Scope<'_, 'a, '_> {
     }
 
     /// The interface as a model has it.
-    pub fn on_iface(&self, iface: &'a Iface) -> OnIf
-        requires { AreSound self.now.variables.now }
+    pub fn on_iface(&self, iface: &'a IfaceTree) -> OnIf
         ensures { result ≡ on_iface (ifaces_of_scope self.now) (env_of_scope self.now) iface.now }
     {
         match self.iface_name(iface) {
@@ -122,14 +115,13 @@ impl<'a> Scope<'_, 'a, '_> {
             }
             None => OnIf {
                 name: name_of(&[]),
-                id: IfId(0),
+                id: IfId::UNKNOWN,
             },
         }
     }
 
     /// The first fault that a value has by itself, wherever it stands.
     pub(crate) fn own_fault(&self, value: &'a Value) -> Option<ConfFault>
-        requires { AreSound self.now.variables.now }
         ensures { result ≡ first_fault (own_faults (ifaces_of_scope self.now) (env_of_scope self.now) value.now) }
     {
         match value {
@@ -147,8 +139,12 @@ impl<'a> Scope<'_, 'a, '_> {
     }
 
     #[tactic(auto, using(crate::proofs::FaultLemmas::both_faults))]
-    fn function_fault(&self, function: Function, iface: &'a Iface, span: Span) -> Option<ConfFault>
-        requires { AreSound self.now.variables.now }
+    fn function_fault(
+        &self,
+        function: Function,
+        iface: &'a IfaceTree,
+        span: Span,
+    ) -> Option<ConfFault>
         ensures { result ≡ first_fault (function_faults (ifaces_of_scope self.now) (env_of_scope self.now) function iface.now span) }
     {
         earlier(
@@ -157,8 +153,12 @@ impl<'a> Scope<'_, 'a, '_> {
         )
     }
 
-    fn address_fault(&self, function: Function, iface: &'a Iface, span: Span) -> Option<ConfFault>
-        requires { AreSound self.now.variables.now }
+    fn address_fault(
+        &self,
+        function: Function,
+        iface: &'a IfaceTree,
+        span: Span,
+    ) -> Option<ConfFault>
         ensures { result ≡ first_fault (address_faults (ifaces_of_scope self.now) function (iface_name (env_of_scope self.now) iface.now) span) }
     {
         match self.iface_name(iface) {
@@ -172,7 +172,6 @@ impl<'a> Scope<'_, 'a, '_> {
 
     /// What values of a list are, one behind the other.
     pub(crate) fn splice(&self, alloc: Global, values: &'a [Value]) -> Result<Spliced<'a>, NoMemory>
-        requires { AreSound self.now.variables.now }
         ensures { IfOk result (λ all. AreSpliced (known_of_scope self.now) all (spliced (ifaces_of_scope self.now) (env_of_scope self.now) values.now)) }
     {
         let mut all = Spliced::new(alloc, values.len())?;
@@ -190,7 +189,6 @@ impl<'a> Scope<'_, 'a, '_> {
         alloc: Global,
         ones: &'a [One],
     ) -> Result<Spliced<'a>, NoMemory>
-        requires { AreSound self.now.variables.now }
         ensures { IfOk result (λ all. AreSpliced (known_of_scope self.now) all (flat_map (λ one. atoms_of (one_binding (env_of_scope self.now) one)) ones.now)) }
     {
         let mut all = Spliced::new(alloc, ones.len())?;
@@ -211,13 +209,13 @@ pub(crate) fn undefined(span: Span) -> Option<ConfFault>
     })
 }
 
-pub(crate) fn iface_span(iface: &Iface) -> Span
+pub(crate) fn iface_span(iface: &IfaceTree) -> Span
     ensures { result ≡ iface_span iface.now }
 {
     match iface {
-        Iface::Word { span, .. } => *span,
-        Iface::Str { span, .. } => *span,
-        Iface::Var { span, .. } => *span,
+        IfaceTree::Word { span, .. } => *span,
+        IfaceTree::Str { span, .. } => *span,
+        IfaceTree::Var { span, .. } => *span,
     }
 }
 

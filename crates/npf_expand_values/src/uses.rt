@@ -5,7 +5,7 @@ ghost use Rattle.std.specs.List.{flat_map};
 ghost use Rattle.std.specs.Option.{option_map};
 ghost use Rattle.npf_faults.specs.First.{first_fault};
 ghost use Rattle.npf_expand_values.specs.Atom.{kept_atom};
-ghost use Rattle.npf_expand_values.specs.Kept.{AreSound, IsDefBehind, def_binding, first_atom};
+ghost use Rattle.npf_expand_values.specs.Kept.{IsDefBehind, def_binding, first_atom};
 ghost use Rattle.npf_expand_values.specs.Protocol.{one_binding, one_protocol_faults, protocol_faults};
 ghost use Rattle.npf_expand_values.specs.Scope.{env_of_scope, ifaces_of_scope, known_of_scope};
 ghost use Rattle.npf_expand_values.specs.Summary.{counted};
@@ -23,7 +23,6 @@ use std::alloc::Global;
 
 impl<'a> Scope<'_, 'a, '_> {
     fn use_fault(&self, role: Role, value: &'a Value) -> Option<ConfFault>
-        requires { AreSound self.now.variables.now }
         ensures { result ≡ first_fault (use_faults role (value_span value.now) (atoms_of (binding_of (ifaces_of_scope self.now) (env_of_scope self.now) value.now))) }
     {
         match self.value_binding(value) {
@@ -35,7 +34,6 @@ impl<'a> Scope<'_, 'a, '_> {
     /// The first fault of a value that is used in this place, one or many.
     #[tactic(auto, using(crate::proofs::FaultLemmas::both_faults))]
     pub fn each_value_fault(&self, role: Role, value: &'a Value) -> Option<ConfFault>
-        requires { AreSound self.now.variables.now }
         ensures { result ≡ first_fault (each_value_faults (ifaces_of_scope self.now) (env_of_scope self.now) role value.now) }
     {
         earlier(self.own_fault(value), self.use_fault(role, value))
@@ -43,7 +41,6 @@ impl<'a> Scope<'_, 'a, '_> {
 
     /// The first fault of the values of a list that is used in this place.
     pub fn each_fault(&self, role: Role, values: &'a [Value]) -> Option<ConfFault>
-        requires { AreSound self.now.variables.now }
         ensures { result ≡ first_fault (flat_map (each_value_faults (ifaces_of_scope self.now) (env_of_scope self.now) role) values.now) }
     {
         let mut first = None;
@@ -56,7 +53,6 @@ impl<'a> Scope<'_, 'a, '_> {
     /// The first fault of values that are used in this place, an empty list among them.
     #[tactic(auto, using(crate::proofs::FaultLemmas::both_faults))]
     pub fn values_fault(&self, role: Role, values: &'a Values) -> Option<ConfFault>
-        requires { AreSound self.now.variables.now }
         ensures { result ≡ first_fault (empty_list_faults values.now
             ++ flat_map (each_value_faults (ifaces_of_scope self.now) (env_of_scope self.now) role) (listed_values values.now)) }
     {
@@ -69,7 +65,6 @@ impl<'a> Scope<'_, 'a, '_> {
     /// The first fault of a protocol that is used in a list.
     #[tactic(auto, using(crate::proofs::FaultLemmas::both_faults))]
     pub fn one_fault(&self, one: &'a One) -> Option<ConfFault>
-        requires { AreSound self.now.variables.now }
         ensures { result ≡ first_fault (protocol_faults (env_of_scope self.now) one.now) }
     {
         match self.one_binding(one) {
@@ -80,7 +75,6 @@ impl<'a> Scope<'_, 'a, '_> {
 
     /// The first fault of a protocol where one stands.
     pub fn single_one_fault(&self, one: &'a One) -> Option<ConfFault>
-        requires { AreSound self.now.variables.now }
         ensures { result ≡ first_fault (one_protocol_faults (env_of_scope self.now) (Some one.now)) }
     {
         match self.one_binding(one) {
@@ -90,7 +84,6 @@ impl<'a> Scope<'_, 'a, '_> {
     }
 
     fn bound_fault(&self, role: Role, value: &'a Value) -> Option<ConfFault>
-        requires { AreSound self.now.variables.now }
         ensures { result ≡ first_fault (bound_faults role value.now (binding_of (ifaces_of_scope self.now) (env_of_scope self.now) value.now)) }
     {
         match self.value_binding(value) {
@@ -102,14 +95,12 @@ impl<'a> Scope<'_, 'a, '_> {
     /// The first fault of a value where one value stands.
     #[tactic(auto, using(crate::proofs::FaultLemmas::both_faults))]
     pub fn single_value_fault(&self, role: Role, value: &'a Value) -> Option<ConfFault>
-        requires { AreSound self.now.variables.now }
         ensures { result ≡ first_fault (single_value_faults (ifaces_of_scope self.now) (env_of_scope self.now) role value.now) }
     {
         earlier(self.own_fault(value), self.bound_fault(role, value))
     }
 
     fn own_fault_of_each(&self, values: &'a [Value]) -> Option<ConfFault>
-        requires { AreSound self.now.variables.now }
         ensures { result ≡ first_fault (flat_map (own_faults (ifaces_of_scope self.now) (env_of_scope self.now)) values.now) }
     {
         let mut first = None;
@@ -122,7 +113,6 @@ impl<'a> Scope<'_, 'a, '_> {
     /// The first fault for which a definition of these values is refused.
     #[tactic(auto, using(crate::proofs::FaultLemmas::both_faults))]
     pub fn definition_fault(&self, values: &'a Values) -> Option<ConfFault>
-        requires { AreSound self.now.variables.now }
         ensures { result ≡ first_fault (definition_faults (ifaces_of_scope self.now) (env_of_scope self.now) values.now) }
     {
         earlier(
@@ -138,8 +128,7 @@ impl<'a> Scope<'_, 'a, '_> {
         values: &'a Values,
         fault: &Option<ConfFault>,
     ) -> Result<Def<'a>, NoMemory>
-        requires sound { AreSound self.now.variables.now }
-        requires told { fault.now ≡ first_fault (definition_faults (ifaces_of_scope self.now) (env_of_scope self.now) values.now) }
+        requires { fault.now ≡ first_fault (definition_faults (ifaces_of_scope self.now) (env_of_scope self.now) values.now) }
         ensures behind { IfOk result (λ def. IsDefBehind (known_of_scope self.now) def) }
         ensures binding { IfOk result (λ def. def_binding (known_of_scope self.now) def
             ≡ defined (ifaces_of_scope self.now) (env_of_scope self.now) values.now) }
@@ -153,7 +142,6 @@ impl<'a> Scope<'_, 'a, '_> {
     }
 
     fn is_list(&self, values: &'a Values) -> bool
-        requires { AreSound self.now.variables.now }
         ensures value { result ≡ is_list (ifaces_of_scope self.now) (env_of_scope self.now) values.now }
         ensures alone { result ≡ false → length (spliced (ifaces_of_scope self.now) (env_of_scope self.now) (listed_values values.now)) ≤ 1 }
     {
@@ -168,7 +156,6 @@ impl<'a> Scope<'_, 'a, '_> {
 
     /// What the values of a list are.
     pub fn atoms(&self, alloc: Global, values: &'a [Value]) -> Result<Vec<Atom<'a>>, NoMemory>
-        requires { AreSound self.now.variables.now }
         ensures { IfOk result (λ atoms. map kept_atom atoms.items ≡ spliced (ifaces_of_scope self.now) (env_of_scope self.now) values.now) }
     {
         let all = self.splice(alloc, values)?;
@@ -177,7 +164,6 @@ impl<'a> Scope<'_, 'a, '_> {
 
     /// What the protocols of a list are.
     pub fn atoms_of_ones(&self, alloc: Global, ones: &'a [One]) -> Result<Vec<Atom<'a>>, NoMemory>
-        requires { AreSound self.now.variables.now }
         ensures { IfOk result (λ atoms. map kept_atom atoms.items ≡ flat_map (λ one. atoms_of (one_binding (env_of_scope self.now) one)) ones.now) }
     {
         let all = self.splice_ones(alloc, ones)?;
@@ -186,7 +172,6 @@ impl<'a> Scope<'_, 'a, '_> {
 
     /// How many elements a list has.
     pub fn count(&self, alloc: Global, values: &'a [Value]) -> Result<usize, NoMemory>
-        requires { AreSound self.now.variables.now }
         ensures { IfOk result (λ count. count ≡ counted (element_count (spliced (ifaces_of_scope self.now) (env_of_scope self.now) values.now))) }
     {
         Ok(self.splice(alloc, values)?.summary.count)
@@ -194,7 +179,6 @@ impl<'a> Scope<'_, 'a, '_> {
 
     /// How many elements a list of protocols has.
     pub fn count_ones(&self, alloc: Global, ones: &'a [One]) -> Result<usize, NoMemory>
-        requires { AreSound self.now.variables.now }
         ensures { IfOk result (λ count. count ≡ counted (element_count (flat_map (λ one. atoms_of (one_binding (env_of_scope self.now) one)) ones.now))) }
     {
         Ok(self.splice_ones(alloc, ones)?.summary.count)
@@ -202,7 +186,6 @@ impl<'a> Scope<'_, 'a, '_> {
 
     /// The first of what a value is.
     pub fn first_of_value(&self, value: &'a Value) -> Option<Atom<'a>>
-        requires { AreSound self.now.variables.now }
         ensures { option_map kept_atom result ≡ first_atom (atoms_of (binding_of (ifaces_of_scope self.now) (env_of_scope self.now) value.now)) }
     {
         match self.value_binding(value) {
@@ -213,7 +196,6 @@ impl<'a> Scope<'_, 'a, '_> {
 
     /// The first of what a protocol is.
     pub fn first_of_one(&self, one: &'a One) -> Option<Atom<'a>>
-        requires { AreSound self.now.variables.now }
         ensures { option_map kept_atom result ≡ first_atom (atoms_of (one_binding (env_of_scope self.now) one.now)) }
     {
         match self.one_binding(one) {

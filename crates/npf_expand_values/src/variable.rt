@@ -1,11 +1,12 @@
 // Variables, and what they are bound to. A list keeps the places of the variables in it and is spliced where it is used, in a rule within
 // the limit alone. So a list that doubles again and again costs nothing until then, and then no more than the limit's elements.
-ghost use Rattle.std.specs.Prelude.{◌≡◌, ◌<◌, ◌≤◌, ◌∷◌, ◌++◌, ℕ, [], false, if◌then◌else◌, All, IfOk, IfSome, List, None, OnOk, Option, Some, length, map, slice_get};
+ghost use Rattle.std.specs.Prelude.{◌≡◌, ◌<◌, ◌≤◌, ◌∷◌, ◌++◌, ℕ, [], false, if◌then◌else◌, All, IfOk, IfSome, List, None, OnOk, Option, Some, length, map, reverse, slice_get};
+ghost use Rattle.std.specs.HashMap.{get_by};
 ghost use Rattle.std.specs.Option.{option_map};
 ghost use Rattle.std.specs.Str.{bytes_eq};
 ghost use Rattle.npf_faults.specs.First.{first_fault};
 ghost use Rattle.npf_expand_values.specs.Atom.{Atom as Plain, Binding, kept_atom};
-ghost use Rattle.npf_expand_values.specs.Kept.{AreKeptBy, AreKeptIn, AreSound, AreSpliced, IsBound, IsBoundWhere, IsDefBehind, IsOfFirst, def_binding, env_in, kept_parts, known, part_atoms, parts_atoms};
+ghost use Rattle.npf_expand_values.specs.Kept.{AreDefs, AreDefs-prop, AreKeptBy, AreKeptIn, AreSpliced, IsBound, IsBoundWhere, IsDefBehind, IsOfFirst, def_binding, kept_parts, part_atoms, parts_atoms};
 ghost use Rattle.npf_expand_values.specs.Iface.{bound_name};
 ghost use Rattle.npf_expand_values.specs.Use.{atoms_of, single_faults, use_faults};
 
@@ -58,11 +59,14 @@ pub struct Def<'a> {
     values: DefValues<'a>,
 }
 
-/// The definitions so far, and the place of the latest of each name.
+/// The definitions so far, each behind those that it names, and the place of the latest of each name.
 #[derive(Drop)]
 pub struct Variables<'a> {
     defs: Vec<Def<'a>>,
     latest: HashMap<&'a [u8], usize>,
+    ghost behind: { AreDefs (reverse defs.items) } by { AreDefs-prop (reverse defs.items) },
+    ghost within: { (text : List ℕ) → (place : ℕ) → get_by (λ name. bytes_eq text name.now) latest ≡ Some place
+        → place < length defs.items },
 }
 
 impl<'a> Bound<'a> {
@@ -235,10 +239,11 @@ impl<'a> Def<'a> {
 }
 
 impl<'a> Variables<'a> {
+    ghost use Rattle.npf_expand_values.specs.Scope.{env_in, known};
+
     /// No definitions.
     pub fn new(alloc: Global) -> Variables<'a>
-        ensures sound { AreSound result }
-        ensures none { (text : List ℕ) → env_in result text ≡ None }
+        ensures { (text : List ℕ) → env_in result text ≡ None }
     {
         Variables {
             defs: Vec::new(alloc),
@@ -248,7 +253,6 @@ impl<'a> Variables<'a> {
 
     /// What a name is bound to.
     pub(crate) fn find(&self, name: &[u8]) -> Option<Bound<'a>>
-        requires { AreSound self.now }
         ensures { IsBoundWhere (known self.now) result (env_in self.now name.now) }
     {
         match self.latest.get(&name) {
@@ -258,8 +262,7 @@ impl<'a> Variables<'a> {
     }
 
     fn bound(&self, place: usize) -> Bound<'a>
-        requires sound { AreSound self.now }
-        requires within { place < length self.now.defs.items }
+        requires { place < length self.now.defs.items }
         ensures { IsBoundWhere (known self.now) (Some result) (slice_get (known self.now) place) }
     {
         let def = &self.defs[place];
@@ -274,8 +277,7 @@ impl<'a> Variables<'a> {
 
     // What a definition is in a list: its only part itself, so that no chain of them has to be followed.
     fn part(&self, place: usize) -> Part<'a>
-        requires sound { AreSound self.now }
-        requires within { place < length self.now.defs.items }
+        requires { place < length self.now.defs.items }
         ensures means { part_atoms (known self.now) result ≡ atoms_of (slice_get (known self.now) place) }
         ensures older { IsOfFirst (length (known self.now)) result }
     {
@@ -287,14 +289,13 @@ impl<'a> Variables<'a> {
 
     /// Binds a name to what its definition says.
     pub fn put(&mut self, name: &'a [u8], def: Def<'a>) -> Result<(), NoMemory>
-        requires sound { AreSound self.old }
-        requires behind { IsDefBehind (known self.old) def }
-        ensures sound { OnOk result (AreSound self.new) }
-        ensures bound { OnOk result ((text : List ℕ) → env_in self.new text
+        requires { IsDefBehind (known self.old) def }
+        ensures { OnOk result ((text : List ℕ) → env_in self.new text
             ≡ (if bytes_eq name.now text then Some (def_binding (known self.old) def.entry) else env_in self.old text)) }
     {
-        self.latest.insert(name, self.defs.len())?;
+        let place = self.defs.len();
         self.defs.push(def)?;
+        self.latest.insert(name, place)?;
         Ok(())
     }
 
@@ -304,8 +305,7 @@ impl<'a> Variables<'a> {
         alloc: Global,
         parts: &[Part<'a>],
     ) -> Result<Vec<Atom<'a>>, NoMemory>
-        requires sound { AreSound self.now }
-        requires older { All (IsOfFirst (length (known self.now))) parts.now }
+        requires { All (IsOfFirst (length (known self.now))) parts.now }
         ensures { IfOk result (λ atoms. map kept_atom atoms.items ≡ parts_atoms (known self.now) parts.now) }
     {
         let mut atoms = Vec::new(alloc);

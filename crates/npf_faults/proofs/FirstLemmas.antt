@@ -1,11 +1,8 @@
 -- How the first fault of a list is found piece by piece, and that it is the first.
-use Rattle.std.proofs.Common.{◌≡◌, ℕ, ◌<◌, ◌≤◌, ◌+◌, suc, inl, inr, Bool, true, false, Option, Some, None, List, [], ◌∷◌, ◌++◌, All, length, get_or, drop, refl, sym, ap, subst, ◌∙◌, arith, if◌then◌else◌}
-use Rattle.std.proofs.lemmas.List.{drop_more, drop_all}
-use Rattle.std.proofs.lemmas.List.Elements.{All-cons, All-nil, All-weaker}
-use Rattle.std.proofs.lemmas.Grind.{common_steps}
-use Rattle.std.specs.List.{flat_map}
-use Rattle.npf_faults.specs.declared.fault.ConfFault.{ConfFault}
-use Rattle.npf_faults.specs.First.{precedes, earlier, first_fault, NotBefore, IsFirstFaultOf}
+use Rattle.std.proofs.Common.{◌≡◌, ℕ, ◌<◌, ◌≤◌, ◌+◌, suc, inl, inr, Bool, true, false, Option, Some, None, List, [], ◌∷◌, ◌++◌, All, Contains}
+use Rattle.std.proofs.{Common.{length, get_or, drop, refl, sym, ap, subst, ◌∙◌, arith, if◌then◌else◌}, lemmas.List.{drop_more, drop_all}}
+use Rattle.std.{proofs.lemmas.{List.Elements.{All-cons, All-nil, All-weaker}, Grind.common_steps}, specs.List.flat_map}
+use Rattle.npf_faults.specs.{declared.fault.ConfFault.ConfFault, First.{precedes, earlier, first_fault, NotBefore, IsFirstFaultOf}}
 
 precedes_on : (f g h : ConfFault) → precedes h g ≡ true → precedes g f ≡ true → precedes h f ≡ true
 precedes_on f g h a b = grind (arith, common_steps)
@@ -98,3 +95,13 @@ by_rest g f gs (Some x) h e rest =
 pub is_first_fault : (fs : List ConfFault) (f : ConfFault) → first_fault fs ≡ Some f → IsFirstFaultOf fs f
 is_first_fault [] f h = absurd (let e : None ≡ Some f = h in cc)
 is_first_fault (g ∷ gs) f h = by_rest g f gs (first_fault gs) refl h (is_first_fault gs)
+
+pub not_before : (faults : List ConfFault) (fault other : ConfFault) → IsFirstFaultOf faults fault → Contains faults other → NotBefore fault other
+not_before faults fault other is there = subst (NotBefore fault) there.2 (is.first there.0 other there.1)
+
+-- first faults of one list stand at one place and have one number
+pub no_first : (faults : List ConfFault) (fault : ConfFault) → faults ≡ [] → ¬ IsFirstFaultOf faults fault
+no_first faults fault none is =
+    let below : is.listed.0 < length faults = is.listed.1 in
+    let empty = ap length none in
+    omega arith

@@ -1,3 +1,4 @@
+// The faults of a configuration's text, by number and name.
 ghost use Rattle.std.specs.Prelude.{◌≡◌};
 ghost use Rattle.npf_faults.specs.Fault.{fault_number, fault_name, excess_name};
 

@@ -1,3 +1,4 @@
+// Which of two faults stands first.
 ghost use Rattle.std.specs.Prelude.{◌≡◌};
 ghost use Rattle.npf_faults.specs.First.{earlier, fault_if, first_fault, precedes};
 

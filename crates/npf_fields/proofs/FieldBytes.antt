@@ -1,6 +1,4 @@
-use Rattle.std.proofs.Common.{ℕ, ◌≡◌, ◌≤◌, ◌+◌, ◌-◌, List, ◌++◌, length, take, drop, get_or, arith}
-use Rattle.std.proofs.lemmas.Grind.{common_steps}
-use Rattle.std.proofs.lemmas.List.{places}
+use Rattle.std.proofs.{Common.{ℕ, ◌≡◌, ◌≤◌, ◌+◌, ◌-◌, List, ◌++◌, length, take, drop, get_or, arith}, lemmas.{Grind.common_steps, List.places}}
 use borrow.Rule.Slice.PartMut.{put_mid}
 
 module _ (bytes field : List ℕ) (at n : ℕ) (fits : at + n ≤ length bytes) where

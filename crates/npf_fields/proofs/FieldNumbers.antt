@@ -1,9 +1,6 @@
-use Rattle.std.proofs.Common.{ℕ, ◌≡◌, ◌<◌, ◌≤◌, ◌+◌, ◌-◌, ◌^◌, ◌∙◌, sym, ap, List, ◌++◌, length, drop, get_or, arith}
-use Rattle.std.proofs.lemmas.List.{get_or-drop}
-use Rattle.byteorder.specs.Endian.{big_number, big_bytes}
-use Rattle.byteorder.specs.Numbers.{big_number-reads_back}
-use Rattle.npf_fields.specs.Field.{number16, number32, number64, number128}
-use Rattle.npf_fields.proofs.FieldBytes.{drop-put}
+use Rattle.std.proofs.{Common.{ℕ, ◌≡◌, ◌<◌, ◌≤◌, ◌+◌, ◌-◌, ◌^◌, ◌∙◌, sym, ap, List, ◌++◌, length, drop, get_or, arith}, lemmas.List.get_or-drop}
+use Rattle.byteorder.specs.{Endian.{big_number, big_bytes}, Numbers.big_number-reads_back}
+use Rattle.npf_fields.{specs.Field.{number16, number32, number64, number128}, proofs.FieldBytes.drop-put}
 use borrow.Rule.Slice.PartMut.{put_mid}
 
 -- a number at a place k of what lies behind `at` stands at the place p of all bytes

@@ -1,10 +1,7 @@
 -- The numbers of a range of bytes are those of all bytes, that many places on.
-use Rattle.std.proofs.Common.{ℕ, ◌≡◌, ◌<◌, ◌≤◌, ◌+◌, ◌-◌, ◌∙◌, List, length, drop, arith}
-use Rattle.std.proofs.lemmas.Grind.{common_steps}
-use Rattle.std.proofs.lemmas.List.{get_or-take}
+use Rattle.std.proofs.{Common.{ℕ, ◌≡◌, ◌<◌, ◌≤◌, ◌+◌, ◌-◌, ◌∙◌, List, length, drop, arith}, lemmas.{Grind.common_steps, List.get_or-take}}
 use Rattle.std.specs.Prelude.{slice_index, slice_range}
-use Rattle.npf_fields.specs.Field.{number16, number32, number64, number128}
-use Rattle.npf_fields.proofs.FieldNumbers.{byte-drop}
+use Rattle.npf_fields.{specs.Field.{number16, number32, number64, number128}, proofs.FieldNumbers.byte-drop}
 
 module _ (bytes : List ℕ) (from to : ℕ) where
   pub length-range : to ≤ length bytes → length (slice_range bytes from to) ≡ to - from

@@ -1,16 +1,9 @@
 -- What a packet makes of a flow.
-use Rattle.std.proofs.Common.{◌≡◌, ◌≤◌, Bool, true, false, not, ◌&&◌, ◌||◌, Option, Some, None, cond, refl, max, arith}
-use Rattle.std.specs.Prelude.{◌↔◌}
-use Rattle.npf_types.specs.declared.facts.Segment.{Segment}
-use Rattle.npf_types.specs.declared.key.Way.{Way}
-use Rattle.npf_tcp.specs.Laws.{BothSides, EachSide, IsQuietUnseen, OpeningIsQuiet, StepKeepsQuiet, MaxwinNeverFalls}
-use Rattle.npf_tcp.specs.declared.state.TcpSide.{TcpSide}
-use Rattle.npf_flow.specs.declared.flow.Flow.{Flow}
-use Rattle.npf_flow.specs.declared.flow.FlowKind.{FlowKind}
-use Rattle.npf_flow.specs.declared.flow.FlowKind.TheVariants.{Tcp, Other}
-use Rattle.npf_flow.specs.declared.step.FlowArg.{FlowArg}
-use Rattle.npf_flow.specs.Flows.{opening_kind, moves_on, kind_after, next_flow}
-use Rattle.npf_flow.specs.Laws.{KeepsOpening, IsTcp, OfState, OfStates}
+use Rattle.std.{proofs.Common.{◌≡◌, ◌≤◌, Bool, true, false, not, ◌&&◌, ◌||◌, Option, Some, None, cond, refl, max, arith}, specs.Prelude.◌↔◌}
+use Rattle.npf_types.specs.declared.{facts.Segment.Segment, key.Way.Way}
+use Rattle.npf_tcp.specs.{Laws.{BothSides, EachSide, IsQuietUnseen, OpeningIsQuiet, StepKeepsQuiet, MaxwinNeverFalls}, declared.state.TcpSide.TcpSide}
+use Rattle.npf_flow.specs.declared.{flow.{Flow.Flow, FlowKind.{FlowKind, TheVariants.{Tcp, Other}}}, step.FlowArg.FlowArg}
+use Rattle.npf_flow.specs.{Flows.{opening_kind, moves_on, kind_after, next_flow}, Laws.{KeepsOpening, IsTcp, OfState, OfStates}}
 
 -- the flow after a packet that moves it on
 abbrev pub went_on : Flow → Way → FlowArg → Flow

@@ -1,16 +1,9 @@
 -- A flow over many packets.
 use Rattle.std.proofs.Common.{◌≡◌, ◌∙◌, ℕ, Bool, true, false, not, ◌&&◌, ◌||◌, [], ◌∷◌, cond, refl, ap, max, arith}
-use Rattle.npf_types.specs.declared.action.Action.{Action}
-use Rattle.npf_types.specs.declared.change.Change.{Change}
-use Rattle.npf_types.specs.declared.key.Way.{Way}
+use Rattle.npf_types.specs.declared.{action.Action.Action, change.Change.Change, key.Way.Way}
 use Rattle.npf_tcp.specs.Laws.{StepKeepsQuiet}
-use Rattle.npf_flow.specs.declared.flow.Flow.{Flow}
-use Rattle.npf_flow.specs.declared.flow.FlowKind.{FlowKind}
-use Rattle.npf_flow.specs.declared.flow.FlowKind.TheVariants.{Other}
-use Rattle.npf_flow.specs.declared.step.FlowArg.{FlowArg}
-use Rattle.npf_flow.specs.Flows.{moves_on, next_flow, is_backward}
-use Rattle.npf_flow.specs.Run.{Packets, flow_after, accepted, moving, has_backward, latest}
-use Rattle.npf_flow.proofs.FlowLemmas.{went_on, unmoved_stays, IsQuiet, quiet_next}
+use Rattle.npf_flow.specs.{declared.{flow.{Flow.Flow, FlowKind.{FlowKind, TheVariants.Other}}, step.FlowArg.FlowArg}, Flows.{moves_on, next_flow, is_backward}}
+use Rattle.npf_flow.{specs.Run.{Packets, flow_after, accepted, moving, has_backward, latest}, proofs.FlowLemmas.{went_on, unmoved_stays, IsQuiet, quiet_next}}
 
 -- a packet's time may be counted first or last
 latest_max : (time now : ℕ) (packets : Packets) → latest (max time now) packets ≡ max now (latest time packets)

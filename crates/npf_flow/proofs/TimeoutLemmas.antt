@@ -2,10 +2,7 @@
 use Rattle.std.proofs.Common.{◌≡◌, ◌≤◌, ℕ, true, false, arith}
 use Rattle.npf_tcp.specs.declared.state.TcpPhase.{TcpPhase}
 use Rattle.npf_tcp.specs.declared.state.TcpPhase.TheVariants as Phases
-use Rattle.npf_flow.specs.declared.flow.Flow.{Flow}
-use Rattle.npf_flow.specs.declared.flow.FlowKind.{FlowKind}
-use Rattle.npf_flow.specs.declared.flow.FlowKind.TheVariants.{Tcp, Other}
-use Rattle.npf_flow.specs.Timeout.{tcp_timeout, timeout_seconds, is_due}
+use Rattle.npf_flow.specs.{declared.flow.{Flow.Flow, FlowKind.{FlowKind, TheVariants.{Tcp, Other}}}, Timeout.{tcp_timeout, timeout_seconds, is_due}}
 
 some_tcp_timeout : (phase : TcpPhase) → 1 ≤ tcp_timeout phase
 some_tcp_timeout Phases.Closed = omega arith

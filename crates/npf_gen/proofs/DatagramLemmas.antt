@@ -1,6 +1,5 @@
 -- The sums of a datagram verify.
-use Rattle.std.proofs.Common.{◌≡◌, ℕ, ◌+◌, ◌*◌, ◌/◌, ◌%◌, ◌^◌, ◌<◌, ◌==◌, if◌then◌else◌, ◌++◌, ◌∙◌, ap, take, drop, arith}
-use Rattle.std.specs.Prelude.{sum}
+use Rattle.std.{proofs.Common.{◌≡◌, ℕ, ◌+◌, ◌*◌, ◌/◌, ◌%◌, ◌^◌, ◌<◌, ◌==◌, if◌then◌else◌, ◌++◌, ◌∙◌, ap, take, drop, arith}, specs.Prelude.sum}
 use Rattle.npf_fields.specs.Checksum.{complement16, end_around}
 use Rattle.npf_gen.specs.declared.datagram.Datagram.{Datagram}
 use Rattle.npf_gen.specs.Datagram.{ipv4_words, udp_words, pseudo_words, word_bytes, halves, internet_sum, ipv4_sum, udp_sum, datagram_bytes}

@@ -1,8 +1,6 @@
 -- The state after one draw more, and the packet that three draws tell.
 use Rattle.std.proofs.Common.{◌≡◌, ℕ, suc, ◌+◌, ◌*◌, ◌-◌, ◌/◌, ◌^◌, ap, refl, arith}
-use Rattle.npf_gen.specs.Draw.{following_state, drawn_state}
-use Rattle.npf_gen.specs.Datagram.{datagram_of}
-use Rattle.npf_gen.specs.Workload.{nth_datagram}
+use Rattle.npf_gen.specs.{Draw.{following_state, drawn_state}, Datagram.datagram_of, Workload.nth_datagram}
 
 after_draw : (number n m : ℕ) → m ≡ suc n → drawn_state number m ≡ following_state (drawn_state number n)
 unfolding drawn_state

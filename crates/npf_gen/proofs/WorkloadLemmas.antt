@@ -1,13 +1,8 @@
 -- The generated records, one by one.
 use Rattle.std.proofs.Common.{◌≡◌, ℕ, zero, suc, ◌+◌, ◌*◌, ◌^◌, ◌<◌, ◌∙◌, sym, ap, refl, List, [], ◌∷◌, ◌++◌, length, length-append, arith, All}
-use Rattle.std.proofs.lemmas.List.{flat_map_more}
-use Rattle.std.proofs.lemmas.List.Elements.{All-nil, All-push}
-use Rattle.std.specs.List.{flat_map}
-use Rattle.npf_pcap.specs.declared.capture.Record.{Record}
-use Rattle.npf_pcap.specs.Spelling.{header_bytes, record_bytes, capture_bytes, FitsCapture}
-use Rattle.npf_gen.specs.Workload.{generated_records, nth_record, nth_datagram}
-use Rattle.npf_gen.specs.WorkloadLaw.{HasSums}
-use Rattle.npf_gen.proofs.DatagramLemmas.{ipv4_verifies, udp_verifies}
+use Rattle.std.{proofs.lemmas.List.{flat_map_more, Elements.{All-nil, All-push}}, specs.List.flat_map}
+use Rattle.npf_pcap.specs.{declared.capture.Record.Record, Spelling.{header_bytes, record_bytes, capture_bytes, FitsCapture}}
+use Rattle.npf_gen.{specs.{Workload.{generated_records, nth_record, nth_datagram}, WorkloadLaw.HasSums}, proofs.DatagramLemmas.{ipv4_verifies, udp_verifies}}
 
 -- one packet more
 one_more : (number n m : ℕ) → m ≡ suc n → generated_records number m ≡ generated_records number n ++ nth_record number m ∷ []

@@ -1,21 +1,12 @@
 -- Where the words of addresses and ports lie.
-use Rattle.std.proofs.Common.{◌≡◌, ℕ, ◌+◌, ◌≤◌, Bool, true, false, Option, Some, None, arith}
-use Rattle.std.specs.Prelude.{if◌then◌else◌}
-use Rattle.npf_types.specs.declared.address.Addr.{Addr}
-use Rattle.npf_types.specs.declared.address.Addr.TheVariants.{V4, V6}
-use Rattle.npf_types.specs.declared.change.End.{End}
+use Rattle.std.{proofs.Common.{◌≡◌, ℕ, ◌+◌, ◌≤◌, Bool, true, false, Option, Some, None, arith}, specs.Prelude.if◌then◌else◌}
+use Rattle.npf_types.specs.declared.{address.Addr.{Addr, TheVariants.{V4, V6}}, change.End.End}
 use Rattle.npf_key.specs.Translated.{fitting, shares_family}
-use Rattle.npf_packet.specs.Field.{icmp_identifier, l4_destination_port, l4_source_port}
-use Rattle.npf_packet.specs.Place.{least_ip_header}
-use Rattle.npf_rewrite.specs.Address.{address_words, end_words}
-use Rattle.npf_rewrite.specs.Translated.{destination_at, source_at}
-use Rattle.npf_rewrite.specs.Word.{AllWithin, named_word, word_list}
+use Rattle.npf_packet.specs.{Field.{icmp_identifier, l4_destination_port, l4_source_port}, Place.least_ip_header}
+use Rattle.npf_rewrite.specs.{Address.{address_words, end_words}, Translated.{destination_at, source_at}, Word.{AllWithin, named_word, word_list}}
 use Rattle.npf_rewrite.proofs.EndLemmas.{address_size, fitted}
-use Rattle.npf_icmpalg.specs.declared.error.Inner.{Inner}
-use Rattle.npf_icmpalg.specs.declared.header.HeaderEnds.{HeaderEnds}
-use Rattle.npf_icmpalg.specs.ErrorTranslated.{quoted_destination_write, quoted_source_write}
-use Rattle.npf_icmpalg.specs.Header.{HeaderWithin}
-use Rattle.npf_icmpalg.specs.Quoted.{is_tcp_or_udp}
+use Rattle.npf_icmpalg.specs.{declared.{error.Inner.Inner, header.HeaderEnds.HeaderEnds}, ErrorTranslated.{quoted_destination_write, quoted_source_write}}
+use Rattle.npf_icmpalg.specs.{Header.HeaderWithin, Quoted.is_tcp_or_udp}
 
 -- the words of an address of this family
 address_within : (family x : Addr) (size at : ℕ) → at + address_size family ≤ size

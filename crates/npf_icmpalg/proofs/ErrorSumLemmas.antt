@@ -1,37 +1,24 @@
 -- The sum of an error of ICMP or ICMPv6, whose words are those behind the outer header, and in ICMPv6 those of the outer addresses
 -- besides.
 use Rattle.std.proofs.Common.{◌≡◌, ℕ, ◌+◌, ◌-◌, ◌*◌, ◌/◌, ◌%◌, ◌^◌, ◌<◌, ◌≤◌, Bool, true, false, Option, Some, None, List, [], ◌∷◌, ◌++◌, length, refl, sym, ap, ◌∙◌, subst, inl, inr, arith}
-use Rattle.std.proofs.lemmas.Bool.Decides.{nat_tests}
-use Rattle.std.specs.Option.{option_or}
-use Rattle.std.specs.Prelude.{◌==◌, ◌||◌, if◌then◌else◌, nat_le, slice_index}
-use Rattle.npf_types.specs.declared.address.Addr.{Addr}
-use Rattle.npf_types.specs.declared.address.Addr.TheVariants.{V4, V6}
-use Rattle.npf_types.specs.declared.change.Change.{Change}
-use Rattle.npf_types.specs.declared.change.End.{End}
-use Rattle.npf_types.specs.declared.facts.Facts.{Facts}
-use Rattle.npf_types.specs.declared.facts.L4.{L4}
+use Rattle.std.{proofs.lemmas.Bool.Decides.nat_tests, specs.{Option.option_or, Prelude.{◌==◌, ◌||◌, if◌then◌else◌, nat_le, slice_index}}}
+use Rattle.npf_types.specs.declared.{address.Addr.{Addr, TheVariants.{V4, V6}}, change.{Change.Change, End.End}, facts.{Facts.Facts, L4.L4}}
 use Rattle.npf_fields.specs.Field.{number16}
 use Rattle.npf_key.specs.Translated.{fitting, named_port}
 use Rattle.npf_packet.specs.Place.{least_ip_header}
-use Rattle.npf_rewrite.specs.declared.word.WordAt.{WordAt}
-use Rattle.npf_rewrite.specs.Address.{end_words}
-use Rattle.npf_rewrite.specs.Room.{HasRoom}
-use Rattle.npf_rewrite.specs.Sum.{sum_after, sum_after_word}
+use Rattle.npf_rewrite.specs.{declared.word.WordAt.WordAt, Address.end_words, Room.HasRoom, Sum.{sum_after, sum_after_word}}
 use Rattle.npf_rewrite.specs.Translated.{destination_at, header_sum, source_at}
 use Rattle.npf_rewrite.specs.Verified.{HasBytes, PortFits, PortsFit, addresses_total, carried_total, pseudo_total, words_total}
-use Rattle.npf_rewrite.specs.Word.{byte_there, named_word, word, word_list}
-use Rattle.npf_rewrite.proofs.EndLemmas.{address_size, end-between, end-fits, end-inside, shifts}
-use Rattle.npf_rewrite.proofs.PlacedLemmas.{between-append, front_at, header_sum-between, laid}
-use Rattle.npf_rewrite.proofs.SumLemmas.{addresses_total-is}
-use Rattle.npf_rewrite.proofs.TotalLemmas.{AllFit, Between, Inside, after, after-elsewhere, fit-append, inside-append, news, news-append, olds, olds-append, sum_after-fits, sum_after-follows, words_total-after, words_total-same}
-use Rattle.npf_icmpalg.specs.declared.error.Inner.{Inner}
-use Rattle.npf_icmpalg.specs.declared.header.HeaderEnds.{HeaderEnds}
-use Rattle.npf_icmpalg.specs.Error.{IsError, error_in, is_error}
-use Rattle.npf_icmpalg.specs.ErrorTranslated.{ErrorTranslated, counted_outer, error_sum, error_sums, error_writes, outer_ends, quoted_ends, quoted_header_sum, quoted_ports, quoted_sum, quoted_sum_after}
-use Rattle.npf_icmpalg.specs.ErrorVerified.{ErrorSumFollows, Icmpv6ErrorSumFollows}
-use Rattle.npf_icmpalg.specs.Header.{header_addresses}
-use Rattle.npf_icmpalg.specs.Quoted.{is_same_address, whole_sum_at}
-use Rattle.npf_icmpalg.proofs.ScatteredLemmas.{Apart, Scattered, apart-append, apart-between, apart-inside, behind-there, front-there, inside-between, scattered-append, scattered-between, scattered-inside, scattered-last, total-scattered, wider}
+use Rattle.npf_rewrite.{specs.Word.{byte_there, named_word, word, word_list}, proofs.EndLemmas.{address_size, end-between, end-fits, end-inside, shifts}}
+use Rattle.npf_rewrite.proofs.{PlacedLemmas.{between-append, front_at, header_sum-between, laid}, SumLemmas.{addresses_total-is, either-fits}}
+use Rattle.npf_rewrite.proofs.TotalLemmas.{AllFit, Between, Inside, after, after-elsewhere, fit-append, inside-append, news, news-append, olds, olds-append}
+use Rattle.npf_rewrite.proofs.TotalLemmas.{sum_after-fits, sum_after-follows, words_total-after, words_total-same}
+use Rattle.npf_icmpalg.specs.{declared.{error.Inner.Inner, header.HeaderEnds.HeaderEnds}, Error.{IsError, error_in, is_error}}
+use Rattle.npf_icmpalg.specs.ErrorTranslated.{ErrorTranslated, counted_outer, error_sum, error_sums, error_writes, outer_ends, quoted_ends}
+use Rattle.npf_icmpalg.specs.ErrorTranslated.{quoted_header_sum, quoted_ports, quoted_sum, quoted_sum_after}
+use Rattle.npf_icmpalg.specs.{ErrorVerified.{ErrorSumFollows, Icmpv6ErrorSumFollows}, Header.header_addresses, Quoted.{is_same_address, whole_sum_at}}
+use Rattle.npf_icmpalg.proofs.ScatteredLemmas.{Apart, Scattered, apart-append, apart-between, apart-inside, behind-there, front-there, inside-between, scattered-append}
+use Rattle.npf_icmpalg.proofs.ScatteredLemmas.{scattered-between, scattered-inside, scattered-last, total-scattered, wider}
 
 -- A sum at the second word of what is counted, which follows words in front of that and scattered words in it.
 module _ (bytes translated : List ℕ) (at end : ℕ) (small : HasBytes bytes) (front counted : List WordAt)
@@ -277,10 +264,6 @@ offset-even : (x y : Bool)
 offset-even true y = refl
 offset-even false true = refl
 offset-even false false = refl
-
-either-fits : (s d : Option ℕ) → PortFits s → PortFits d → PortFits (option_or s d)
-either-fits (Some v) d p q = p
-either-fits None d p q = q
 
 chosen-between : (b : Bool) (src : Addr) (at : ℕ) (end : Option End)
     → Between at (at + address_size src) (end_words at (if b then fitting src end else None))

@@ -1,11 +1,8 @@
 -- The total of words of which some are written, in any order, where none overlaps another.
-use Rattle.std.proofs.Common.{◌≡◌, ℕ, ◌+◌, ◌*◌, ◌<◌, ◌≤◌, ◌⊎◌, [], ◌∷◌, ◌++◌, List, refl, ap, inl, inr, arith}
-use Rattle.std.specs.Prelude.{⊤}
-use Rattle.npf_rewrite.specs.declared.word.WordAt.{WordAt}
-use Rattle.npf_rewrite.specs.Verified.{words_total}
+use Rattle.std.{proofs.Common.{◌≡◌, ℕ, ◌+◌, ◌*◌, ◌<◌, ◌≤◌, ◌⊎◌, [], ◌∷◌, ◌++◌, List, refl, ap, inl, inr, arith}, specs.Prelude.⊤}
+use Rattle.npf_rewrite.specs.{declared.word.WordAt.WordAt, Verified.words_total}
 use Rattle.npf_rewrite.proofs.TotalLemmas.{Between, Inside, after, after-elsewhere, byte_after-elsewhere, news, olds, words_total-after}
-use Rattle.npf_rewrite.specs.Word.{byte_there}
-use Rattle.npf_rewrite.proofs.WordLemmas.{byte_there-append}
+use Rattle.npf_rewrite.{specs.Word.byte_there, proofs.WordLemmas.byte_there-append}
 
 -- a word overlaps none of these
 abbrev pub Apart : WordAt → List WordAt → Type 0

@@ -1,8 +1,7 @@
 -- Sums that follow words that are written one after the other.
 use Rattle.std.proofs.Common.{◌≡◌, ℕ, List, [], ◌∷◌, ◌++◌, refl, sym, ap, ◌∙◌}
 use Rattle.npf_fields.specs.Field.{number16}
-use Rattle.npf_rewrite.specs.declared.word.WordAt.{WordAt}
-use Rattle.npf_rewrite.specs.Sum.{sum_after, sum_after_word}
+use Rattle.npf_rewrite.specs.{declared.word.WordAt.WordAt, Sum.{sum_after, sum_after_word}}
 
 module _ (empty : ℕ) (bytes : List ℕ) where
   pub sum_after-append : (ws vs : List WordAt) (sum : ℕ)

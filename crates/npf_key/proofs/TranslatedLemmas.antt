@@ -1,12 +1,7 @@
 -- A translated packet is of its family still.
 use Rattle.std.proofs.Common.{◌≡◌, Bool, true, false, Option, Some, None, cond, refl}
-use Rattle.npf_types.specs.declared.address.Addr.{Addr}
-use Rattle.npf_types.specs.declared.address.Addr.TheVariants.{V4, V6}
-use Rattle.npf_types.specs.declared.change.Change.{Change}
-use Rattle.npf_types.specs.declared.change.End.{End}
-use Rattle.npf_types.specs.declared.facts.Facts.{Facts}
-use Rattle.npf_key.specs.Translated.{shares_family, fitting, address_there, facts_there, about}
-use Rattle.npf_key.specs.Laws.{IsOneFamily}
+use Rattle.npf_types.specs.declared.{address.Addr.{Addr, TheVariants.{V4, V6}}, change.{Change.Change, End.End}, facts.Facts.Facts}
+use Rattle.npf_key.specs.{Translated.{shares_family, fitting, address_there, facts_there, about}, Laws.IsOneFamily}
 
 shares-self : (a : Addr) → shares_family a a ≡ true
 shares-self (V4 _) = refl
@@ -18,7 +13,7 @@ shares-sym (V6 _) (V6 _) h = refl
 shares-sym (V4 _) (V6 _) h = absurd cc
 shares-sym (V6 _) (V4 _) h = absurd cc
 
-shares-other : (a b c : Addr) → shares_family a b ≡ true → shares_family a c ≡ true → shares_family b c ≡ true
+pub shares-other : (a b c : Addr) → shares_family a b ≡ true → shares_family a c ≡ true → shares_family b c ≡ true
 shares-other (V4 _) (V4 _) (V4 _) h k = refl
 shares-other (V6 _) (V6 _) (V6 _) h k = refl
 shares-other (V4 _) (V4 _) (V6 _) h k = absurd cc
@@ -27,7 +22,7 @@ shares-other (V6 _) (V6 _) (V4 _) h k = absurd cc
 shares-other (V6 _) (V4 _) _ h k = absurd cc
 
 -- an address that is written is of the packet's family
-written : (a other : Addr) (named : Option End) → shares_family a other ≡ true → shares_family a (address_there (fitting a named) other) ≡ true
+pub written : (a other : Addr) (named : Option End) → shares_family a other ≡ true → shares_family a (address_there (fitting a named) other) ≡ true
 written a other None h = h
 written a other (Some named) h = by (shares_family named.addr a) refl
   where

@@ -123,21 +123,9 @@ fn l4_about(l4: L4) -> L4
     ensures { result ≡ l4_about l4 }
 {
     match l4 {
-        L4::Tcp {
-            sport,
-            dport,
-            seg,
-            mss_at,
-        } => L4::Tcp {
-            sport: dport,
-            dport: sport,
-            seg,
-            mss_at,
-        },
-        L4::Udp { sport, dport } => L4::Udp {
-            sport: dport,
-            dport: sport,
-        },
+        L4::Tcp { sport, dport, .. } | L4::Udp { sport, dport } => {
+            l4_there(Some(dport), Some(sport), l4)
+        }
         echo_or_other => echo_or_other,
     }
 }

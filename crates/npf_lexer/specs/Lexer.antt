@@ -5,7 +5,7 @@ use Rattle.npf_faults.specs.declared.fault.ConfFault.{ConfFault}
 use Rattle.npf_faults.specs.declared.fault.Refused.{Refused}
 use Rattle.npf_faults.specs.declared.fault.Refused.TheVariants.{Fault, NoMemory}
 use Rattle.npf_lexer.specs.declared.front.Front.TheVariants.{End, Skipped, Found, Faulty}
-use Rattle.npf_lexer.specs.declared.place.Place.{Place}
+use Rattle.npf_lexer.specs.declared.place.TextPlace.{TextPlace}
 use Rattle.npf_lexer.specs.declared.token.Token.{Token}
 use Rattle.npf_lexer.specs.declared.token.TokenKind.TheVariants as Kind
 use Rattle.npf_lexer.specs.Front.{Begins}
@@ -16,7 +16,7 @@ abbrev pub Lexed : Type 0
 Lexed = Result (List Token) ConfFault
 
 -- the token at the text's end
-abbrev pub end_token : Place → Token
+abbrev pub end_token : TextPlace → Token
 end_token p = record { kind = Kind.End; span = span_of 0 p }
 
 -- a token before what is read behind it
@@ -25,11 +25,11 @@ onto t (Ok ts) = Ok (t ∷ ts)
 onto _ (Err f) = Err f
 
 -- what the text is from a place on
-pub data Lexes : Place → List ℕ → Lexed → Type 0 where
-  end : (p : Place) (text : List ℕ) → Begins p text End → Lexes p text (Ok (end_token p ∷ []))
-  skip : (p : Place) (text : List ℕ) (n : ℕ) (q : Place) (lexed : Lexed) → Begins p text (Skipped n q) → Lexes q (drop n text) lexed → Lexes p text lexed
-  token : (p : Place) (text : List ℕ) (t : Token) (n : ℕ) (q : Place) (lexed : Lexed) → Begins p text (Found t n q) → Lexes q (drop n text) lexed → Lexes p text (onto t lexed)
-  fault : (p : Place) (text : List ℕ) (f : ConfFault) → Begins p text (Faulty f) → Lexes p text (Err f)
+pub data Lexes : TextPlace → List ℕ → Lexed → Type 0 where
+  end : (p : TextPlace) (text : List ℕ) → Begins p text End → Lexes p text (Ok (end_token p ∷ []))
+  skip : (p : TextPlace) (text : List ℕ) (n : ℕ) (q : TextPlace) (lexed : Lexed) → Begins p text (Skipped n q) → Lexes q (drop n text) lexed → Lexes p text lexed
+  token : (p : TextPlace) (text : List ℕ) (t : Token) (n : ℕ) (q : TextPlace) (lexed : Lexed) → Begins p text (Found t n q) → Lexes q (drop n text) lexed → Lexes p text (onto t lexed)
+  fault : (p : TextPlace) (text : List ℕ) (f : ConfFault) → Begins p text (Faulty f) → Lexes p text (Err f)
 
 -- what the text is: all its tokens, or its first fault
 abbrev pub IsLexed : List ℕ → Lexed → Type 0

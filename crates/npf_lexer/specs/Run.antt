@@ -5,8 +5,8 @@ use Rattle.std.specs.List.{list_all}
 use Rattle.std.specs.Str.Parse.{digits_value}
 use Rattle.npf_types.specs.declared.address.Addr.{Addr}
 use Rattle.npf_types.specs.AddressText.{IsAddressText}
-use Rattle.npf_lexer.specs.declared.run.Run.{Run}
-use Rattle.npf_lexer.specs.declared.run.Run.TheVariants.{Kind, TooLarge, Nothing}
+use Rattle.npf_lexer.specs.declared.run.RunKind.{RunKind}
+use Rattle.npf_lexer.specs.declared.run.RunKind.TheVariants.{Kind, TooLarge, Nothing}
 use Rattle.npf_lexer.specs.declared.token.TokenKind.TheVariants as Token
 use Rattle.npf_lexer.specs.ByteClass.{is_run_byte}
 
@@ -36,7 +36,7 @@ abbrev pub is_decimal : List ℕ → Bool
 is_decimal run = is_ascii_digit (slice_index run 0) && list_all is_ascii_digit run
 
 -- the number that digits write fits in 32 bits or is too large
-abbrev pub number_run : List ℕ → Run
+abbrev pub number_run : List ℕ → RunKind
 number_run run = if nat_lt (digits_value 10 run) (2 ^ 32) then Kind (Token.Number (digits_value 10 run)) else TooLarge
 
 abbrev pub is_no_colon : ℕ → Bool
@@ -46,15 +46,15 @@ is_no_colon b = not (b == 58)
 abbrev pub is_word : List ℕ → Bool
 is_word run = is_ascii_alphabetic (slice_index run 0) && list_all is_no_colon run
 
-abbrev pub word_run : List ℕ → Run
+abbrev pub word_run : List ℕ → RunKind
 word_run run = if is_word run then Kind (Token.Word run) else Nothing
 
 -- an address, or else a word, or else nothing
-abbrev pub IsAddressOrWord : List ℕ → Run → Type 0
+abbrev pub IsAddressOrWord : List ℕ → RunKind → Type 0
 IsAddressOrWord run is =
     ((address : Addr) × IsAddressText run address × (is ≡ Kind (Token.Address address)))
     ⊎ (((address : Addr) → ¬ IsAddressText run address) × (is ≡ word_run run))
 
 -- what a run is: the first of a number, an address and a word that fits
-abbrev pub ReadsRun : List ℕ → Run → Type 0
+abbrev pub ReadsRun : List ℕ → RunKind → Type 0
 ReadsRun run is = MatchBool (is_decimal run) (is ≡ number_run run) (IsAddressOrWord run is)

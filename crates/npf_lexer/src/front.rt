@@ -9,8 +9,8 @@ ghost use Rattle.npf_lexer.specs.Sign.{sign_at};
 use crate::byte_class::{
     ByteClass, byte_class, is_line_byte, is_string_byte, is_variable_byte, is_variable_start,
 };
-use crate::place::Place;
-use crate::run::{Run, run_len, run_of};
+use crate::place::TextPlace;
+use crate::run::{RunKind, run_len, run_of};
 use crate::sign::sign_at;
 use crate::token::{Sign, Token, TokenKind};
 use npf_faults::{ConfFault, Fault};
@@ -22,12 +22,12 @@ use std::alloc::Global;
 #[derive(Debug, Drop)]
 pub(crate) enum Front {
     End,
-    Skipped(usize, Place),
-    Found(Token, usize, Place),
+    Skipped(usize, TextPlace),
+    Found(Token, usize, TextPlace),
     Faulty(ConfFault),
 }
 
-pub(crate) fn front_at(alloc: Global, place: Place, text: &[u8]) -> Result<Front, NoMemory>
+pub(crate) fn front_at(alloc: Global, place: TextPlace, text: &[u8]) -> Result<Front, NoMemory>
     requires { Fits place (length text.now) }
     ensures begins { IfOk result (Begins place text.now) }
     ensures step { IfOk result (AdvancesWithin (length text.now)) }
@@ -41,7 +41,7 @@ pub(crate) fn front_at(alloc: Global, place: Place, text: &[u8]) -> Result<Front
 fn front_of_class(
     alloc: Global,
     class: ByteClass,
-    place: Place,
+    place: TextPlace,
     text: &[u8],
 ) -> Result<Front, NoMemory>
     requires fits { Fits place (length text.now) }
@@ -63,7 +63,7 @@ fn front_of_class(
     }
 }
 
-fn found(kind: TokenKind, len: usize, place: Place) -> Front
+fn found(kind: TokenKind, len: usize, place: TextPlace) -> Front
     requires len { len ≤ MAX_TEXT_BYTES }
     requires fits { Fits place len }
     ensures { result ≡ token_front kind len place }
@@ -75,7 +75,7 @@ fn found(kind: TokenKind, len: usize, place: Place) -> Front
     Front::Found(token, len, place.along(len))
 }
 
-fn line_feed(place: Place) -> Front
+fn line_feed(place: TextPlace) -> Front
     requires { Fits place 1 }
     ensures { result ≡ line_feed place }
 {
@@ -86,7 +86,7 @@ fn line_feed(place: Place) -> Front
     Front::Found(token, 1, place.over_line(1))
 }
 
-fn faulty(fault: Fault, len: usize, place: Place) -> Front
+fn faulty(fault: Fault, len: usize, place: TextPlace) -> Front
     requires { len ≤ MAX_TEXT_BYTES }
     ensures { result ≡ faulty fault len place }
 {
@@ -96,7 +96,7 @@ fn faulty(fault: Fault, len: usize, place: Place) -> Front
     })
 }
 
-fn backslash_front(place: Place, text: &[u8]) -> Front
+fn backslash_front(place: TextPlace, text: &[u8]) -> Front
     requires fits { Fits place (length text.now) }
     requires some { 1 ≤ length text.now }
     ensures begins { result ≡ backslash_front place text.now }
@@ -108,7 +108,7 @@ fn backslash_front(place: Place, text: &[u8]) -> Front
     }
 }
 
-fn comment_front(place: Place, text: &[u8]) -> Front
+fn comment_front(place: TextPlace, text: &[u8]) -> Front
     requires fits { Fits place (length text.now) }
     requires some { 1 ≤ length text.now }
     requires comment { slice_index text.now 0 ≡ 35 }
@@ -127,7 +127,7 @@ fn line_len(text: &[u8]) -> usize
     text.iter().take_while(|byte| is_line_byte(**byte)).count()
 }
 
-fn string_front(alloc: Global, place: Place, text: &[u8]) -> Result<Front, NoMemory>
+fn string_front(alloc: Global, place: TextPlace, text: &[u8]) -> Result<Front, NoMemory>
     requires fits { Fits place (length text.now) }
     requires some { 1 ≤ length text.now }
     ensures begins { IfOk result (λ front. front ≡ string_front place text.now) }
@@ -155,7 +155,7 @@ fn string_len(inside: &[u8]) -> usize
         .count()
 }
 
-fn variable_front(alloc: Global, place: Place, text: &[u8]) -> Result<Front, NoMemory>
+fn variable_front(alloc: Global, place: TextPlace, text: &[u8]) -> Result<Front, NoMemory>
     requires fits { Fits place (length text.now) }
     requires some { 1 ≤ length text.now }
     ensures begins { IfOk result (λ front. front ≡ variable_front place text.now) }
@@ -182,7 +182,7 @@ fn variable_len(name: &[u8]) -> usize
         .count()
 }
 
-fn run_or_colon_front(alloc: Global, place: Place, text: &[u8]) -> Result<Front, NoMemory>
+fn run_or_colon_front(alloc: Global, place: TextPlace, text: &[u8]) -> Result<Front, NoMemory>
     requires fits { Fits place (length text.now) }
     requires some { 1 ≤ length text.now }
     ensures begins { IfOk result (IsRunFront place text.now) }
@@ -196,19 +196,19 @@ fn run_or_colon_front(alloc: Global, place: Place, text: &[u8]) -> Result<Front,
     Ok(run_front(run, len, place))
 }
 
-fn run_front(run: Run, len: usize, place: Place) -> Front
+fn run_front(run: RunKind, len: usize, place: TextPlace) -> Front
     requires len { len ≤ MAX_TEXT_BYTES }
     requires fits { Fits place len }
     ensures { result ≡ run_front len place run }
 {
     match run {
-        Run::Kind(kind) => found(kind, len, place),
-        Run::TooLarge => faulty(Fault::NumberTooLarge, len, place),
-        Run::Nothing => faulty(Fault::BadByte, 1, place),
+        RunKind::Kind(kind) => found(kind, len, place),
+        RunKind::TooLarge => faulty(Fault::NumberTooLarge, len, place),
+        RunKind::Nothing => faulty(Fault::BadByte, 1, place),
     }
 }
 
-fn sign_front(place: Place, text: &[u8]) -> Front
+fn sign_front(place: TextPlace, text: &[u8]) -> Front
     requires fits { Fits place (length text.now) }
     requires some { 1 ≤ length text.now }
     ensures begins { result ≡ sign_front place (sign_at text.now) }

@@ -7,7 +7,7 @@ ghost use Rattle.npf_types.specs.Reading.{IsOnly};
 ghost use Rattle.npf_lexer.specs.Lexer.{IsLexed, IfFault, end_token};
 
 use crate::front::{Front, front_at};
-use crate::place::Place;
+use crate::place::TextPlace;
 use crate::token::{Token, TokenKind};
 use npf_faults::Refused;
 use npf_types::limits::MAX_TEXT_BYTES;
@@ -21,7 +21,7 @@ pub fn lex(alloc: Global, text: &[u8]) -> Result<Vec<Token>, Refused>
     ensures fault { IfErr result (IfFault (λ fault. IsOnly IsLexed text.now (Err fault))) }
 {
     let mut tokens = Vec::new(alloc);
-    let mut place = Place::start();
+    let mut place = TextPlace::start();
     let mut rest = text;
     'tokens: loop {
         match front_at(alloc, place, rest)? {
@@ -43,7 +43,7 @@ pub fn lex(alloc: Global, text: &[u8]) -> Result<Vec<Token>, Refused>
     }
 }
 
-fn end_token(place: Place) -> Token
+fn end_token(place: TextPlace) -> Token
     ensures { result ≡ end_token place }
 {
     Token {

@@ -7,17 +7,17 @@ use npf_types::limits::MAX_TEXT_BYTES;
 
 /// Where a byte of the text stands: its line and column from 1, and how many bytes are before it.
 #[derive(Clone, Copy, Debug, PartialEq, Eq)]
-pub(crate) struct Place {
+pub(crate) struct TextPlace {
     pub(crate) line: u32,
     pub(crate) col: u32,
     pub(crate) at: u32,
 }
 
-impl Place {
-    pub(crate) fn start() -> Place
+impl TextPlace {
+    pub(crate) fn start() -> TextPlace
         ensures { result ≡ text_start }
     {
-        Place {
+        TextPlace {
             line: 1,
             col: 1,
             at: 0,
@@ -25,13 +25,13 @@ impl Place {
     }
 
     /// The place `len` bytes further in the same line.
-    pub(crate) fn along(self, len: usize) -> Place
+    pub(crate) fn along(self, len: usize) -> TextPlace
         requires bytes { len ≤ MAX_TEXT_BYTES }
         requires col { self.col ≤ MAX_TEXT_BYTES + 1 }
         requires at { self.at ≤ MAX_TEXT_BYTES }
         ensures { result ≡ along len self }
     {
-        Place {
+        TextPlace {
             line: self.line,
             col: self.col + len as u32,
             at: self.at + len as u32,
@@ -39,13 +39,13 @@ impl Place {
     }
 
     /// The beginning of the next line, which is `len` bytes further.
-    pub(crate) fn over_line(self, len: usize) -> Place
+    pub(crate) fn over_line(self, len: usize) -> TextPlace
         requires bytes { len ≤ MAX_TEXT_BYTES }
         requires line { self.line ≤ MAX_TEXT_BYTES + 1 }
         requires at { self.at ≤ MAX_TEXT_BYTES }
         ensures { result ≡ over_line len self }
     {
-        Place {
+        TextPlace {
             line: self.line + 1,
             col: 1,
             at: self.at + len as u32,

@@ -12,7 +12,7 @@ use std::str;
 
 /// What a run of letters, digits, `_`, `.`, `:` and `-` is.
 #[derive(Debug, Drop)]
-pub(crate) enum Run {
+pub(crate) enum RunKind {
     Kind(TokenKind),
     /// Digits whose number doesn't fit in 32 bits.
     TooLarge,
@@ -67,14 +67,14 @@ fn ends_in_colon(len: usize, text: &[u8]) -> bool
 }
 
 /// What the run is: the first of a number, an address and a word that fits.
-pub(crate) fn run_of(alloc: Global, run: &[u8]) -> Result<Run, NoMemory>
+pub(crate) fn run_of(alloc: Global, run: &[u8]) -> Result<RunKind, NoMemory>
     ensures { IfOk result (ReadsRun run.now) }
 {
     if is_decimal(run) {
         return Ok(number_run(run));
     }
     match Addr::parse_ascii(run) {
-        Some(address) => Ok(Run::Kind(TokenKind::Address(address))),
+        Some(address) => Ok(RunKind::Kind(TokenKind::Address(address))),
         None => word_run(alloc, run),
     }
 }
@@ -91,26 +91,26 @@ fn are_digits(run: &[u8]) -> bool
     run.iter().all(|byte| byte.is_ascii_digit())
 }
 
-fn number_run(run: &[u8]) -> Run
+fn number_run(run: &[u8]) -> RunKind
     requires { is_decimal run.now ≡ true }
     ensures { result ≡ number_run run.now }
 {
     let Ok(digits) = str::from_utf8(run) else {
-        return Run::Nothing;
+        return RunKind::Nothing;
     };
     match digits.parse::<u32>() {
-        Ok(number) => Run::Kind(TokenKind::Number(number)),
-        Err(_) => Run::TooLarge,
+        Ok(number) => RunKind::Kind(TokenKind::Number(number)),
+        Err(_) => RunKind::TooLarge,
     }
 }
 
-fn word_run(alloc: Global, run: &[u8]) -> Result<Run, NoMemory>
+fn word_run(alloc: Global, run: &[u8]) -> Result<RunKind, NoMemory>
     ensures { IfOk result (λ is. is ≡ word_run run.now) }
 {
     if !is_word(run) {
-        return Ok(Run::Nothing);
+        return Ok(RunKind::Nothing);
     }
-    Ok(Run::Kind(TokenKind::Word(List::of_vec(run.to_vec(alloc)?))))
+    Ok(RunKind::Kind(TokenKind::Word(List::of_vec(run.to_vec(alloc)?))))
 }
 
 fn is_word(run: &[u8]) -> bool

@@ -1,7 +1,6 @@
 -- Addresses that agree in their first bits.
 use Rattle.std.proofs.Common.{◌≡◌, ℕ, ◌+◌, ◌-◌, ◌*◌, ◌/◌, ◌^◌, ◌<◌, ◌≤◌, sym, ap, ◌∙◌, arith}
-use Rattle.std.proofs.Math.Nat.{div-mul-le_self, div-div-eq-div-mul, le-div_iff_mul-le}
-use Rattle.std.proofs.lemmas.Nat.{pow-add, pow_pos}
+use Rattle.std.proofs.{Math.Nat.{div-mul-le_self, div-div-eq-div-mul, le-div_iff_mul-le}, lemmas.Nat.{pow-add, pow_pos}}
 use Rattle.npf_types.specs.Address.{first_bits, kept_bits}
 use Rattle.npf_lpm.specs.Agree.{AgreesIn}
 

@@ -1,19 +1,14 @@
 -- The prefixes of the two tables.
-use Rattle.std.proofs.Common.{◌≡◌, ◌≢◌, ◌↔◌, ◌+◌, ◌-◌, ◌<◌, ◌++◌, ◌∷◌, [], suc, zero, cond, ℕ, Bool, true, false, List, Contains, map, length, get_or, refl, sym, ap, ◌∙◌, arith, subst, ⊎_elim, true≢false, length-append}
-use Rattle.std.proofs.lemmas.Bool.{cases_Bool}
+use Rattle.std.proofs.Common.{◌≡◌, ◌≢◌, ◌↔◌, ◌+◌, ◌-◌, ◌<◌, ◌++◌, ◌∷◌, [], suc, zero, cond, ℕ, Bool, true, false, List, Contains, map, length}
+use Rattle.std.proofs.{Common.{get_or, refl, sym, ap, ◌∙◌, arith, subst, ⊎_elim, true≢false, length-append}, lemmas.Bool.cases_Bool}
 use Rattle.std.proofs.lemmas.List.{get_or-map, length-map}
-use Rattle.std.proofs.lemmas.List.Elements.{All-append, All-contains, All-filter, All-contains_itself, All-map, All-weaker, Contains-append_left, Contains-append_right, Contains-append_cases, Contains-get_or, filter_passes}
-use Rattle.std.proofs.lemmas.List.Kept.{AllPairs-cons}
+use Rattle.std.proofs.lemmas.List.Elements.{All-append, All-contains, All-filter, All-contains_itself, All-map, All-weaker, Contains-append_left}
+use Rattle.std.proofs.lemmas.List.{Elements.{Contains-append_right, Contains-append_cases, Contains-get_or, filter_passes}, Kept.AllPairs-cons}
 use Rattle.std.proofs.lemmas.List.{get_or_append_left, get_or-append_right}
 use Rattle.std.proofs.lemmas.List.Edits.{insert-append_left, insert-append_right, remove-append_left, remove-append_right}
-use Rattle.std.specs.List.{All, AllPairs, filter, insert, remove}
-use Rattle.std.specs.Prelude.{Result, Ok, Err}
-use Rattle.npf_types.specs.declared.address.Addr.{Addr}
-use Rattle.npf_types.specs.declared.prefix.Prefix.{Prefix}
-use Rattle.npf_types.specs.Prefix.{Covers}
-use Rattle.npf_lpm.specs.declared.aligned.Aligned.{Aligned}
-use Rattle.npf_lpm.specs.Agree.{AgreesIn, HasNumber, IsAligned}
-use Rattle.npf_lpm.specs.Blocks.{Inserts, Removes}
+use Rattle.std.specs.{List.{All, AllPairs, filter, insert, remove}, Prelude.{Result, Ok, Err}}
+use Rattle.npf_types.specs.{declared.{address.Addr.Addr, prefix.Prefix.Prefix}, Prefix.Covers}
+use Rattle.npf_lpm.specs.{declared.aligned.Aligned.Aligned, Agree.{AgreesIn, HasNumber, IsAligned}, Blocks.{Inserts, Removes}}
 use Rattle.npf_lpm.specs.Families.{AreFamilies, aligned_block, both, is_narrow, number, prefix_of}
 use Rattle.npf_lpm.proofs.ChangeLemmas.{All-inserts, All-members, All-removes, map-insert, map-remove}
 use Rattle.npf_lpm.proofs.FamilyLemmas.{aligned_is, number_shares, prefix_again, shares_number}
@@ -52,11 +47,13 @@ not_in_map f bs p other (k, lt, at) =
 module _ (v4 v6 : List Aligned) (h : AreFamilies v4 v6) where
   in_part : (f : Bool) (p : Prefix) → is_narrow p.addr ≡ f → Contains (both v4 v6) p ↔ Contains (part f v4 v6) (aligned_block p)
   in_part true p is = (
-    λ there. ⊎_elim (in_map true v4 h.narrow p is).0 (λ right. absurd (not_in_map false v6 p (λ e. true≢false (sym is ∙ e)) right)) (Contains-append_cases (map (prefix_of true) v4) (map (prefix_of false) v6) p there),
+    λ there. ⊎_elim (in_map true v4 h.narrow p is).0 (λ right. absurd (not_in_map false v6 p (λ e. true≢false (sym is ∙ e)) right))
+        (Contains-append_cases (map (prefix_of true) v4) (map (prefix_of false) v6) p there),
     λ there. Contains-append_left (map (prefix_of true) v4) (map (prefix_of false) v6) p ((in_map true v4 h.narrow p is).1 there),
   )
   in_part false p is = (
-    λ there. ⊎_elim (λ left. absurd (not_in_map true v4 p (λ e. true≢false (sym e ∙ is)) left)) (in_map false v6 h.wide p is).0 (Contains-append_cases (map (prefix_of true) v4) (map (prefix_of false) v6) p there),
+    λ there. ⊎_elim (λ left. absurd (not_in_map true v4 p (λ e. true≢false (sym e ∙ is)) left)) (in_map false v6 h.wide p is).0
+        (Contains-append_cases (map (prefix_of true) v4) (map (prefix_of false) v6) p there),
     λ there. Contains-append_right (map (prefix_of true) v4) (map (prefix_of false) v6) p ((in_map false v6 h.wide p is).1 there),
   )
 
@@ -146,7 +143,8 @@ narrow_only : (p : Prefix) → narrow_test p ≡ true → is_narrow p.addr ≡ t
 narrow_only p is = is
 
 wide_only : (p : Prefix) → wide_test p ≡ true → is_narrow p.addr ≡ false
-wide_only p is = ⊎_elim (λ (narrow : is_narrow p.addr ≡ true). absurd (true≢false (sym is ∙ ap (λ (b : Bool). cond b false true) narrow))) (λ (wide : is_narrow p.addr ≡ false). wide) (cases_Bool (is_narrow p.addr))
+wide_only p is = ⊎_elim (λ (narrow : is_narrow p.addr ≡ true). absurd (true≢false (sym is ∙ ap (λ (b : Bool). cond b false true) narrow)))
+    (λ (wide : is_narrow p.addr ≡ false). wide) (cases_Bool (is_narrow p.addr))
 
 past : (n k : ℕ) → n + k - n ≡ k
 past n k = omega arith
@@ -181,7 +179,8 @@ module _ (v4 v6 new : List Aligned) (h : AreFamilies v4 v6) (p : Prefix) where
       place = put.place;
       within = omega (arith, put.within, both-length v4 v6);
       put = ap (λ bs. both bs v6) put.put ∙ ap (λ ps. ps ++ wide6) (map-insert (prefix_of true) v4 put.place (aligned_block p))
-          ∙ sym (insert-append_left narrow4 wide6 put.place (prefix_of true (aligned_block p)) (omega (arith, put.within, length-map v4 (prefix_of true)))) ∙ ap (insert (both v4 v6) put.place) (again_of true p is);
+          ∙ sym (insert-append_left narrow4 wide6 put.place (prefix_of true (aligned_block p)) (omega (arith, put.within, length-map v4 (prefix_of true))))
+          ∙ ap (insert (both v4 v6) put.place) (again_of true p is);
     },
   )
   put_v4 (Ok false) is (there, same) = ((in_part v4 v6 h true p is).1 there, ap (λ bs. both bs v6) same)

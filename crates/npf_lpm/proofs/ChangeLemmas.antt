@@ -4,11 +4,9 @@ use Rattle.std.proofs.lemmas.Bool.{cases_lt}
 use Rattle.std.proofs.lemmas.List.Edits.{length-insert, length-remove, get_or-insert_below, get_or-insert_at, get_or-insert_above, get_or-remove_below, get_or-remove_above}
 use Rattle.std.proofs.lemmas.List.Elements.{All-append, All-contains, All-take, All-drop, All-cons, Contains-get_or}
 use Rattle.std.proofs.lemmas.List.Sorted.{Contains-permutation, IsPermutation-insert, IsPermutation-remove, IsPermutation-sym}
-use Rattle.std.specs.List.{All, AllPairs, insert, remove}
-use Rattle.std.specs.Prelude.{Result, Ok, Err, OnOk}
+use Rattle.std.specs.{List.{All, AllPairs, insert, remove}, Prelude.{Result, Ok, Err, OnOk}}
 use Rattle.npf_types.specs.declared.prefix.Prefix.{Prefix}
-use Rattle.npf_lpm.specs.Blocks.{Inserts, IsAt, Removes}
-use Rattle.npf_lpm.specs.Lpm.{Gains, Loses}
+use Rattle.npf_lpm.specs.{Blocks.{Inserts, IsAt, Removes}, Lpm.{Gains, Loses}}
 
 module _ {X : Type 0} where
   pub All-insert : (P : X → Type 0) (xs : List X) (k : ℕ) (x : X) → P x → All P xs → All P (insert xs k x)
@@ -27,7 +25,8 @@ module _ {X : Type 0} where
       let at : get_or (insert xs p x) j d ≡ get_or xs (j - 1) d = ap (λ k. get_or (insert xs p x) k d) (omega arith) ∙ get_or-insert_above xs p x d (j - 1) (omega arith) le in
       let inside : j - 1 < length xs = omega (arith, length-insert xs p x le) in
       late (get_or xs (j - 1) d) at (λ left. all i (j - 1) d (omega arith) inside) (λ here. above (j - 1) d (omega arith) inside) (λ k is up. all k (j - 1) d (omega arith) inside))
-      (λ (here : j ≤ p). late x (ap (λ k. get_or (insert xs p x) k d) (omega arith) ∙ get_or-insert_at xs p x d le) (λ left. below i d left) (λ same. absurd (omega (arith, same))) (λ k is up. absurd (omega arith)))
+      (λ (here : j ≤ p). late x (ap (λ k. get_or (insert xs p x) k d) (omega arith) ∙ get_or-insert_at xs p x d le)
+      (λ left. below i d left) (λ same. absurd (omega (arith, same))) (λ k is up. absurd (omega arith)))
       (cases_lt p j))
       (cases_lt j p) where
         late : (y : X) → get_or (insert xs p x) j d ≡ y → (i < p → R (get_or xs i d) y) → (i ≡ p → R x y) → ((k : ℕ) → i ≡ k + 1 → p ≤ k → R (get_or xs k d) y)
@@ -35,7 +34,8 @@ module _ {X : Type 0} where
         late y is left here right = subst (λ (z : X). R (get_or (insert xs p x) i d) z) (sym is) (⊎_elim
             (λ (lt : i < p). subst (λ (z : X). R z y) (sym (get_or-insert_below xs p x d i lt le)) (left lt))
             (λ (ge : p ≤ i). ⊎_elim
-            (λ (gt : p < i). subst (λ (z : X). R z y) (sym (ap (λ k. get_or (insert xs p x) k d) (omega arith) ∙ get_or-insert_above xs p x d (i - 1) (omega arith) le)) (right (i - 1) (omega arith) (omega arith)))
+            (λ (gt : p < i). subst (λ (z : X). R z y) (sym (ap (λ k. get_or (insert xs p x) k d) (omega arith) ∙ get_or-insert_above xs p x d (i - 1) (omega arith) le))
+            (right (i - 1) (omega arith) (omega arith)))
             (λ (eq : i ≤ p). subst (λ (z : X). R z y) (sym (ap (λ k. get_or (insert xs p x) k d) (omega arith) ∙ get_or-insert_at xs p x d le)) (here (omega arith)))
             (cases_lt p i))
             (cases_lt i p))

@@ -1,14 +1,8 @@
 -- Places in lists that rise by a number of their elements, and the counts of an index.
 use Rattle.std.proofs.Common.{◌≡◌, ℕ, List, ◌+◌, ◌-◌, ◌^◌, ◌<◌, ◌≤◌, true, false, min, length, get_or, arith, ap, ◌∙◌, ⊎_elim}
-use Rattle.std.specs.List.Sorted.{IsNonDecreasing, IsNonDecreasingBy, IsPartitionPoint}
-use Rattle.std.specs.List.{between}
-use Rattle.std.proofs.Math.Dec.{leb}
-use Rattle.std.proofs.lemmas.Bool.{cases_lt, leb-false, leb-true}
-use Rattle.std.proofs.lemmas.List.Edits.{get_or-between, length-between}
-use Rattle.std.proofs.lemmas.Nat.{pow_pos}
-use Rattle.npf_lpm.specs.Cut.{IsCut, IsLowCut, LiesBetween}
-use Rattle.npf_lpm.specs.Index.{bucket}
-use Rattle.npf_lpm.proofs.AgreeLemmas.{div-mono}
+use Rattle.std.{specs.List.{Sorted.{IsNonDecreasing, IsNonDecreasingBy, IsPartitionPoint}, between}, proofs.Math.Dec.leb}
+use Rattle.std.proofs.lemmas.{Bool.{cases_lt, leb-false, leb-true}, List.Edits.{get_or-between, length-between}, Nat.pow_pos}
+use Rattle.npf_lpm.{specs.{Cut.{IsCut, IsLowCut, LiesBetween}, Index.bucket}, proofs.AgreeLemmas.div-mono}
 
 module _ {X : Type 0} (n : X → ℕ) (limit : ℕ) (xs : List X) (count : ℕ) where
   -- the elements from a place on are at or above the limit where that place's is

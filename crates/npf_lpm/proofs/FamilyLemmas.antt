@@ -1,14 +1,9 @@
 -- A family's blocks as numbers, and its prefixes.
-use Rattle.std.proofs.Common.{◌≡◌, ◌≤◌, ◌+◌, ◌-◌, ◌*◌, ◌/◌, ◌^◌, ℕ, refl, sym, ap, ◌∙◌, arith}
-use Rattle.std.proofs.Math.Nat.{min-eq_left, mul-div-mul_right, mul-div_left}
+use Rattle.std.proofs.{Common.{◌≡◌, ◌≤◌, ◌+◌, ◌-◌, ◌*◌, ◌/◌, ◌^◌, ℕ, refl, sym, ap, ◌∙◌, arith}, Math.Nat.{min-eq_left, mul-div-mul_right, mul-div_left}}
 use Rattle.std.proofs.lemmas.Nat.{pow-add, pow_pos}
-use Rattle.npf_types.specs.declared.address.Addr.{Addr}
-use Rattle.npf_types.specs.declared.address.Addr.TheVariants.{V4, V6}
-use Rattle.npf_types.specs.declared.prefix.Prefix.{Prefix}
-use Rattle.npf_types.specs.Address.{width, cleared, SharesFirst, kept_bits, first_bits}
-use Rattle.npf_types.proofs.PrefixLemmas.{Prefix-same}
-use Rattle.npf_lpm.specs.Agree.{AgreesIn, IsAligned}
-use Rattle.npf_lpm.specs.Families.{number, aligned_block, is_narrow, prefix_of}
+use Rattle.npf_types.specs.declared.{address.Addr.{Addr, TheVariants.{V4, V6}}, prefix.Prefix.Prefix}
+use Rattle.npf_types.{specs.Address.{width, cleared, SharesFirst, kept_bits, first_bits}, proofs.PrefixLemmas.Prefix-same}
+use Rattle.npf_lpm.specs.{Agree.{AgreesIn, IsAligned}, Families.{number, aligned_block, is_narrow, prefix_of}}
 
 size : (n : ℕ) → n ≤ 32 → 2 ^ (128 - n) ≡ 2 ^ (32 - n) * 2 ^ 96
 size n le = let e : 128 - n ≡ (32 - n) + 96 = omega arith in ap (λ k. 2 ^ k) e ∙ pow-add 2 (32 - n) 96

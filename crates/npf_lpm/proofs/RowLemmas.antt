@@ -1,16 +1,9 @@
 -- The rows as a list of blocks, and the search for a place in them.
 use Rattle.std.proofs.Common.{◌≡◌, ◌≢◌, ◌↔◌, ℕ, List, [], ◌∷◌, ◌+◌, ◌-◌, ◌*◌, ◌<◌, ◌≤◌, suc, zero, Contains, length, get_or, map, refl, sym, ap, ◌∙◌, arith, subst, ⊎_elim}
-use Rattle.std.proofs.lemmas.Bool.{cases_lt}
-use Rattle.std.proofs.lemmas.List.{get_or_default, length-map}
-use Rattle.std.specs.List.{All, AllPairs, insert, remove}
-use Rattle.npf_lpm.specs.declared.aligned.Aligned.{Aligned}
-use Rattle.npf_lpm.specs.Agree.{IsAligned}
-use Rattle.std.proofs.lemmas.List.Edits.{length-insert, length-remove}
-use Rattle.std.proofs.lemmas.List.Quantifiers.{all_pairs_remove}
-use Rattle.npf_lpm.specs.Blocks.{IsAt, IsTakenOut}
-use Rattle.npf_lpm.specs.Cut.{IsCut}
-use Rattle.npf_lpm.proofs.ChangeLemmas.{All-insert, All-remove, AllPairs-insert, taken_gone}
-use Rattle.npf_lpm.specs.Rows.{AreOrdered, IsGap, aligned_blocks, rank}
+use Rattle.std.{proofs.lemmas.{Bool.cases_lt, List.{get_or_default, length-map}}, specs.List.{All, AllPairs, insert, remove}}
+use Rattle.npf_lpm.specs.{declared.aligned.Aligned.Aligned, Agree.IsAligned, Blocks.{IsAt, IsTakenOut}, Cut.IsCut}
+use Rattle.std.proofs.lemmas.List.{Edits.{length-insert, length-remove}, Quantifiers.all_pairs_remove}
+use Rattle.npf_lpm.{proofs.ChangeLemmas.{All-insert, All-remove, AllPairs-insert, taken_gone}, specs.Rows.{AreOrdered, IsGap, aligned_blocks, rank}}
 
 pub get_or-blocks : (fs ls : List ℕ) (k : ℕ) (d : Aligned) → length ls ≡ length fs → k < length fs
     → get_or (aligned_blocks fs ls) k d ≡ record { first = get_or fs k 0; len = get_or ls k 0 }
@@ -53,7 +46,8 @@ ordered_rows fs ls pairs aligned rises = record {
   rises = rises;
   climbs = λ i j d le lt. ⊎_elim
       (λ (less : i < j).
-      let up = subst (λ (q : Aligned). rank (block i) < rank q) (at j lt) (subst (λ (p : Aligned). rank p < rank (get_or bs j none)) (at i (omega arith)) (rises i j none less (omega (arith, long)))) in
+      let up = subst (λ (q : Aligned). rank (block i) < rank q) (at j lt)
+      (subst (λ (p : Aligned). rank p < rank (get_or bs j none)) (at i (omega arith)) (rises i j none less (omega (arith, long)))) in
       let low = short i (omega arith) in
       let high = short j lt in
       omega (arith, get_or_default fs i 0 d (omega arith), get_or_default fs j 0 d lt))
@@ -120,7 +114,8 @@ module _ (fs ls : List ℕ) (block : Aligned) (count : ℕ) where
           (λ (late : before < k). high.behind k d (omega arith) lt)
           (λ (early : k ≤ before).
           let same : before ≡ k = omega arith in
-          let here : rank block ≤ get_or fs before 0 * 256 + get_or ls before 0 = ⊎_elim (λ less. absurd (not less)) (λ ge. ge) (cases_lt (get_or fs before 0 * 256 + get_or ls before 0) (rank block)) in
+          let here : rank block ≤ get_or fs before 0 * 256 + get_or ls before 0 =
+          ⊎_elim (λ less. absurd (not less)) (λ ge. ge) (cases_lt (get_or fs before 0 * 256 + get_or ls before 0) (rank block)) in
           subst (λ (i : ℕ). rank block ≤ rank (get_or (aligned_blocks fs ls) i d)) same (subst (λ (b : Aligned). rank block ≤ rank b) (sym (at_before d)) here))
           (cases_lt before k);
     }
@@ -164,7 +159,8 @@ put_ordered fs ls block place h gap one =
     let is : aligned_blocks (insert fs place block.first) (insert ls place block.len) ≡ insert bs place block = blocks-insert fs ls place block.first block.len h.pairs in
     let most = gap.between.most in
     let within : place ≤ length fs = omega (arith, length-blocks fs ls h.pairs) in
-    let pairs : length (insert ls place block.len) ≡ length (insert fs place block.first) = omega (arith, length-insert ls place block.len (omega (arith, h.pairs)), length-insert fs place block.first within, h.pairs) in
+    let pairs : length (insert ls place block.len) ≡ length (insert fs place block.first) =
+    omega (arith, length-insert ls place block.len (omega (arith, h.pairs)), length-insert fs place block.first within, h.pairs) in
     ordered_rows _ _ pairs
     (subst (λ (l : List Aligned). All IsAligned l) (sym is) (All-insert IsAligned bs place block one h.aligned))
     (subst (λ (l : List Aligned). AllPairs (λ p q. rank p < rank q) l) (sym is) (AllPairs-insert (λ p q. rank p < rank q) bs place block most h.rises gap.between.before
@@ -174,7 +170,10 @@ put_ordered fs ls block place h gap one =
           let b = get_or (aligned_blocks fs ls) k d in
           let short = (h.aligned k d lt).short in
           let small = one.short in
-          let same : b ≡ block = λ i. record { first = first_same b.first block.first b.len block.len (omega arith) (omega arith) (omega arith) i; len = len_same b.first block.first b.len block.len (omega arith) (omega arith) (omega arith) i } in
+          let same : b ≡ block = λ i. record {
+            first = first_same b.first block.first b.len block.len (omega arith) (omega arith) (omega arith) i;
+            len = len_same b.first block.first b.len block.len (omega arith) (omega arith) (omega arith) i;
+          } in
           absurd (gap.absent (k, lt, get_or_default (aligned_blocks fs ls) k block d lt ∙ same)))
           (cases_lt (rank block) (rank (get_or (aligned_blocks fs ls) k d)))
 

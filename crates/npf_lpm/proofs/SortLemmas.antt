@@ -1,13 +1,9 @@
 -- The order of blocks that `<` of two of them is.
 use Rattle.std.proofs.Common.{Less, Equal, Greater, ◌≡◌, ◌<◌, ◌≤◌, ℕ, Bool, true, Ordering, arith, ◌∙◌, ap, ⊎_elim, ◌⊎◌, inl, inr}
-use Rattle.std.proofs.lemmas.Bool.{cases_lt, and_parts}
-use Rattle.std.specs.Ordering.{ordering_then, nat_cmp}
-use Rattle.std.specs.Cmp.{nat_cmp_is}
-use Rattle.std.proofs.lemmas.Map.Views.{exact_unsigned_eq}
-use Rattle.npf_lpm.specs.declared.aligned.Aligned.{Aligned}
+use Rattle.std.{proofs.lemmas.{Bool.{cases_lt, and_parts}, Map.Views.exact_unsigned_eq}, specs.{Ordering.{ordering_then, nat_cmp}, Cmp.nat_cmp_is}}
+use Rattle.npf_lpm.specs.{declared.aligned.Aligned.Aligned, Rows.rank}
 use Rattle.npf_lpm.specs.contracts.aligned.AlignedOrd.TheImpl as aligned_ord
 use Rattle.npf_lpm.specs.contracts.aligned.AlignedPartialEq.TheImpl as aligned_eq
-use Rattle.npf_lpm.specs.Rows.{rank}
 
 abbrev pub block_cmp : Aligned → Aligned → Ordering
 block_cmp = (aligned_ord.ghosts).cmp

@@ -2,12 +2,8 @@
 use Rattle.std.proofs.Common.{◌≡◌, ◌↔◌, ℕ, List, ◌+◌, ◌-◌, ◌*◌, ◌<◌, ◌≤◌, suc, zero, length, get_or, refl, sym, ◌∙◌, arith, subst, ⊎_elim, ◌⊎◌, inl, inr}
 use Rattle.std.proofs.lemmas.Bool.{cases_lt, cases_eq}
 use Rattle.npf_types.specs.Address.{first_bits}
-use Rattle.npf_lpm.specs.declared.aligned.Aligned.{Aligned}
-use Rattle.npf_lpm.specs.Agree.{AgreesIn, HasNumber, IsAligned}
-use Rattle.npf_lpm.specs.Cut.{IsCut}
-use Rattle.npf_lpm.specs.Rows.{AreRows, IsTop, aligned_blocks, rank}
-use Rattle.npf_lpm.proofs.AgreeLemmas.{agrees_between, agrees_wider, first_below}
-use Rattle.npf_lpm.proofs.RowLemmas.{get_or-blocks, length-blocks}
+use Rattle.npf_lpm.specs.{declared.aligned.Aligned.Aligned, Agree.{AgreesIn, HasNumber, IsAligned}, Cut.IsCut, Rows.{AreRows, IsTop, aligned_blocks, rank}}
+use Rattle.npf_lpm.proofs.{AgreeLemmas.{agrees_between, agrees_wider, first_below}, RowLemmas.{get_or-blocks, length-blocks}}
 
 -- some block up to the place has the address
 pub record IsUnder (fs ls : List ℕ) (place addr : ℕ) : Type 0 where
@@ -26,7 +22,8 @@ module _ (fs ls ts : List ℕ) (h : AreRows fs ls ts) where
   up k lt =
       let at = λ (i : ℕ) (in' : i < length fs). get_or-blocks fs ls i none h.ordered.pairs in' in
       subst (λ (p : Aligned). rank p < rank (record { first = get_or fs (suc k) 0; len = get_or ls (suc k) 0 })) (at k (omega arith))
-      (subst (λ (q : Aligned). rank (get_or (aligned_blocks fs ls) k none) < rank q) (at (suc k) lt) (h.ordered.rises k (suc k) none (omega arith) (omega (arith, length-blocks fs ls h.ordered.pairs))))
+      (subst (λ (q : Aligned). rank (get_or (aligned_blocks fs ls) k none) < rank q) (at (suc k) lt)
+      (h.ordered.rises k (suc k) none (omega arith) (omega (arith, length-blocks fs ls h.ordered.pairs))))
 
   -- two blocks that have an address of one are nested: the earlier is the outer one
   nested : (k t : ℕ) → suc k < length fs → t ≤ get_or ls k 0 → AgreesIn t (get_or fs k 0) (get_or fs (suc k) 0) → t ≤ get_or ls (suc k) 0
@@ -35,7 +32,8 @@ module _ (fs ls ts : List ℕ) (h : AreRows fs ls ts) where
       let next = block_at (suc k) lt in
       let this = block_at k (omega arith) in
       let short = this.short in
-      let wide : AgreesIn (get_or ls (suc k) 0) (get_or fs (suc k) 0) (get_or fs k 0) = sym (agrees_wider (get_or ls (suc k) 0) t (get_or fs k 0) (get_or fs (suc k) 0) (omega arith) (omega arith) same) in
+      let wide : AgreesIn (get_or ls (suc k) 0) (get_or fs (suc k) 0) (get_or fs k 0) =
+      sym (agrees_wider (get_or ls (suc k) 0) t (get_or fs k 0) (get_or fs (suc k) 0) (omega arith) (omega arith) same) in
       let low : get_or fs (suc k) 0 ≤ get_or fs k 0 = first_below (get_or ls (suc k) 0) (get_or fs (suc k) 0) (get_or fs k 0) next.zeroed wide in
       let less = up k lt in
       absurd (omega arith))
@@ -138,5 +136,6 @@ module _ (fs ls ts : List ℕ) (h : AreRows fs ls ts) where
               among = (u.at, omega (arith, length-blocks fs ls h.ordered.pairs), get_or-blocks fs ls u.at _ h.ordered.pairs within);
               has = u.has;
             },
-        λ has. let (k, lt, mine) = under_of a count cut has in subst (λ (x : ℕ). AgreesIn t x a) (sym first) (subst (λ (x : ℕ). AgreesIn x (get_or fs last 0) a) (sym top) (o.covers a (omega arith) (record { at = k; upto = omega arith; has = mine }))),
+        λ has. let (k, lt, mine) = under_of a count cut has in
+            subst (λ (x : ℕ). AgreesIn t x a) (sym first) (subst (λ (x : ℕ). AgreesIn x (get_or fs last 0) a) (sym top) (o.covers a (omega arith) (record { at = k; upto = omega arith; has = mine }))),
       )

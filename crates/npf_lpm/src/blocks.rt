@@ -10,7 +10,7 @@ ghost use Rattle.npf_lpm.specs.Rows.{IsGap, rank};
 use crate::aligned::{Aligned, agrees_in};
 use crate::index::Index;
 use crate::rows::{find, firsts_of, lengths_of, put_in, renew, take_out};
-use crate::sorting::sort_once;
+use crate::sort::sort_once;
 use npf_types::NoMemory;
 use std::alloc::Global;
 use std::marker::Model;

@@ -18,6 +18,6 @@ mod blocks;
 mod index;
 mod lpm;
 mod rows;
-mod sorting;
+mod sort;
 
 pub use lpm::Lpm;

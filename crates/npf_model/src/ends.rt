@@ -1,3 +1,4 @@
+// The ends of a rule: addresses and ports.
 use npf_types::{List, Prefix};
 
 /// What an address is compared with: a block, or a table by its place in the model's list, counted from 0.

@@ -1,3 +1,4 @@
+// Groups, and what they list.
 use crate::rule::{OnIf, Rule};
 use npf_types::{Dir, List, Name, Text};
 

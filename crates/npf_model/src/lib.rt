@@ -21,7 +21,7 @@ mod table;
 
 pub use ends::{AddrItem, Ends};
 pub use group::{Group, Item};
-pub use iface::{Iface, Ifaces};
+pub use iface::{Iface, Ifaces, number_of_name, number_of_place};
 pub use map::{Algo, Arrow, Map, Side};
 pub use model::Model;
 pub use procedure::Procedure;

@@ -1,3 +1,4 @@
+// Maps, which translate.
 use crate::rule::{OnIf, Rule};
 use npf_types::Prefix;
 

@@ -1,3 +1,4 @@
+// A configuration as data.
 use crate::group::Group;
 use crate::map::Map;
 use crate::procedure::Procedure;

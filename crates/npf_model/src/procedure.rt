@@ -1,3 +1,4 @@
+// Procedures, which rules call.
 use npf_types::{Name, Text};
 
 /// What a rule may have done to the packets that it passes (npf.conf(5), "Procedures"): `min-ttl`, `max-mss` and `no-df` of

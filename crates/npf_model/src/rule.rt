@@ -1,3 +1,4 @@
+// Rules.
 use crate::ends::Ends;
 use npf_types::{Decision, Dir, IfId, List, Name};
 

@@ -1,3 +1,4 @@
+// The declarations of tables.
 use npf_types::{Name, Span, Text};
 
 /// The kind of an address table (npf.conf(5), "Tables").

@@ -1,39 +1,11 @@
 -- The answer to a translated packet comes back to the packet's own ends.
 use Rattle.std.proofs.Common.{◌≡◌, ℕ, Bool, true, false, cond, Option, Some, None, option_map, ◌⊎◌, inl, inr, refl}
-use Rattle.npf_types.specs.declared.address.Addr.{Addr}
-use Rattle.npf_types.specs.declared.address.Addr.TheVariants.{V4, V6}
-use Rattle.npf_types.specs.declared.change.Change.{Change}
-use Rattle.npf_types.specs.declared.change.End.{End}
-use Rattle.npf_types.specs.declared.facts.Facts.{Facts}
-use Rattle.npf_types.specs.declared.facts.L4.{L4}
+use Rattle.npf_types.specs.declared.{address.Addr.Addr, change.{Change.Change, End.End}, facts.{Facts.Facts, L4.L4}}
 use Rattle.npf_types.specs.declared.facts.L4.TheVariants.{Tcp, Udp, Icmp, Icmp6, Other}
 use Rattle.npf_key.specs.Port.{source_port, destination_port}
 use Rattle.npf_key.specs.Translated.{shares_family, fitting, address_there, named_port, l4_there, l4_about, facts_there, about}
-use Rattle.npf_nat.specs.Answer.{own_end, answer_change}
-use Rattle.npf_nat.specs.Laws.{AnswerIsRestored}
-
-shares-sym : (a b : Addr) → shares_family a b ≡ true → shares_family b a ≡ true
-shares-sym (V4 _) (V4 _) h = refl
-shares-sym (V6 _) (V6 _) h = refl
-shares-sym (V4 _) (V6 _) h = cc
-shares-sym (V6 _) (V4 _) h = cc
-
-shares-other : (a b c : Addr) → shares_family a b ≡ true → shares_family a c ≡ true → shares_family b c ≡ true
-shares-other (V4 _) (V4 _) (V4 _) h k = refl
-shares-other (V6 _) (V6 _) (V6 _) h k = refl
-shares-other (V4 _) (V4 _) (V6 _) h k = cc
-shares-other (V4 _) (V6 _) _ h k = cc
-shares-other (V6 _) (V6 _) (V4 _) h k = cc
-shares-other (V6 _) (V4 _) _ h k = cc
-
--- an address that is written is of the packet's family
-written : (a other : Addr) (named : Option End) → shares_family a other ≡ true → shares_family a (address_there (fitting a named) other) ≡ true
-written a other None h = h
-written a other (Some named) h = by (shares_family named.addr a) refl
-  where
-    by : (b : Bool) → shares_family named.addr a ≡ b → shares_family a (address_there (cond b (Some named) None) other) ≡ true
-    by true e = shares-sym named.addr a e
-    by false e = h
+use Rattle.npf_key.proofs.TranslatedLemmas.{written, shares-other}
+use Rattle.npf_nat.specs.{Answer.{own_end, answer_change}, Laws.AnswerIsRestored}
 
 -- where a change names an end, the answer's change names the packet's own
 own_written : (family own now : Addr) (port : ℕ) (named : End) → shares_family own family ≡ true

@@ -2,13 +2,9 @@
 use Rattle.std.proofs.Common.{◌≡◌, ◌≤◌, ◌<◌, ◌+◌, ◌-◌, ◌*◌, ◌/◌, ◌%◌, ◌^◌, ℕ, true, ap, sym, subst, ◌∙◌, arith}
 use Rattle.std.proofs.Math.Nat.{add-sub_of_le, lt_of_mul-lt-mul_right, mul-le-mul_right, mod-lt, mod-mod, mul-add-mod_self_right, mod-add-div}
 use Rattle.std.proofs.lemmas.Nat.{pow_pos, pow-add}
-use Rattle.npf_types.specs.declared.address.Addr.{Addr}
-use Rattle.npf_types.specs.declared.address.Addr.TheVariants.{V4, V6}
-use Rattle.npf_types.specs.Address.{kept_bits, first_bits, cleared, SharesFirst}
+use Rattle.npf_types.specs.{declared.address.Addr.{Addr, TheVariants.{V4, V6}}, Address.{kept_bits, first_bits, cleared, SharesFirst}}
 use Rattle.npf_key.specs.Translated.{shares_family}
-use Rattle.npf_nat.specs.Laws.{NetmapComesBack}
-use Rattle.npf_nat.specs.Netmap.{in_block, moved}
-use Rattle.npf_nat.specs.Npt.{address_number}
+use Rattle.npf_nat.specs.{Laws.NetmapComesBack, Netmap.{in_block, moved}, Npt.address_number}
 
 below_multiple : (q m p block top r : ℕ) → block ≡ q * p → top ≡ m * p → block < top → r < p → block + r < top
 below_multiple q m p block top r e f h k =

@@ -1,16 +1,11 @@
 -- Prefix translation, word by word: an address is what is in front of 80 bits, its fourth word and
 -- 64 bits.
 use Rattle.std.proofs.Common.{◌≡◌, ◌≢◌, ◌≤◌, ◌<◌, ◌+◌, ◌-◌, ◌*◌, ◌/◌, ◌%◌, ◌^◌, ℕ, IsTrue, ap, sym, subst, ◌∙◌, arith}
-use Rattle.std.proofs.Math.Nat.{div-div-eq-div-mul, mod-mod, mul-add-mod_self_right}
-use Rattle.std.proofs.lemmas.Nat.{pow-add, mod-pow-add}
-use Rattle.npf_types.specs.declared.address.Addr.{Addr}
-use Rattle.npf_types.specs.declared.address.Addr.TheVariants.{V4, V6}
-use Rattle.npf_types.specs.Address.{kept_bits, first_bits, cleared, SharesFirst}
+use Rattle.std.proofs.{Math.Nat.{div-div-eq-div-mul, mod-mod, mul-add-mod_self_right}, lemmas.Nat.{pow-add, mod-pow-add}}
+use Rattle.npf_types.specs.{declared.address.Addr.{Addr, TheVariants.{V4, V6}}, Address.{kept_bits, first_bits, cleared, SharesFirst}}
 use Rattle.npf_model.specs.Describes.{is_v6}
-use Rattle.npf_nat.specs.Laws.{Npt66ComesBack, Npt66IsNeutral, words_sum}
-use Rattle.npf_nat.specs.Netmap.{in_block}
-use Rattle.npf_nat.specs.Npt.{adjusted_word, fourth_word, npt66_number, address_number, prefix_sum}
-use Rattle.npf_nat.proofs.NetmapLemmas.{itself}
+use Rattle.npf_nat.specs.{Laws.{Npt66ComesBack, Npt66IsNeutral, words_sum}, Netmap.in_block}
+use Rattle.npf_nat.{specs.Npt.{adjusted_word, fourth_word, npt66_number, address_number, prefix_sum}, proofs.NetmapLemmas.itself}
 
 -- a prefix of IPv6 as a number
 pub zeroed_ipv6 : (addr : Addr) (n : ℕ) → IsTrue (is_v6 addr) → addr ≡ cleared addr n → address_number addr ≡ kept_bits 128 n (address_number addr)

@@ -1,5 +1,5 @@
 pub mod Answer
-pub mod Draw
+pub mod FirstPort
 pub mod Laws
 pub mod MapPlan
 pub mod Netmap

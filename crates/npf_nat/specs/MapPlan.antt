@@ -16,7 +16,7 @@ use Rattle.npf_model.specs.declared.map.Map.{Map}
 use Rattle.npf_nat.specs.declared.map_plan.MapPlan.{MapPlan}
 use Rattle.npf_nat.specs.declared.map_plan.MapPlan.TheVariants.{Fixed, Draw}
 use Rattle.npf_nat.specs.Answer.{answer_change}
-use Rattle.npf_nat.specs.Draw.{drawn_for, drawn_range, first_candidate}
+use Rattle.npf_nat.specs.FirstPort.{drawn_for, drawn_range, first_candidate}
 use Rattle.npf_nat.specs.Netmap.{netmap}
 use Rattle.npf_nat.specs.Npt.{npt66_address}
 

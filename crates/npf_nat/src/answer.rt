@@ -1,3 +1,4 @@
+// What is written into the answers to a translated packet.
 ghost use Rattle.std.specs.Prelude.{◌≡◌};
 ghost use Rattle.std.specs.Option.{option_map};
 ghost use Rattle.npf_nat.specs.Answer.{own_end, answer_change};

@@ -13,13 +13,13 @@
 #![tactic(auto)]
 
 mod answer;
-mod draw;
+mod first_port;
 pub mod laws;
 mod map_plan;
 mod netmap;
 mod npt;
 mod segment;
 
-pub use draw::drawn;
+pub use first_port::drawn;
 pub use map_plan::{MapPlan, plan};
 pub use npt::npt66;

@@ -1,10 +1,11 @@
+// What a map does with a packet.
 ghost use Rattle.std.specs.Prelude.{◌≡◌, ◌≤◌, IfSome};
-ghost use Rattle.npf_nat.specs.Draw.{drawn_range};
+ghost use Rattle.npf_nat.specs.FirstPort.{drawn_range};
 ghost use Rattle.npf_nat.specs.MapPlan.{plan, plan_by, outward, outward_change, inward_change, translated_address, is_neutral, fixed, draw, TriesWithin};
 ghost use Rattle.npf_nat.specs.PrefixPair.{IsOrdered};
 
 use crate::answer::answer_change;
-use crate::draw::{drawn_for, drawn_range, first_candidate};
+use crate::first_port::{drawn_for, drawn_range, first_candidate};
 use crate::netmap::netmap;
 use crate::npt::npt66_address;
 use crate::segment::{fits_protocol, fits_segment};

@@ -1,3 +1,4 @@
+// Addresses moved from one network to another of the same length (npf.conf(5), `algo netmap`).
 ghost use Rattle.std.specs.Prelude.{◌≡◌, ◌≤◌, ◌+◌};
 ghost use Rattle.npf_types.specs.Address.{kept_bits};
 ghost use Rattle.npf_types.specs.declared.address.Addr.TheVariants.{V4, V6};

@@ -1,3 +1,4 @@
+// Addresses moved between prefixes with the sum kept (RFC 6296).
 ghost use Rattle.std.specs.Prelude.{◌≡◌, ◌≤◌, ◌+◌, ◌-◌, ◌*◌, ◌%◌};
 ghost use Rattle.npf_types.specs.Address.{kept_bits};
 ghost use Rattle.npf_types.specs.declared.address.Addr.TheVariants.{V6};

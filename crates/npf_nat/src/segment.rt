@@ -1,3 +1,4 @@
+// Whether a map applies to a packet.
 ghost use Rattle.std.specs.Prelude.{◌≡◌};
 ghost use Rattle.npf_model.specs.Describes.{source_of, destination_of};
 ghost use Rattle.npf_model.specs.MapOf.{fits_side_port, fits_side, goes_outside, comes_inside, fits_segment, fits_map_protocol};

@@ -2,42 +2,20 @@
 use Rattle.std.proofs.Common.{◌≡◌, ℕ, ◌+◌, ◌%◌, Bool, true, false, IsTrue, Some, None, List, [], ◌++◌, refl, sym, ap, ◌∙◌, subst, arith}
 use Rattle.std.specs.Prelude.{if◌then◌else◌, slice_index}
 use Rattle.npf_fields.specs.Field.{number128}
-use Rattle.npf_types.specs.declared.action.Action.{Action}
-use Rattle.npf_types.specs.declared.address.Addr.{Addr}
-use Rattle.npf_types.specs.declared.address.Addr.TheVariants.{V4, V6}
-use Rattle.npf_types.specs.declared.change.Change.{Change}
-use Rattle.npf_types.specs.declared.change.End.{End}
-use Rattle.npf_types.specs.declared.direction.Dir.{Dir}
-use Rattle.npf_types.specs.declared.direction.Dir.TheVariants.{In, Out}
-use Rattle.npf_types.specs.declared.facts.Facts.{Facts}
-use Rattle.npf_types.specs.declared.facts.L4.{L4}
-use Rattle.npf_types.specs.declared.facts.L4.TheVariants.{Tcp, Udp, Icmp, Icmp6, Other}
+use Rattle.npf_types.specs.declared.{action.Action.Action, address.Addr.{Addr, TheVariants.{V4, V6}}, change.{Change.Change, End.End}, direction.Dir.Dir}
+use Rattle.npf_types.specs.declared.{direction.Dir.TheVariants.{In, Out}, facts.{Facts.Facts, L4.{L4, TheVariants.{Tcp, Udp, Icmp, Icmp6, Other}}}}
 use Rattle.npf_types.specs.declared.link.Link.{Link}
-use Rattle.npf_key.specs.Laws.{IsOneFamily}
-use Rattle.npf_key.specs.Translated.{address_there, facts_there, fitting, named_port, shares_family}
-use Rattle.npf_model.specs.declared.map.Map.{Map}
-use Rattle.npf_model.specs.Describes.{is_v6}
-use Rattle.npf_nat.specs.Answer.{answer_change}
-use Rattle.npf_nat.specs.MapPlan.{destination_change, source_change}
-use Rattle.npf_nat.specs.Npt.{address_number}
-use Rattle.npf_packet.specs.declared.decoded.Decoded.TheVariants.{Ip}
-use Rattle.npf_packet.specs.Decoding.{Decodes}
-use Rattle.npf_packet.specs.PacketField.{HasIpHeader}
-use Rattle.npf_packet.proofs.PacketFieldLemmas.{has_fields}
-use Rattle.npf_rewrite.specs.NormalisedFacts.{ActionFits}
-use Rattle.npf_rewrite.specs.Sent.{Sent}
-use Rattle.npf_rewrite.specs.SentLaw.{IsPacketThere}
-use Rattle.npf_rewrite.specs.Translated.{Translated, destination_write, new_ends, port_writes, source_write}
-use Rattle.npf_rewrite.specs.TranslatedFacts.{AddressesFit}
-use Rattle.npf_rewrite.specs.Verified.{HasBytes, PortsFit, addresses_total}
-use Rattle.npf_rewrite.specs.Word.{word_list}
-use Rattle.npf_rewrite.proofs.DecodedLemmas.{translated_decodes_lem}
-use Rattle.npf_rewrite.proofs.NormalisedDecodedLemmas.{decoded_room, normalised_decodes_lem}
-use Rattle.npf_rewrite.proofs.NormalisedSumLemmas.{addresses-total}
+use Rattle.npf_key.specs.{Laws.IsOneFamily, Translated.{address_there, facts_there, fitting, named_port, shares_family}}
+use Rattle.npf_model.specs.{declared.map.Map.Map, Describes.is_v6}
+use Rattle.npf_nat.specs.{Answer.answer_change, MapPlan.{destination_change, source_change}, Npt.address_number}
+use Rattle.npf_packet.{specs.{declared.decoded.Decoded.TheVariants.Ip, Decoder.Decodes, PacketField.HasIpHeader}, proofs.PacketFieldLemmas.has_fields}
+use Rattle.npf_rewrite.specs.{NormalisedFacts.ActionFits, Sent.Sent, SentLaw.IsPacketThere}
+use Rattle.npf_rewrite.specs.{Translated.{Translated, destination_write, new_ends, port_writes, source_write}, TranslatedFacts.AddressesFit}
+use Rattle.npf_rewrite.{specs.{Verified.{HasBytes, PortsFit, addresses_total}, Word.word_list}, proofs.DecodedLemmas.translated_decodes_lem}
+use Rattle.npf_rewrite.proofs.{NormalisedDecodedLemmas.{decoded_room, normalised_decodes_lem}, NormalisedSumLemmas.addresses-total}
 use Rattle.npf_rewrite.proofs.SentLemmas.{sent_is_packet_lem}
 use Rattle.npf_nat_law.specs.Neutral.{AnswerIsSent, AnswerKeepsSums, IsAnswer, IsNeutral, PacketIsSent, PacketKeepsSums}
-use Rattle.npf_nat_law.proofs.PlanLemmas.{IsMoved, given_end, is_planned, moved_back, npt66_change, taken_end}
-use Rattle.npf_nat_law.proofs.WordsLemmas.{addresses_are}
+use Rattle.npf_nat_law.proofs.{PlanLemmas.{IsMoved, given_end, is_planned, moved_back, npt66_change, taken_end}, WordsLemmas.addresses_are}
 
 -- where no port is named, none is written
 no_source : (at : ℕ) (l4 : L4) → source_write at None None l4 ≡ None

@@ -1,27 +1,13 @@
 -- What `npt66` plans for a packet: one end, without a port, whose address has the sum of the one that it takes the place of.
-use Rattle.std.proofs.Common.{◌≡◌, ◌≤◌, ℕ, ◌%◌, Bool, true, false, IsTrue, Option, Some, None, refl, sym, ap, ◌∙◌, subst}
-use Rattle.std.proofs.lemmas.Bool.{and_parts, eqb-true}
-use Rattle.std.specs.Option.{option_map}
-use Rattle.std.specs.Prelude.{if◌then◌else◌, ◌&&◌}
-use Rattle.npf_types.specs.declared.address.Addr.{Addr}
-use Rattle.npf_types.specs.declared.address.Addr.TheVariants.{V4, V6}
-use Rattle.npf_types.specs.declared.change.Change.{Change}
-use Rattle.npf_types.specs.declared.direction.Dir.{Dir}
-use Rattle.npf_types.specs.declared.direction.Dir.TheVariants.{In, Out}
-use Rattle.npf_types.specs.declared.facts.Facts.{Facts}
-use Rattle.npf_types.specs.declared.prefix.Prefix.{Prefix}
-use Rattle.npf_types.specs.Address.{SharesFirst, first_bits, shares_first}
-use Rattle.npf_types.specs.Prefix.{has_address}
-use Rattle.npf_model.specs.declared.map.Map.{Map}
-use Rattle.npf_model.specs.Describes.{destination_of, is_v6, source_of}
+use Rattle.std.proofs.{Common.{◌≡◌, ◌≤◌, ℕ, ◌%◌, Bool, true, false, IsTrue, Option, Some, None, refl, sym, ap, ◌∙◌, subst}, lemmas.Bool.{and_parts, eqb-true}}
+use Rattle.std.specs.{Option.option_map, Prelude.{if◌then◌else◌, ◌&&◌}}
+use Rattle.npf_types.specs.declared.{address.Addr.{Addr, TheVariants.{V4, V6}}, change.Change.Change, direction.Dir.{Dir, TheVariants.{In, Out}}}
+use Rattle.npf_types.specs.{declared.{facts.Facts.Facts, prefix.Prefix.Prefix}, Address.{SharesFirst, first_bits, shares_first}, Prefix.has_address}
+use Rattle.npf_model.specs.{declared.map.Map.Map, Describes.{destination_of, is_v6, source_of}}
 use Rattle.npf_model.specs.MapOf.{comes_inside, fits_map_protocol, fits_segment, fits_side, fits_side_port, goes_outside}
-use Rattle.npf_nat.specs.declared.map_plan.MapPlan.TheVariants.{Fixed}
-use Rattle.npf_nat.specs.Answer.{answer_change}
-use Rattle.npf_nat.specs.Draw.{drawn_for}
-use Rattle.npf_nat.specs.Laws.{Is128Bits}
+use Rattle.npf_nat.specs.{declared.map_plan.MapPlan.TheVariants.Fixed, Answer.answer_change, FirstPort.drawn_for, Laws.Is128Bits}
 use Rattle.npf_nat.specs.MapPlan.{destination_change, fixed, is_neutral, outward, plan, plan_by, source_change, translated_address}
-use Rattle.npf_nat.specs.Npt.{address_number, npt66, npt66_address, npt66_number, translated_v6}
-use Rattle.npf_nat.specs.PrefixPair.{ArePrefixes}
+use Rattle.npf_nat.specs.{Npt.{address_number, npt66, npt66_address, npt66_number, translated_v6}, PrefixPair.ArePrefixes}
 use Rattle.npf_nat.proofs.NptLemmas.{npt66_neutral, words_sum_is}
 use Rattle.npf_nat_law.specs.Neutral.{IsPrefixMap}
 

@@ -1,10 +1,8 @@
 -- The words of a header's addresses add up to the addresses in one's complement, in which 2 ^ 16 is 1.
-use Rattle.std.proofs.Common.{◌≡◌, ℕ, ◌+◌, ◌%◌, ap, refl, List, arith}
-use Rattle.std.specs.Prelude.{slice_index}
+use Rattle.std.{proofs.Common.{◌≡◌, ℕ, ◌+◌, ◌%◌, ap, refl, List, arith}, specs.Prelude.slice_index}
 use Rattle.npf_fields.specs.Field.{number128}
 use Rattle.npf_types.specs.declared.address.Addr.TheVariants.{V6}
-use Rattle.npf_rewrite.specs.Verified.{addresses_total, words_total}
-use Rattle.npf_rewrite.proofs.TotalLemmas.{words_total-split}
+use Rattle.npf_rewrite.{specs.Verified.{addresses_total, words_total}, proofs.TotalLemmas.words_total-split}
 
 -- the eight words of an address
 words_are : (bytes : List ℕ) (at : ℕ) → words_total (slice_index bytes) at 8 % 65535 ≡ number128 bytes at % 65535

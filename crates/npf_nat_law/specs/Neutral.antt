@@ -14,7 +14,7 @@ use Rattle.npf_nat.specs.Laws.{Is128Bits}
 use Rattle.npf_nat.specs.MapPlan.{plan}
 use Rattle.npf_nat.specs.PrefixPair.{ArePrefixes}
 use Rattle.npf_packet.specs.declared.decoded.Decoded.TheVariants.{Ip}
-use Rattle.npf_packet.specs.Decoding.{Decodes}
+use Rattle.npf_packet.specs.Decoder.{Decodes}
 use Rattle.npf_rewrite.specs.NormalisedFacts.{ActionFits}
 use Rattle.npf_rewrite.specs.Sent.{Sent}
 use Rattle.npf_rewrite.specs.SentLaw.{IsPacketThere}

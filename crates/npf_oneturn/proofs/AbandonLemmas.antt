@@ -1,45 +1,22 @@
 -- How a connection is abandoned in a turn.
 use Rattle.std.proofs.Common.{◌≡◌, ◌≢◌, ◌⊎◌, ◌==◌, ◌≤◌, ℕ, true, false, true≢false, Bool, List, [], ◌∷◌, ◌++◌, map, Option, Some, refl, sym, ap, ◌∙◌, subst, ⊎_elim, inl, inr, arith, length}
-use Rattle.std.specs.List.{Contains, filter}
-use Rattle.std.proofs.lemmas.Bool.Decides.{Decides-eqb, not_from_Decides}
+use Rattle.std.{specs.List.{Contains, filter}, proofs.lemmas.Bool.Decides.{Decides-eqb, not_from_Decides}}
 use Rattle.atomic_table.specs.Table.{Me, rest}
-use Rattle.npf_types.specs.declared.key.Key.{Key}
-use Rattle.npf_types.specs.declared.key.Way.{Way}
-use Rattle.npf_core.specs.declared.act.Act.{Act}
-use Rattle.npf_core.specs.declared.act.Act.TheVariants.{Kill, Unhold}
-use Rattle.npf_core.specs.declared.act.Why.TheVariants.{Abandoned}
-use Rattle.npf_core.specs.declared.conn_id.ConnId.{ConnId}
-use Rattle.npf_core.specs.declared.entry.Entry.{Entry}
-use Rattle.npf_core.specs.declared.found.Found.{Found}
-use Rattle.npf_core.specs.declared.reply.Reply.TheVariants.{Nothing}
-use Rattle.npf_core.specs.declared.stage.Stage.TheVariants.{Building}
-use Rattle.npf_core.specs.History.{LegalFrom, MayFollow, after, state_of, state_from, by}
-use Rattle.npf_core.specs.Machine.{Machine, opening, stage_of, HoldsNone}
-use Rattle.npf_core.specs.Meaning.{Meaning}
-use Rattle.npf_core.specs.NextState.{is_id, after_act}
-use Rattle.npf_core.proofs.BuildingLemmas.{builds_by, builds_after}
-use Rattle.npf_oneturn.proofs.StayLemmas.{none_first}
-use Rattle.npf_core.proofs.EqualityLemmas.{is_id-Decides}
-use Rattle.npf_core.proofs.HistoryLemmas.{LegalFrom-rest, state_from-append}
-use Rattle.npf_core.proofs.HolderLemmas.{Passes, rests, gives, loses, passes, may_hold}
+use Rattle.npf_types.specs.declared.key.{Key.Key, Way.Way}
+use Rattle.npf_shelf.proofs.ListLemmas.{filter-cons_nil}
+use Rattle.npf_core.specs.declared.{act.{Act.{Act, TheVariants.{Kill, Unhold}}, Why.TheVariants.Abandoned}, conn_id.ConnId.ConnId, entry.Entry.Entry}
+use Rattle.npf_core.specs.declared.{found.Found.Found, reply.Reply.TheVariants.Nothing, stage.Stage.TheVariants.Building}
+use Rattle.npf_core.specs.{History.{LegalFrom, MayFollow, after, state_of, state_from, by}, Machine.{Machine, opening, stage_of, HoldsNone}, Meaning.Meaning}
+use Rattle.npf_core.{specs.NextState.{is_id, after_act}, proofs.{BuildingLemmas.{builds_by, builds_after}, EqualityLemmas.is_id-Decides}}
+use Rattle.npf_core.proofs.{HistoryLemmas.{LegalFrom-rest, state_from-append}, HolderLemmas.{Passes, rests, gives, loses, passes, may_hold}}
 use Rattle.npf_core.proofs.KeyLemmas.{stays_holder}
-use Rattle.npf_connections.specs.Abandoning.{Abandons}
-use Rattle.npf_connections.specs.Adding.{AddsOwn}
-use Rattle.npf_connections.specs.Answered.{without}
-use Rattle.npf_connections.specs.Entries.{end_entries, entry_of}
-use Rattle.npf_connections.specs.Pass.{Pass, IsPass}
-use Rattle.npf_connections.specs.Ways.{HoldsThese, all_ways}
-use Rattle.npf_oneturn.specs.declared.contents.Contents.{Contents}
-use Rattle.npf_oneturn.specs.declared.rule.Ending.TheVariants as ending
-use Rattle.npf_oneturn.specs.declared.view.View.{View}
-use Rattle.npf_oneturn.specs.Endings.{entries_from, end_acts, Plan, planned_entries, AbandonsBy, MayEndTurn, HasEnded}
-use Rattle.npf_oneturn.specs.Rule.{DeadHoldNone}
-use Rattle.npf_oneturn.specs.Taking.{Taken}
-use Rattle.npf_oneturn.specs.Views.{entry_seat, show}
-use Rattle.npf_oneturn.specs.Working.{worked, EndsConnection}
+use Rattle.npf_connections.specs.{Abandoning.Abandons, Adding.AddsOwn, Answered.without, Entries.{end_entries, entry_of}, Pass.{Pass, IsPass}}
+use Rattle.npf_connections.{specs.Ways.{HoldsThese, all_ways}, proofs.WithoutLemmas.Contains-without_parts}
+use Rattle.npf_oneturn.specs.declared.{contents.Contents.Contents, view.View.View}
+use Rattle.npf_oneturn.specs.declared.rule.CallEnding.TheVariants as ending
+use Rattle.npf_oneturn.specs.{Endings.{entries_from, end_acts, Plan, planned_entries, AbandonsBy, MayEndTurn, HasEnded}, Rule.DeadHoldNone, Taking.Taken}
+use Rattle.npf_oneturn.{specs.{Views.{entry_seat, show}, Work.{worked, EndsConnection}}, proofs.CallLemmas.{k, taker, may_end, finished}}
 use Rattle.npf_seats.proofs.PrefixLemmas.{rest_none}
-use Rattle.npf_oneturn.proofs.CallLemmas.{k, taker, may_end, finished}
-use Rattle.npf_oneturn.proofs.StayLemmas.{not_without}
 use Rattle.npf_oneturn.proofs.WorkLemmas.{AllEnd, all_end, none_on, claimed_on, built_on, dead_back, frees_none}
 
 same_id : (id other : ConnId) → (other ≡ id) ⊎ (other ≢ id)
@@ -76,7 +53,7 @@ module _ {S A R : Type 0} (m : Meaning S A R) (slots : ℕ) (seat : ℕ) (id : C
       (state_from m k1 entries).holder key ≡ Some (record { id = id; way = way }) → k1.holder key ≡ Some (record { id = id; way = way })
   held_before k1 [] legal none built h = h
   held_before k1 (entry ∷ entries) legal none built h =
-      let first = none_first (λ (x : Entry S A R). x.seat == seat) entry entries none in
+      let first = filter-cons_nil (λ (x : Entry S A R). x.seat == seat) entry entries none in
       let ne : ¬ (entry.seat ≡ seat) = not_from_Decides _ (Decides-eqb entry.seat seat) first.0 in
       was_passed k1 entry legal.0 ne built _ _ (passes entry.act key (k1.holder key))
       (held_before (after m k1 entry) entries legal.1 first.1 (builds_by m slots k1 entry seat id legal.0 ne built) h)
@@ -100,7 +77,7 @@ module _ {S A R : Type 0} (m : Meaning S A R) (v : View S A R) (me : Me (Content
         tidy = record { unanswered = λ out. absurd (true≢false (sym entered ∙ out)); idle = λ out. absurd (true≢false (sym entered ∙ out)); place = t.tidy.place };
         stays = record {
           claimed = λ i c. rw on (claimed_on m v.seats.about v.seats.number id i acts all k0 legal (t.stays.claimed i c));
-          built = λ i c. let left = not_without i id v.builds c in rw on (built_on m v.seats.about v.seats.number id i left.1 acts all k0 legal (t.stays.built i left.0));
+          built = λ i c. let left = Contains-without_parts i id v.builds c in rw on (built_on m v.seats.about v.seats.number id i left.1 acts all k0 legal (t.stays.built i left.0));
         };
         frees = inl (λ i. frees_none m v.seats.number id i acts all k0);
       })
@@ -130,7 +107,8 @@ pub ending_entries : {S A R : Type 0} (m : Meaning S A R) (pass : Pass (Entry S 
 ending_entries {S} {A} {R} m pass id why held k1 =
     ap (λ (es : List (Entry S A R)). entry_of pass (Kill id why) Nothing ∷ es) (unhold_entries m pass id (filter held all_ways) (after_act m k1 pass.number (Kill id why)))
 
-pub abandoned : {S A R : Type 0} (m : Meaning S A R) (v : View S A R) (me : Me (Contents S) (View S A R)) (t : Taken m v me) (lives : v.seats.lives ≡ true) (theirs : v.seats.theirs ≡ []) (place : 1 ≤ length v.seats.readers)
+pub abandoned : {S A R : Type 0} (m : Meaning S A R) (v : View S A R) (me : Me (Contents S) (View S A R)) (t : Taken m v me)
+    (lives : v.seats.lives ≡ true) (theirs : v.seats.theirs ≡ []) (place : 1 ≤ length v.seats.readers)
     (pass : IsPass m (show v)) (id : ConnId) (builds : Contains v.builds id) (entered : v.entered ≡ true) (contents : Contents S) (next : Me (Contents S) (View S A R))
     (h : HasEnded m (ending.Abandons id) (me.0, (0, contents) ∷ rest me.1) next) → Abandons m (show v) next.0.seats.history id × IsPass m (show next.0)
 abandoned {S} {A} {R} m v me t lives theirs place pass id builds entered contents next h =

@@ -1,43 +1,21 @@
 -- How the calls of a pass end, and what they leave it.
-use Rattle.std.proofs.Common.{◌≡◌, ◌≢◌, ℕ, ◌+◌, ◌≤◌, Bool, true, false, true≢false, List, [], ◌∷◌, ◌++◌, length, Option, Some, None, refl, sym, ap, ◌∙◌, subst, ⊎_elim, inl, inr, arith, append_assoc, append-nil}
-use Rattle.std.specs.List.{Contains}
-use Rattle.std.proofs.lemmas.Bool.{cases_eq}
+use Rattle.std.proofs.Common.{◌≡◌, ◌≢◌, ℕ, ◌+◌, ◌≤◌, Bool, true, false, true≢false, List, [], ◌∷◌, ◌++◌, length, Option, Some, None, refl}
+use Rattle.std.{proofs.Common.{sym, ap, ◌∙◌, subst, ⊎_elim, inl, inr, arith, append_assoc, append-nil}, specs.List.Contains}
+use Rattle.std.proofs.lemmas.Bool.{cases_eq, false_from_ne_true}
 use Rattle.atomic_table.specs.Table.{Me, rest}
-use Rattle.npf_core.specs.declared.act.Act.{Act}
-use Rattle.npf_core.specs.declared.act.Act.TheVariants.{Hold, Kill, Free}
-use Rattle.npf_core.specs.declared.conn_id.ConnId.{ConnId}
-use Rattle.npf_core.specs.declared.entry.Entry.{Entry}
-use Rattle.npf_core.specs.declared.found.Found.{Found}
-use Rattle.npf_core.specs.declared.held.Held.{Held}
-use Rattle.npf_core.specs.declared.reply.Reply.TheVariants.{ToHold}
-use Rattle.npf_core.specs.declared.stage.Stage.TheVariants.{Building}
-use Rattle.npf_types.specs.declared.key.Key.{Key}
-use Rattle.npf_types.specs.declared.key.Way.{Way}
-use Rattle.npf_core.specs.Allowed.{Allows}
-use Rattle.npf_core.specs.History.{state_of, by, is_free}
-use Rattle.npf_core.specs.Machine.{Machine, opening, stage_of, IsClaimed, HoldsNone}
-use Rattle.npf_core.specs.Meaning.{Meaning}
-use Rattle.npf_core.specs.NextState.{after_act}
-use Rattle.npf_core.specs.Replies.{reply_of, held_by}
-use Rattle.npf_core.proofs.BuildingLemmas.{holds_none_after}
-use Rattle.npf_core.proofs.EqualityLemmas.{is_id-Decides}
-use Rattle.npf_core.proofs.HistoryLemmas.{state_of-append, state_from-append, LegalFrom-append, LegalFrom-rest, by-append}
-use Rattle.npf_core.proofs.HolderLemmas.{holders_claimed}
-use Rattle.npf_connections.specs.Adding.{AddsOwn}
-use Rattle.npf_connections.specs.Entries.{entry_of, hold_entries}
-use Rattle.npf_connections.specs.Pass.{Pass, IsPass, IsOwn, Knows, all_places}
-use Rattle.npf_connections.specs.StayLaw.{Holding}
+use Rattle.npf_core.specs.declared.{act.Act.{Act, TheVariants.{Hold, Kill, Free}}, conn_id.ConnId.ConnId, entry.Entry.Entry, found.Found.Found, held.Held.Held}
+use Rattle.npf_core.specs.{declared.{reply.Reply.TheVariants.ToHold, stage.Stage.TheVariants.Building}, Allowed.Allows, History.{state_of, by, is_free}}
+use Rattle.npf_types.specs.declared.key.{Key.Key, Way.Way}
+use Rattle.npf_core.specs.{Machine.{Machine, opening, stage_of, IsClaimed, HoldsNone}, Meaning.Meaning, NextState.after_act, Replies.{reply_of, held_by}}
+use Rattle.npf_core.proofs.{BuildingLemmas.holds_none_after, EqualityLemmas.is_id-Decides}
+use Rattle.npf_core.proofs.{HistoryLemmas.{state_of-append, state_from-append, LegalFrom-append, LegalFrom-rest, by-append}, HolderLemmas.holders_claimed}
+use Rattle.npf_connections.specs.{Adding.AddsOwn, Entries.{entry_of, hold_entries}, Pass.{Pass, IsPass, IsOwn, Knows, all_places}, StayLaw.Holding}
 use Rattle.npf_connections.proofs.AddLemmas.{adds_alone}
 use Rattle.npf_seats.proofs.PrefixLemmas.{seen_entry, rest_none}
 use Rattle.npf_oneturn_store.specs.Represents.{Represents}
-use Rattle.npf_oneturn.specs.declared.contents.Contents.{Contents}
-use Rattle.npf_oneturn.specs.declared.rule.Ending.{Ending}
-use Rattle.npf_oneturn.specs.declared.rule.Ending.TheVariants.{Asks, Nothing}
-use Rattle.npf_oneturn.specs.declared.view.View.{View}
-use Rattle.npf_oneturn.specs.Endings.{entries_from, Plan, planned_entries, ended, EndsBy, act_plan, MayEnd, MayEndTurn, HasEnded}
-use Rattle.npf_oneturn.specs.Taking.{IsResting, Taken}
-use Rattle.npf_oneturn.specs.Views.{entry_seat, one_if, Stays, show}
-use Rattle.npf_oneturn.proofs.EndLemmas.{own_entries, no_entries, is_false}
+use Rattle.npf_oneturn.specs.declared.{contents.Contents.Contents, rule.CallEnding.{CallEnding, TheVariants.{Asks, Nothing}}, view.View.View}
+use Rattle.npf_oneturn.specs.{Endings.{entries_from, Plan, planned_entries, ended, EndsBy, act_plan, MayEnd, MayEndTurn, HasEnded}, Taking.{IsResting, Taken}}
+use Rattle.npf_oneturn.{specs.Views.{entry_seat, one_if, Stays, show}, proofs.EndLemmas.{own_entries, no_entries}}
 use Rattle.npf_oneturn.proofs.StayLemmas.{bare_next, answered_next, builds_next}
 
 abbrev value_in : {X : Type 0} → X → List (ℕ × X) → X
@@ -65,7 +43,7 @@ module _ {S A R : Type 0} (m : Meaning S A R) (v : View S A R) (me : Me (Content
   pub entered_here : (contents : Contents S) → me.1 ≡ (0, contents) ∷ rest me.1 → contents.entered ≡ t.contents.entered
   entered_here contents e = ap (λ (x : Contents S). x.entered) (sym (value_is contents e))
 
-  pub may_end : (ending : Ending S A) (p : Plan S A) (contents : Contents S) → EndsBy m ending taker p → MayEnd m p taker contents →
+  pub may_end : (ending : CallEnding S A) (p : Plan S A) (contents : Contents S) → EndsBy m ending taker p → MayEnd m p taker contents →
       MayEndTurn m ending (me.0, (0, contents) ∷ rest me.1)
   may_end ending p contents by_plan may =
       subst (λ (y : Me (Contents S) (View S A R)). MayEndTurn m ending (y.0, (0, contents) ∷ rest y.1)) (sym t.is)
@@ -84,7 +62,8 @@ module _ {S A R : Type 0} (m : Meaning S A R) (v : View S A R) (me : Me (Content
       adds = record {
         rest = t.goes_on.rest ++ mine;
         goes_on = ap (λ h. h ++ mine) t.goes_on.goes_on ∙ append_assoc v.seats.history t.goes_on.rest mine;
-        own = by-append v.seats.number t.goes_on.rest mine ∙ (ap (λ h. h ++ by v.seats.number mine) (rest_none entry_seat v.seats.number v.seats.history t.log t.goes_on t.own) ∙ own_entries m v.seats.number k p.acts);
+        own = by-append v.seats.number t.goes_on.rest mine
+            ∙ (ap (λ h. h ++ by v.seats.number mine) (rest_none entry_seat v.seats.number v.seats.history t.log t.goes_on t.own) ∙ own_entries m v.seats.number k p.acts);
         listed = λ n c. by-append n t.goes_on.rest mine ∙ (ap (λ h. h ++ by n mine) (rest_none entry_seat n v.seats.history t.log t.goes_on (t.listed n c)) ∙ others_none n (t.apart n c));
       };
       ends = λ init last e. (t.log ++ init, ap (λ h. t.log ++ h) e ∙ sym (append_assoc t.log init (last ∷ [])));
@@ -118,8 +97,9 @@ pub record Finished {S A R : Type 0} (m : Meaning S A R) (v : View S A R) (me : 
   pub adds : AddsOwn (show v) next.0.seats.history (planned_entries m p (taker m v me t))
   pub view : next.0 ≡ ended m p (taker m v me t)
 
-pub finished : {S A R : Type 0} (m : Meaning S A R) (v : View S A R) (me : Me (Contents S) (View S A R)) (t : Taken m v me) (lives : v.seats.lives ≡ true) (theirs : v.seats.theirs ≡ []) (place : 1 ≤ length v.seats.readers)
-    (ending : Ending S A) (contents : Contents S) (next : Me (Contents S) (View S A R)) (h : HasEnded m ending (me.0, (0, contents) ∷ rest me.1) next) → Finished m v me t h.plan next
+pub finished : {S A R : Type 0} (m : Meaning S A R) (v : View S A R) (me : Me (Contents S) (View S A R)) (t : Taken m v me)
+    (lives : v.seats.lives ≡ true) (theirs : v.seats.theirs ≡ []) (place : 1 ≤ length v.seats.readers)
+    (ending : CallEnding S A) (contents : Contents S) (next : Me (Contents S) (View S A R)) (h : HasEnded m ending (me.0, (0, contents) ∷ rest me.1) next) → Finished m v me t h.plan next
 finished {S} {A} {R} m v me t lives theirs place ending contents next h =
     let u = taker m v me t in
     let seat : me.0 ≡ u = ap (λ (y : Me (Contents S) (View S A R)). y.0) t.is in
@@ -143,13 +123,14 @@ finished {S} {A} {R} m v me t lives theirs place ending contents next h =
 -- a call of one act in a stay may end
 module _ {S A R : Type 0} (m : Meaning S A R) (v : View S A R) (me : Me (Contents S) (View S A R)) (t : Taken m v me) (entered : v.entered ≡ true) where
   not_free : (act : Act S A) → ((id : ConnId) → ¬ (act ≡ Free id)) → (id : ConnId) → is_free id act ≡ false
-  not_free act free id = is_false (is_free id act) (λ e. free id (freed act id e))
+  not_free act free id = false_from_ne_true (is_free id act) (λ e. free id (freed act id e))
     where
       freed : (act : Act S A) (id : ConnId) → is_free id act ≡ true → act ≡ Free id
       freed (Free other) id e = ap (λ i. Free i) ((is_id-Decides other id).0 e)
       freed act id e = absurd cc
 
-  pub may_ask : (act : Act S A) (contents : Contents S) → Allows m v.seats.about (k m v me t) v.seats.number act → ((id : ConnId) → ¬ (act ≡ Free id)) → ((id : ConnId) (why : _) → ¬ (act ≡ Kill id why)) →
+  pub may_ask : (act : Act S A) (contents : Contents S) → Allows m v.seats.about (k m v me t) v.seats.number act →
+      ((id : ConnId) → ¬ (act ≡ Free id)) → ((id : ConnId) (why : _) → ¬ (act ≡ Kill id why)) →
       contents.entered ≡ t.contents.entered → Represents v.seats.about contents.store (after_act m (k m v me t) v.seats.number act) → MayEndTurn m (Asks act) (me.0, (0, contents) ∷ rest me.1)
   may_ask act contents allowed free kill same represents =
       let k0 = k m v me t in
@@ -172,7 +153,7 @@ module _ {S A R : Type 0} (m : Meaning S A R) (v : View S A R) (me : Me (Content
 
 -- a call without an act may end
 module _ {S A R : Type 0} (m : Meaning S A R) (v : View S A R) (me : Me (Contents S) (View S A R)) (t : Taken m v me) where
-  pub may_rest : (ending : Ending S A) (entered : Bool) (answered builds : List ConnId) (contents : Contents S) →
+  pub may_rest : (ending : CallEnding S A) (entered : Bool) (answered builds : List ConnId) (contents : Contents S) →
       EndsBy m ending (taker m v me t) (record { acts = []; entered = entered; answered = answered; builds = builds }) →
       Represents v.seats.about contents.store (k m v me t) → contents.entered + one_if v.entered ≡ t.contents.entered + one_if entered →
       (entered ≡ false → answered ≡ []) → (entered ≡ false → builds ≡ []) → 1 ≤ length v.seats.readers →
@@ -190,8 +171,9 @@ module _ {S A R : Type 0} (m : Meaning S A R) (v : View S A R) (me : Me (Content
       })
 
 -- what the end of a call without an act leaves
-pub rested : {S A R : Type 0} (m : Meaning S A R) (v : View S A R) (me : Me (Contents S) (View S A R)) (t : Taken m v me) (lives : v.seats.lives ≡ true) (theirs : v.seats.theirs ≡ []) (place : 1 ≤ length v.seats.readers)
-    (ending : Ending S A) (contents : Contents S) (next : Me (Contents S) (View S A R)) (h : HasEnded m ending (me.0, (0, contents) ∷ rest me.1) next) → h.plan.acts ≡ [] →
+pub rested : {S A R : Type 0} (m : Meaning S A R) (v : View S A R) (me : Me (Contents S) (View S A R)) (t : Taken m v me)
+    (lives : v.seats.lives ≡ true) (theirs : v.seats.theirs ≡ []) (place : 1 ≤ length v.seats.readers)
+    (ending : CallEnding S A) (contents : Contents S) (next : Me (Contents S) (View S A R)) (h : HasEnded m ending (me.0, (0, contents) ∷ rest me.1) next) → h.plan.acts ≡ [] →
     AddsOwn (show v) next.0.seats.history [] × IsPass m (show next.0)
 rested m v me t lives theirs place ending contents next h none =
     let f = finished m v me t lives theirs place ending contents next h in
@@ -204,7 +186,8 @@ pub record IsLeft {S A R : Type 0} (m : Meaning S A R) (v : View S A R) (me : Me
   pub same : show next.0 ≡ show v
   pub newest : t.log ≡ v.seats.history
 
-pub left : {S A R : Type 0} (m : Meaning S A R) (v : View S A R) (me : Me (Contents S) (View S A R)) (t : Taken m v me) (lives : v.seats.lives ≡ true) (theirs : v.seats.theirs ≡ []) (place : 1 ≤ length v.seats.readers) (all : length v.seats.readers ≡ all_places)
+pub left : {S A R : Type 0} (m : Meaning S A R) (v : View S A R) (me : Me (Contents S) (View S A R)) (t : Taken m v me) (lives : v.seats.lives ≡ true)
+    (theirs : v.seats.theirs ≡ []) (place : 1 ≤ length v.seats.readers) (all : length v.seats.readers ≡ all_places)
     (contents : Contents S) (next : Me (Contents S) (View S A R)) (h : HasEnded m Nothing (me.0, (0, contents) ∷ rest me.1) next) → IsLeft m v me t next
 left {S} {A} {R} m v me t lives theirs place all contents next h =
     let r = rested m v me t lives theirs place Nothing contents next h (ap (λ (p : Plan S A). p.acts) h.by_plan) in
@@ -234,7 +217,8 @@ module _ {S A R : Type 0} (m : Meaning S A R) (v : View S A R) (me : Me (Content
   still_none id way builds none =
       let legal = LegalFrom-rest m v.seats.about opening v.seats.history t.goes_on.rest (rw t.goes_on.goes_on at t.legal) in
       rw (t.goes_on.goes_on, state_from-append m opening v.seats.history t.goes_on.rest)
-      (holds_none_after m v.seats.about (state_of m v.seats.history) t.goes_on.rest v.seats.number id way legal (rest_none entry_seat v.seats.number v.seats.history t.log t.goes_on t.own) (pass.building id builds) none)
+      (holds_none_after m v.seats.about (state_of m v.seats.history) t.goes_on.rest v.seats.number id way legal
+      (rest_none entry_seat v.seats.number v.seats.history t.log t.goes_on t.own) (pass.building id builds) none)
 
 hold_entry : {S A R : Type 0} (pass : Pass (Entry S A R)) (id : ConnId) (key : Key) (way : Way) (x : Option Found) →
     entry_of pass (Hold id key way) (ToHold (held_by x)) ∷ [] ≡ hold_entries pass id key way (held_by x)
@@ -248,7 +232,8 @@ pub record Asked {S A R : Type 0} (m : Meaning S A R) (v : View S A R) (me : Me 
   pub adds : AddsOwn (show v) next.0.seats.history (entry_of (show v) act (reply_of m (k m v me t) act) ∷ [])
   pub view : next.0 ≡ ended m (act_plan m act (taker m v me t)) (taker m v me t)
 
-pub asked : {S A R : Type 0} (m : Meaning S A R) (v : View S A R) (me : Me (Contents S) (View S A R)) (t : Taken m v me) (lives : v.seats.lives ≡ true) (theirs : v.seats.theirs ≡ []) (place : 1 ≤ length v.seats.readers)
+pub asked : {S A R : Type 0} (m : Meaning S A R) (v : View S A R) (me : Me (Contents S) (View S A R)) (t : Taken m v me)
+    (lives : v.seats.lives ≡ true) (theirs : v.seats.theirs ≡ []) (place : 1 ≤ length v.seats.readers)
     (act : Act S A) (contents : Contents S) (next : Me (Contents S) (View S A R)) (h : HasEnded m (Asks act) (me.0, (0, contents) ∷ rest me.1) next) → Asked m v me t act next
 asked m v me t lives theirs place act contents next h =
     let f = finished m v me t lives theirs place (Asks act) contents next h in
@@ -262,7 +247,8 @@ asked m v me t lives theirs place act contents next h =
     }
 
 -- what a hold leaves
-pub held_so : {S A R : Type 0} (m : Meaning S A R) (v : View S A R) (me : Me (Contents S) (View S A R)) (t : Taken m v me) (lives : v.seats.lives ≡ true) (theirs : v.seats.theirs ≡ []) (place : 1 ≤ length v.seats.readers)
+pub held_so : {S A R : Type 0} (m : Meaning S A R) (v : View S A R) (me : Me (Contents S) (View S A R)) (t : Taken m v me)
+    (lives : v.seats.lives ≡ true) (theirs : v.seats.theirs ≡ []) (place : 1 ≤ length v.seats.readers)
     (pass : IsPass m (show v)) (id : ConnId) (key : Key) (way : Way) (result : Held) (builds : Contains v.builds id) (none : HoldsNone (state_of m v.seats.history) id way)
     (contents : Contents S) (next : Me (Contents S) (View S A R)) (h : HasEnded m (Asks (Hold id key way)) (me.0, (0, contents) ∷ rest me.1) next) →
     result ≡ held_by ((k m v me t).holder key) → Holding m (show v) (show next.0) id key way result

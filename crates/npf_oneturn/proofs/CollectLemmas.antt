@@ -1,53 +1,31 @@
 -- How what is Dead is freed in a turn.
 use Rattle.std.proofs.Common.{◌≡◌, ◌≢◌, ℕ, ◌<◌, ◌≤◌, true, false, List, [], ◌∷◌, ◌++◌, map, refl, sym, ap, ◌∙◌, subst, ⊎_elim, inl, inr, arith, append-nil, length}
-use Rattle.std.specs.List.{Contains}
-use Rattle.std.proofs.lemmas.Bool.{cases_eq}
+use Rattle.std.{specs.List.Contains, proofs.lemmas.Bool.cases_eq}
 use Rattle.atomic_table.specs.Table.{Me, rest}
 use Rattle.npf_types.specs.declared.key.Way.{Way}
-use Rattle.npf_core.specs.declared.act.Act.{Act}
-use Rattle.npf_core.specs.declared.act.Act.TheVariants.{Free}
-use Rattle.npf_core.specs.declared.conn_id.ConnId.{ConnId}
-use Rattle.npf_core.specs.declared.entry.Entry.{Entry}
-use Rattle.npf_core.specs.declared.reply.Reply.TheVariants.{Nothing}
-use Rattle.npf_core.specs.declared.stage.Stage.TheVariants.{Dead}
-use Rattle.npf_core.specs.History.{LegalFrom, state_of, state_from}
-use Rattle.npf_core.specs.Machine.{Machine, opening, stage_of, IsClaimed, HoldsNone}
-use Rattle.npf_core.specs.Meaning.{Meaning}
-use Rattle.npf_core.specs.NextState.{after_act}
-use Rattle.npf_core.proofs.ClaimedLemmas.{was_claimed}
-use Rattle.npf_core.proofs.HistoryLemmas.{state_from-append}
-use Rattle.npf_core.proofs.IdentityLemmas.{counts_incarnations}
-use Rattle.npf_core.proofs.LifeLemmas.{IsClaimed-last}
-use Rattle.npf_connections.specs.Adding.{AddsOwn}
-use Rattle.npf_connections.specs.Collecting.{FreesAlone, IsClean}
-use Rattle.npf_connections.specs.Entries.{free_entries, entry_of}
-use Rattle.npf_connections.specs.Pass.{Pass, IsPass}
-use Rattle.npf_oneturn_store.specs.declared.phase.Phase.{Phase}
-use Rattle.npf_oneturn_store.specs.declared.store.Store.{Store}
-use Rattle.npf_oneturn_store.specs.Represents.{Represents}
-use Rattle.npf_oneturn_store.specs.Store.{phase_of}
-use Rattle.npf_oneturn_store.proofs.ConnectionLemmas.{claimed_within}
-use Rattle.npf_oneturn_store.proofs.RepresentLemmas.{shows_dead}
-use Rattle.npf_oneturn.specs.declared.contents.Contents.{Contents}
-use Rattle.npf_oneturn.specs.declared.rule.Ending.TheVariants as ending
-use Rattle.npf_oneturn.specs.declared.view.View.{View}
-use Rattle.npf_oneturn.specs.Endings.{entries_from, Plan, planned_entries, CollectsBy, MayEndTurn, HasEnded}
-use Rattle.npf_oneturn.specs.Taking.{Taken}
-use Rattle.npf_oneturn.specs.Views.{one_if, show}
-use Rattle.npf_oneturn.specs.Working.{worked, FreesBelow}
-use Rattle.npf_oneturn.proofs.CallLemmas.{k, taker, may_end, finished}
+use Rattle.npf_core.specs.declared.{act.Act.{Act, TheVariants.Free}, conn_id.ConnId.ConnId, entry.Entry.Entry, reply.Reply.TheVariants.Nothing}
+use Rattle.npf_core.specs.{declared.stage.Stage.TheVariants.Dead, History.{LegalFrom, state_of, state_from}}
+use Rattle.npf_core.{specs.{Machine.{Machine, opening, stage_of, IsClaimed, HoldsNone}, Meaning.Meaning, NextState.after_act}, proofs.ClaimedLemmas.was_claimed}
+use Rattle.npf_core.proofs.{HistoryLemmas.state_from-append, IdentityLemmas.counts_incarnations, LifeLemmas.IsClaimed-last}
+use Rattle.npf_connections.specs.{Adding.AddsOwn, Collecting.{FreesAlone, IsClean}, Entries.{free_entries, entry_of}, Pass.{Pass, IsPass}}
+use Rattle.npf_oneturn_store.specs.{declared.{phase.SlotPhase.SlotPhase, store.Store.Store}, Represents.Represents, Store.phase_of}
+use Rattle.npf_oneturn_store.proofs.{ConnectionLemmas.claimed_within, RepresentLemmas.shows_dead}
+use Rattle.npf_oneturn.specs.declared.{contents.Contents.Contents, view.View.View}
+use Rattle.npf_oneturn.specs.declared.rule.CallEnding.TheVariants as ending
+use Rattle.npf_oneturn.specs.{Endings.{entries_from, Plan, planned_entries, CollectsBy, MayEndTurn, HasEnded}, Taking.Taken, Views.{one_if, show}}
+use Rattle.npf_oneturn.{specs.Work.{worked, FreesBelow}, proofs.{CallLemmas.{k, taker, may_end, finished}, StayLemmas.none_next}}
 use Rattle.npf_seats.proofs.PrefixLemmas.{none_listed}
-use Rattle.npf_oneturn.proofs.StayLemmas.{none_next}
 
 module _ {S A R : Type 0} (m : Meaning S A R) (slots : ℕ) (seat : ℕ) (id : ConnId) (way : Way) where
-  none_freed : (ids : List ConnId) (k0 : Machine S) → LegalFrom m slots k0 (entries_from m k0 seat (map (λ i. Free i) ids)) → HoldsNone k0 id way → HoldsNone (worked m k0 seat (map (λ i. Free i) ids)) id way
+  none_freed : (ids : List ConnId) (k0 : Machine S) → LegalFrom m slots k0 (entries_from m k0 seat (map (λ i. Free i) ids)) →
+      HoldsNone k0 id way → HoldsNone (worked m k0 seat (map (λ i. Free i) ids)) id way
   none_freed [] k0 legal h = h
   none_freed (i ∷ ids) k0 legal h = none_freed ids (after_act m k0 seat (Free i)) legal.1 (none_next m slots k0 seat (Free i) legal.0.allowed id way (λ found key e. absurd cc) h)
 
 module _ {S A R : Type 0} (m : Meaning S A R) (slots : ℕ) (store : Store S) (k0 : Machine S) (r : Represents slots store k0) where
   dead_within : (id : ConnId) → stage_of k0 id ≡ Dead → id.slot < slots
   dead_within id dead =
-      let phase : phase_of store id ≡ Phase.Dead = (shows_dead S slots store k0 id r).0 dead in
+      let phase : phase_of store id ≡ SlotPhase.Dead = (shows_dead S slots store k0 id r).0 dead in
       let within = claimed_within store.connections.items id (λ vacant. absurd (let e = sym phase ∙ vacant in cc)) in
       omega (arith, within, r.sized)
 
@@ -105,7 +83,8 @@ pub record Collected {S A R : Type 0} (m : Meaning S A R) (v next : View S A R) 
   pub adds : FreesAlone (show v) next.seats.history
   pub clean : IsClean m (show next)
 
-pub collected : {S A R : Type 0} (m : Meaning S A R) (v : View S A R) (me : Me (Contents S) (View S A R)) (t : Taken m v me) (lives : v.seats.lives ≡ true) (theirs : v.seats.theirs ≡ []) (place : 1 ≤ length v.seats.readers)
+pub collected : {S A R : Type 0} (m : Meaning S A R) (v : View S A R) (me : Me (Contents S) (View S A R)) (t : Taken m v me)
+    (lives : v.seats.lives ≡ true) (theirs : v.seats.theirs ≡ []) (place : 1 ≤ length v.seats.readers)
     (out : v.entered ≡ false) (contents : Contents S) (next : Me (Contents S) (View S A R)) (h : HasEnded m ending.Collects (me.0, (0, contents) ∷ rest me.1) next) → Collected m v next.0
 collected {S} {A} {R} m v me t lives theirs place out contents next h =
     let f = finished m v me t lives theirs place ending.Collects contents next h in

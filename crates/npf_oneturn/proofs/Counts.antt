@@ -5,11 +5,8 @@ use Rattle.atomic_table.proofs.Lists.{set_else, at_longer}
 use mathlib.Core.Option.{some, some-injective, some-ne-none}
 use lib.ListN.{get_elem?}
 use Rattle.npf_core.specs.declared.entry.Entry.{Entry}
-use Rattle.npf_seats.specs.declared.side.SeatSide.{SeatSide}
-use Rattle.npf_seats.specs.Seats.{places_owned}
-use Rattle.npf_seats.proofs.SumLemmas.{one_there}
-use Rattle.npf_oneturn.specs.declared.view.View.{View}
-use Rattle.npf_oneturn.specs.Views.{seat_of_view, one_if, crowd_of, IsTidy, HasHolder}
+use Rattle.npf_seats.{specs.{declared.side.SeatSide.SeatSide, Seats.places_owned}, proofs.SumLemmas.one_there}
+use Rattle.npf_oneturn.specs.{declared.view.View.View, Views.{seat_of_view, one_if, crowd_of, IsTidy, HasHolder}}
 
 module _ {S A R : Type 0} where
   pub crowd-set : (vs : List (View S A R)) (j : ℕ) (v w : View S A R) → get_elem? vs j ≡ some v → crowd_of (set vs j w) + one_if v.entered ≡ crowd_of vs + one_if w.entered

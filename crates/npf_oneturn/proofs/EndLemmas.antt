@@ -1,37 +1,17 @@
 -- The end of a turn keeps the rule.
-use Rattle.std.proofs.Common.{◌≡◌, ◌≢◌, ℕ, Bool, true, false, true≢false, ◌==◌, List, [], ◌∷◌, ◌++◌, length, map, set, refl, sym, ap, ◌∙◌, subst, ⊎_elim, arith, length-set}
-use Rattle.std.proofs.lemmas.List.{get_or-set_same, map-set}
-use Rattle.std.proofs.lemmas.Bool.Decides.{Decides-eqb}
+use Rattle.std.proofs.Common.{◌≡◌, ◌≢◌, ℕ, true, false, true≢false, ◌==◌, List, [], ◌∷◌, ◌++◌, length, map, set, refl, sym, ap, ◌∙◌, subst, ⊎_elim, arith, length-set}
+use Rattle.std.proofs.lemmas.{List.{get_or-set_same, map-set}, Bool.{Decides.Decides-eqb, false_from_ne_true}}
 use mathlib.Core.Option.{some}
 use lib.ListN.{get_elem?}
-use Rattle.atomic_table.specs.Table.{State, Me, Step, stepped, Allows, gives}
-use Rattle.atomic_table.proofs.Lists.{at_map, at_set, set_here}
-use Rattle.npf_core.specs.declared.act.Act.{Act}
-use Rattle.npf_core.specs.declared.conn_id.ConnId.{ConnId}
-use Rattle.npf_core.specs.declared.entry.Entry.{Entry}
-use Rattle.npf_core.specs.History.{LegalFrom, state_of, state_from, by, frees}
-use Rattle.npf_core.specs.Machine.{Machine, opening}
-use Rattle.npf_core.specs.Meaning.{Meaning}
-use Rattle.npf_core.specs.NextState.{after_act}
-use Rattle.npf_core.specs.Replies.{reply_of}
-use Rattle.npf_core.proofs.BuildingLemmas.{builds_after, claimed_after}
-use Rattle.npf_core.proofs.HistoryLemmas.{state_from-append, LegalFrom-append}
+use Rattle.atomic_table.{specs.Table.{State, Me, Step, stepped, Allows, gives}, proofs.Lists.{at_map, at_set, set_here}}
+use Rattle.npf_core.specs.{declared.{act.Act.Act, conn_id.ConnId.ConnId, entry.Entry.Entry}, History.{LegalFrom, state_of, state_from, by, frees}}
+use Rattle.npf_core.specs.{Machine.{Machine, opening}, Meaning.Meaning, NextState.after_act, Replies.reply_of}
+use Rattle.npf_core.proofs.{BuildingLemmas.{builds_after, claimed_after}, HistoryLemmas.{state_from-append, LegalFrom-append}}
 use Rattle.npf_connections.specs.Pass.{all_places}
-use Rattle.npf_seats.specs.declared.side.SeatSide.{SeatSide}
-use Rattle.npf_seats.specs.Seats.{FitsSeats, Seats}
-use Rattle.npf_seats.proofs.PrefixLemmas.{none_listed}
-use Rattle.npf_seats.proofs.SeatLemmas.{seats-adds-all}
-use Rattle.npf_oneturn.specs.declared.contents.Contents.{Contents}
-use Rattle.npf_oneturn.specs.declared.rule.Ending.{Ending}
-use Rattle.npf_oneturn.specs.declared.view.View.{View}
-use Rattle.npf_oneturn.specs.Endings.{entries_from, Plan, planned_entries, ended, MayEnd, MayEndTurn, Ends}
-use Rattle.npf_oneturn.specs.Rule.{FitsRule, HasTurn, IsRuled}
-use Rattle.npf_oneturn.specs.Views.{entry_seat, seat_of_view, crowd_of, Stays}
-use Rattle.npf_oneturn.proofs.Counts.{crowd-set, crowd-none}
-
-pub is_false : (test : Bool) → ¬ (test ≡ true) → test ≡ false
-is_false true h = absurd (h refl)
-is_false false h = refl
+use Rattle.npf_seats.{specs.{declared.side.SeatSide.SeatSide, Seats.{FitsSeats, Seats}}, proofs.{PrefixLemmas.none_listed, SeatLemmas.seats-adds-all}}
+use Rattle.npf_oneturn.specs.declared.{contents.Contents.Contents, rule.CallEnding.CallEnding, view.View.View}
+use Rattle.npf_oneturn.specs.{Endings.{entries_from, Plan, planned_entries, ended, MayEnd, MayEndTurn, Ends}, Rule.{FitsRule, HasTurn, IsRuled}}
+use Rattle.npf_oneturn.{specs.Views.{entry_seat, seat_of_view, crowd_of, Stays}, proofs.Counts.{crowd-set, crowd-none}}
 
 module _ {S A R : Type 0} (m : Meaning S A R) (seat : ℕ) where
   -- all entries of acts under a seat are the seat's, and no other's
@@ -44,7 +24,7 @@ module _ {S A R : Type 0} (m : Meaning S A R) (seat : ℕ) where
   pub no_entries : (other : ℕ) → other ≢ seat → (k : Machine S) (acts : List (Act S A)) → by other (entries_from m k seat acts) ≡ []
   no_entries other ne k [] = refl
   no_entries other ne k (act ∷ acts) =
-      let apart : (seat == other) ≡ false = is_false (seat == other) (λ e. ne (sym ((Decides-eqb seat other).0 e))) in
+      let apart : (seat == other) ≡ false = false_from_ne_true (seat == other) (λ e. ne (sym ((Decides-eqb seat other).0 e))) in
       rw apart (no_entries other ne (after_act m k seat act) acts)
 
 module _ {S A R : Type 0} (m : Meaning S A R) (slots : ℕ) (s : State (Contents S) (View S A R)) (id : ℕ) (v : View S A R) (contents : Contents S) (p : Plan S A)
@@ -146,7 +126,7 @@ module _ {S A R : Type 0} (m : Meaning S A R) (slots : ℕ) (s : State (Contents
   }
 
 -- the end of a call
-pub end_turn : {S A R : Type 0} (m : Meaning S A R) (slots : ℕ) (ending : Ending S A) (st : Step (Contents S)) (id n : ℕ) (me : Me (Contents S) (View S A R)) → n ≡ 1 →
+pub end_turn : {S A R : Type 0} (m : Meaning S A R) (slots : ℕ) (ending : CallEnding S A) (st : Step (Contents S)) (id n : ℕ) (me : Me (Contents S) (View S A R)) → n ≡ 1 →
     MayEndTurn m ending me → Allows (IsRuled m slots) n id me 0 (λ _. 0) (λ _. Ends m ending st me 0)
 end_turn m slots ending st id n me one may s kept homes at bound = (
   ended m may.plan me.0,

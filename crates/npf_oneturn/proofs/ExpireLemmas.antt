@@ -1,36 +1,17 @@
 -- How a turn ends in which connections were killed as due.
 use Rattle.std.proofs.Common.{◌≡◌, ◌⊎◌, ℕ, ◌<◌, ◌≤◌, Bool, true, false, List, [], ◌∷◌, ◌++◌, IsTrue, refl, sym, ap, ◌∙◌, subst, ⊎_elim, inl, inr, arith, length}
 use Rattle.atomic_table.specs.Table.{Me, rest}
-use Rattle.npf_core.specs.declared.act.Act.{Act}
-use Rattle.npf_core.specs.declared.act.Why.TheVariants.{Expired}
-use Rattle.npf_core.specs.declared.conn_id.ConnId.{ConnId}
-use Rattle.npf_core.specs.declared.entry.Entry.{Entry}
-use Rattle.npf_core.specs.declared.stage.Stage.{Stage}
-use Rattle.npf_core.specs.declared.stage.Stage.TheVariants.{Vacant, Building, Live, Dead}
-use Rattle.npf_core.specs.Allowed.{IsDue}
-use Rattle.npf_core.specs.History.{IsPrefix, state_of, state_from}
-use Rattle.npf_core.specs.Machine.{Machine, opening, stage_of, HoldsNone}
-use Rattle.npf_core.specs.Meaning.{Meaning}
-use Rattle.npf_core.proofs.HistoryLemmas.{state_from-append, IsPrefix-append}
-use Rattle.npf_connections.specs.Adding.{Adds}
-use Rattle.npf_connections.specs.Expiring.{Killed, Expires, expiry_entries}
-use Rattle.npf_connections.specs.Pass.{Pass, IsPass}
-use Rattle.npf_oneturn_store.specs.declared.phase.Phase.TheVariants as phase
-use Rattle.npf_oneturn_store.specs.declared.phase.Phase.{Phase}
-use Rattle.npf_oneturn_store.specs.declared.store.Store.{Store}
-use Rattle.npf_oneturn_store.specs.Represents.{Represents}
-use Rattle.npf_oneturn_store.specs.Store.{phase_of, IsDuePhase}
-use Rattle.npf_oneturn_store.proofs.ConnectionLemmas.{claimed_within}
-use Rattle.npf_oneturn_store.proofs.RepresentLemmas.{shows_due}
-use Rattle.npf_oneturn.specs.declared.contents.Contents.{Contents}
-use Rattle.npf_oneturn.specs.declared.rule.Ending.TheVariants as ending
-use Rattle.npf_oneturn.specs.declared.view.View.{View}
-use Rattle.npf_oneturn.specs.Endings.{entries_from, end_acts, expiry_acts, Plan, planned_entries, ExpiresBy, MayEndTurn, HasEnded}
-use Rattle.npf_oneturn.specs.Taking.{Taken}
-use Rattle.npf_oneturn.specs.Views.{show}
-use Rattle.npf_oneturn.specs.Working.{worked, ExpiresBelow}
-use Rattle.npf_oneturn.proofs.AbandonLemmas.{ending_entries}
-use Rattle.npf_oneturn.proofs.CallLemmas.{k, taker, may_end, finished}
+use Rattle.npf_core.specs.declared.{act.{Act.Act, Why.TheVariants.Expired}, conn_id.ConnId.ConnId, entry.Entry.Entry, stage.Stage.Stage}
+use Rattle.npf_core.specs.{declared.stage.Stage.TheVariants.{Vacant, Building, Live, Dead}, Allowed.IsDue, History.{IsPrefix, state_of, state_from}}
+use Rattle.npf_core.{specs.{Machine.{Machine, opening, stage_of, HoldsNone}, Meaning.Meaning}, proofs.HistoryLemmas.{state_from-append, IsPrefix-append}}
+use Rattle.npf_connections.specs.{Adding.Adds, Expiring.{Killed, Expires, expiry_entries}, Pass.{Pass, IsPass}}
+use Rattle.npf_oneturn_store.specs.declared.phase.SlotPhase.TheVariants as phase
+use Rattle.npf_oneturn_store.specs.{declared.{phase.SlotPhase.SlotPhase, store.Store.Store}, Represents.Represents, Store.{phase_of, IsDuePhase}}
+use Rattle.npf_oneturn_store.proofs.{ConnectionLemmas.claimed_within, RepresentLemmas.shows_due}
+use Rattle.npf_oneturn.specs.declared.{contents.Contents.Contents, view.View.View}
+use Rattle.npf_oneturn.specs.declared.rule.CallEnding.TheVariants as ending
+use Rattle.npf_oneturn.specs.{Endings.{entries_from, end_acts, expiry_acts, Plan, planned_entries, ExpiresBy, MayEndTurn, HasEnded}, Taking.Taken, Views.show}
+use Rattle.npf_oneturn.{specs.Work.{worked, ExpiresBelow}, proofs.{AbandonLemmas.ending_entries, CallLemmas.{k, taker, may_end, finished}}}
 use Rattle.npf_seats.proofs.PrefixLemmas.{none_listed}
 use Rattle.npf_oneturn.proofs.WorkLemmas.{entries-append}
 
@@ -41,7 +22,7 @@ due_within {S} m slots store k0 r id now due =
     let within = claimed_within store.connections.items id (λ vacant. not_vacant (phase_of store id) vacant there) in
     omega (arith, within, r.sized)
   where
-    not_vacant : (p : Phase S) → p ≡ phase.Vacant → IsDuePhase m now p → ⊥
+    not_vacant : (p : SlotPhase S) → p ≡ phase.Vacant → IsDuePhase m now p → ⊥
     not_vacant phase.Vacant e h = h
     not_vacant phase.Building e h = h
     not_vacant (phase.Live flow n) e h = cc
@@ -87,7 +68,8 @@ is_due_or m now (Live flow n) = by_test (m.is_due flow now) refl
     by_test false e = inr (λ h. cc)
 is_due_or m now Dead = inr (λ h. h)
 
-pub expired : {S A R : Type 0} (m : Meaning S A R) (v : View S A R) (me : Me (Contents S) (View S A R)) (t : Taken m v me) (lives : v.seats.lives ≡ true) (theirs : v.seats.theirs ≡ []) (place : 1 ≤ length v.seats.readers)
+pub expired : {S A R : Type 0} (m : Meaning S A R) (v : View S A R) (me : Me (Contents S) (View S A R)) (t : Taken m v me)
+    (lives : v.seats.lives ≡ true) (theirs : v.seats.theirs ≡ []) (place : 1 ≤ length v.seats.readers)
     (now count : ℕ) (contents : Contents S) (next : Me (Contents S) (View S A R)) (h : HasEnded m (ending.Expires now count) (me.0, (0, contents) ∷ rest me.1) next) →
     Expires m (show v) next.0.seats.history now count × IsPass m (show next.0)
 expired {S} {A} {R} m v me t lives theirs place now count contents next h =
@@ -100,7 +82,8 @@ expired {S} {A} {R} m v me t lives theirs place now count contents next h =
     let state : state_of m next.0.seats.history ≡ state_from m k0 (planned_entries m h.plan u) = ap (state_of m) history ∙ state_from-append m opening t.log (planned_entries m h.plan u) in (
       record {
         killed = b.killed;
-        adds = subst (λ (es : List (Entry S A R)). Adds (show v) next.0.seats.history es) (ap (λ (p : Plan S A). planned_entries m p u) b.is ∙ expiry_entries_are m (show v) now b.killed k0) f.adds.adds;
+        adds = subst (λ (es : List (Entry S A R)). Adds (show v) next.0.seats.history es)
+            (ap (λ (p : Plan S A). planned_entries m p u) b.is ∙ expiry_entries_are m (show v) now b.killed k0) f.adds.adds;
         counted = b.counted;
         gave_up = λ id way c. subst (λ l. HoldsNone l id way) (sym state) (b.gave_up id way c);
         left = λ id live. ⊎_elim

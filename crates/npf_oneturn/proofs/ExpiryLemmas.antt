@@ -1,43 +1,19 @@
 -- How connections are killed in a turn as due.
 use Rattle.std.proofs.Common.{◌≡◌, ◌≢◌, ℕ, ◌+◌, Bool, true, false, ◌==◌, List, [], ◌∷◌, ◌++◌, map, cond, refl, sym, ap, ◌∙◌, subst, ⊎_elim, arith, append-nil, append_assoc, length-append}
-use Rattle.std.specs.List.{Contains}
-use Rattle.std.proofs.lemmas.Bool.{cases_eq}
-use Rattle.std.proofs.lemmas.Bool.Decides.{Decides-eqb}
+use Rattle.std.{specs.List.Contains, proofs.lemmas.Bool.{cases_eq, false_from_ne_true, Decides.Decides-eqb}}
 use Rattle.std.proofs.lemmas.List.Elements.{Contains-append_cases, Contains-append_left, Contains-append_right, Contains-push}
 use Rattle.npf_types.specs.declared.key.Way.{Way}
-use Rattle.npf_core.specs.declared.act.Act.{Act}
-use Rattle.npf_core.specs.declared.act.Why.TheVariants.{Expired}
-use Rattle.npf_core.specs.declared.conn_id.ConnId.{ConnId}
-use Rattle.npf_core.specs.declared.stage.Stage.{Stage}
-use Rattle.npf_core.specs.declared.stage.Stage.TheVariants.{Vacant, Building, Live, Dead}
-use Rattle.npf_core.specs.Allowed.{IsDue}
-use Rattle.npf_core.specs.History.{frees}
-use Rattle.npf_core.specs.Machine.{Machine, stage_at, stage_of, IsClaimed, HoldsNone}
-use Rattle.npf_core.specs.Meaning.{Meaning}
-use Rattle.npf_core.specs.NextState.{after_act}
-use Rattle.npf_core.proofs.EqualityLemmas.{same_conn_id}
-use Rattle.npf_core.proofs.HistoryLemmas.{frees-append}
-use Rattle.npf_core.proofs.LifeLemmas.{IsClaimed-last}
+use Rattle.npf_core.specs.{declared.{act.{Act.Act, Why.TheVariants.Expired}, conn_id.ConnId.ConnId, stage.Stage.{Stage, TheVariants.Vacant}}, Allowed.IsDue}
+use Rattle.npf_core.specs.{History.frees, Machine.{Machine, stage_at, stage_of, IsClaimed, HoldsNone}, Meaning.Meaning, NextState.after_act}
+use Rattle.npf_core.proofs.{EqualityLemmas.same_conn_id, HistoryLemmas.frees-append, LifeLemmas.{IsClaimed-last, IsDue-claimed}}
 use Rattle.npf_connections.specs.Expiring.{Killed}
-use Rattle.npf_oneturn_store.specs.declared.connection.Connection.{Connection}
-use Rattle.npf_oneturn_store.specs.declared.phase.Phase.TheVariants as phase
-use Rattle.npf_oneturn_store.specs.Store.{IsDuePhase}
-use Rattle.npf_oneturn_store.specs.Connection.{phase_at}
-use Rattle.npf_oneturn_store.specs.declared.store.Store.{Store}
+use Rattle.npf_oneturn_store.specs.{declared.{connection.Connection.Connection, store.Store.Store}, Store.IsDuePhase, Connection.phase_at}
+use Rattle.npf_oneturn_store.specs.declared.phase.SlotPhase.TheVariants as phase
 use Rattle.npf_oneturn_store.specs.Represents.{Represents}
-use Rattle.npf_oneturn.specs.Endings.{entries_from, end_acts, expiry_acts}
-use Rattle.npf_oneturn.specs.Rule.{DeadHoldNone}
-use Rattle.npf_oneturn.specs.Working.{worked, Works, EndsConnection, ExpiresAt, ExpiresBelow}
+use Rattle.npf_oneturn.specs.{Endings.{entries_from, end_acts, expiry_acts}, Rule.DeadHoldNone, Work.{worked, Works, EndsConnection, ExpiresAt, ExpiresBelow}}
 use Rattle.npf_oneturn.proofs.AbandonLemmas.{bare_worked}
-use Rattle.npf_oneturn.proofs.EndLemmas.{is_false}
 use Rattle.npf_seats.proofs.PrefixLemmas.{none_listed, cons_cases}
 use Rattle.npf_oneturn.proofs.WorkLemmas.{AllEnd, IsEndAct, kills, unholds, all_end, none_on, frees_none, works_none, works_more, worked-append, entries-append}
-
-due_claimed : {S A R : Type 0} (m : Meaning S A R) (now : ℕ) (stage : Stage S) → IsDue m now stage → IsClaimed stage
-due_claimed m now Vacant h = h
-due_claimed m now (Building seat) h = tt
-due_claimed m now (Live flow n) h = tt
-due_claimed m now Dead h = tt
 
 -- two claimed identities of one slot are one
 one_claimed : {S : Type 0} (k : Machine S) (id other : ConnId) → IsClaimed (stage_of k id) → IsClaimed (stage_of k other) → other.slot ≡ id.slot → other ≡ id
@@ -50,7 +26,7 @@ module _ {S A R : Type 0} (m : Meaning S A R) (slots : ℕ) (seat : ℕ) (id : C
   end_elsewhere : (act : Act S A) → IsEndAct id act → (k : Machine S) → (after_act m k seat act).slot s ≡ k.slot s
   end_elsewhere act (unholds way e) k = rw e refl
   end_elsewhere act (kills why e) k =
-      let apart : (id.slot == s) ≡ false = is_false (id.slot == s) (λ t. ne (sym ((Decides-eqb id.slot s).0 t))) in
+      let apart : (id.slot == s) ≡ false = false_from_ne_true (id.slot == s) (λ t. ne (sym ((Decides-eqb id.slot s).0 t))) in
       rw (e, apart) refl
 
   -- what ends a connection leaves other slots alone
@@ -90,7 +66,7 @@ module _ {S A R : Type 0} (m : Meaning S A R) (slots : ℕ) (k : Machine S) (sea
         others = λ other ne. subst (λ (xs : List (Act S A)). stage_of (worked m k seat xs) other ≡ stage_of k other) same
             (ap (λ x. stage_at x other.inc) (elsewhere m slots seat id other.slot (λ f. ne (f ∙ here)) acts all k));
         due = λ other there h.
-            let is = one_claimed k id other (due_claimed m now (stage_of k id) due) (due_claimed m now (stage_of k other) h) (there ∙ sym here) in
+            let is = one_claimed k id other (IsDue-claimed m now (stage_of k id) due) (IsDue-claimed m now (stage_of k other) h) (there ∙ sym here) in
             subst (λ i. Contains (id ∷ []) i) (sym is) (Contains-push [] id);
       }
 
@@ -145,7 +121,12 @@ module _ {S A R : Type 0} (m : Meaning S A R) (slots : ℕ) (k : Machine S) (sea
         works = subst (λ (acts : List (Act S A)). Works m slots k seat new acts) (sym both) all;
         counted = let sum = length-append xs ys in omega (arith, sum, f.counted, next.counted);
         bare = λ bare. rw on (next.bare (f.bare bare));
-        unfreed = λ id. rw (both, entries-append m seat k (expiry_acts now xs) (expiry_acts now ys), frees-append id (entries_from m k seat (expiry_acts now xs)) (entries_from m k1 seat (expiry_acts now ys)), f.unfreed id) (next.unfreed id);
+        unfreed = λ id. rw (
+          both,
+          entries-append m seat k (expiry_acts now xs) (expiry_acts now ys),
+          frees-append id (entries_from m k seat (expiry_acts now xs)) (entries_from m k1 seat (expiry_acts now ys)),
+          f.unfreed id,
+        ) (next.unfreed id);
         gave_up = λ id way c. ⊎_elim
             (λ d. rw on (next.gives_none id way (f.gave_up id way d)))
             (λ d. rw on (next.gave_up id way d))

@@ -1,28 +1,15 @@
 -- A pass that takes another in keeps the rule.
 use Rattle.std.proofs.Common.{◌≡◌, ◌⊎◌, ℕ, ◌≤◌, true, false, true≢false, List, [], ◌∷◌, ◌++◌, length, map, set, refl, sym, ap, ◌∙◌, subst, ⊎_elim, inl, inr, arith, length-append}
-use Rattle.std.specs.List.{Contains}
-use Rattle.std.proofs.lemmas.List.{map-set}
-use Rattle.std.proofs.lemmas.List.Elements.{Contains-append_left, Contains-append_right, Contains-push}
+use Rattle.std.{specs.List.Contains, proofs.lemmas.List.{map-set, Elements.{Contains-append_left, Contains-append_right, Contains-push}}}
 use mathlib.Core.Option.{some}
 use lib.ListN.{get_elem?}
-use Rattle.atomic_table.specs.Table.{Me, Step, Allows, Joins, keeps}
-use Rattle.atomic_table.proofs.Lists.{at_map, set_else}
-use Rattle.npf_core.specs.History.{state_of, by}
-use Rattle.npf_core.specs.Meaning.{Meaning}
-use Rattle.npf_core.proofs.HistoryLemmas.{Legal-prefix}
-use Rattle.npf_connections.specs.Joining.{IsJoined}
-use Rattle.npf_connections.specs.Pass.{IsPass, IsOwn, all_places}
-use Rattle.npf_seats.specs.Moves.{taking_seat}
-use Rattle.npf_seats.specs.Seats.{Seats}
-use Rattle.npf_seats.proofs.PrefixLemmas.{none_listed, none_in_prefix, seen_entry}
+use Rattle.atomic_table.{specs.Table.{Me, Step, Allows, Joins, keeps}, proofs.Lists.{at_map, set_else}}
+use Rattle.npf_core.{specs.{History.{state_of, by}, Meaning.Meaning}, proofs.HistoryLemmas.Legal-prefix}
+use Rattle.npf_connections.specs.{Joining.IsJoined, Pass.{IsPass, IsOwn, all_places}}
+use Rattle.npf_seats.{specs.{Moves.taking_seat, Seats.Seats}, proofs.PrefixLemmas.{none_listed, none_in_prefix, seen_entry}}
 use Rattle.npf_seats.proofs.SeatLemmas.{unspent, seats-join, long, mine_seen, told_seen, seats-read, only_seat, most_places}
-use Rattle.npf_oneturn.specs.declared.contents.Contents.{Contents}
-use Rattle.npf_oneturn.specs.declared.view.View.{View}
-use Rattle.npf_oneturn.specs.Passing.{taker_in, spent_view, Learns}
-use Rattle.npf_oneturn.specs.Rule.{FitsRule, IsRuled}
-use Rattle.npf_oneturn.specs.Taking.{IsResting}
-use Rattle.npf_oneturn.specs.Views.{entry_seat, seat_of_view, one_if, crowd_of, show}
-use Rattle.npf_oneturn.proofs.Counts.{crowd-set, holder-set}
+use Rattle.npf_oneturn.specs.{declared.{contents.Contents.Contents, view.View.View}, Moves.{taker_in, spent_view, Learns}, Rule.{FitsRule, IsRuled}}
+use Rattle.npf_oneturn.{specs.{Taking.IsResting, Views.{entry_seat, seat_of_view, one_if, crowd_of, show}}, proofs.Counts.{crowd-set, holder-set}}
 use Rattle.npf_oneturn.proofs.ViewLemmas.{each-set, had-set, had_all, views_keep, load_keeps}
 
 -- two seats are joined so
@@ -37,7 +24,8 @@ joins {S} {A} {R} m slots id v other w lives turn settled place w-lives w-turn w
     (had-set s.views first other gone refl (had-set s.views s.views id both turn (had_all s.views)))
     (λ held. holder-set first other w gone there w-turn (holder-set s.views id v both at turn held))
     (subst (λ sides. Seats entry_seat slots all_places kept.log sides) (sym (map-set seat_of_view first other gone ∙ ap (λ z. set z other gone.seats) (map-set seat_of_view s.views id both)))
-    (seats-join entry_seat slots all_places kept.log (map seat_of_view s.views) id v.seats other w.seats 0 kept.seats (at_map seat_of_view s.views id v at) apart (at_map seat_of_view s.views other w was)
+    (seats-join entry_seat slots all_places kept.log (map seat_of_view s.views) id v.seats other w.seats 0 kept.seats
+    (at_map seat_of_view s.views id v at) apart (at_map seat_of_view s.views other w was)
     lives settled place w-lives w-settled))
     (each-set (state_of m kept.log) first other gone gone_fits (each-set (state_of m kept.log) s.views id both both_fits kept.each))
   where

@@ -1,41 +1,23 @@
 -- A new table keeps the rule, and so does a pass that gives up a place.
-use Rattle.std.proofs.Common.{◌≡◌, ℕ, zero, suc, ◌-◌, ◌≤◌, Bool, true, false, true≢false, ◌==◌, [], ◌∷◌, ◌++◌, length, take, drop, map, set, cond, refl, sym, ap, ◌∙◌, subst, arith, append-nil}
-use Rattle.std.proofs.lemmas.List.{length-drop, length-take-le, map-append, map-set}
-use Rattle.std.proofs.lemmas.List.Elements.{Contains-append_left, Contains-append_right, Contains-push}
+use Rattle.std.proofs.Common.{◌≡◌, ℕ, zero, suc, ◌-◌, ◌≤◌, true, false, true≢false, ◌==◌, [], ◌∷◌, ◌++◌, length, take, drop, map, set, refl, sym, ap, ◌∙◌, subst, arith, append-nil}
+use Rattle.std.proofs.lemmas.List.{length-drop, length-take-le, map-append, map-set, Elements.{Contains-append_left, Contains-append_right, Contains-push}}
 use mathlib.Core.Option.{some, some-injective, some-ne-none}
 use lib.ListN.{get_elem?}
-use Rattle.atomic_table.specs.Table.{Me, Step, opening as table_opening, Allows, Splits, keeps}
-use Rattle.atomic_table.proofs.Lists.{at_map}
-use Rattle.npf_core.specs.declared.conn_id.ConnId.{ConnId}
-use Rattle.npf_core.specs.declared.stage.Stage.TheVariants.{Vacant}
-use Rattle.npf_core.specs.History.{state_of}
-use Rattle.npf_core.specs.Machine.{opening, stage_of}
-use Rattle.npf_core.specs.Meaning.{Meaning}
+use Rattle.atomic_table.{specs.Table.{Me, Step, opening as table_opening, Allows, Splits, keeps}, proofs.Lists.at_map}
+use Rattle.npf_shelf.proofs.BoolLemmas.{cond-same}
+use Rattle.npf_core.specs.{declared.{conn_id.ConnId.ConnId, stage.Stage.TheVariants.Vacant}, History.state_of, Machine.{opening, stage_of}, Meaning.Meaning}
 use Rattle.npf_core.proofs.HistoryLemmas.{Legal-prefix}
-use Rattle.npf_connections.specs.Pass.{IsPass, all_places}
-use Rattle.npf_connections.specs.Joining.{IsSplit}
-use Rattle.npf_seats.specs.Moves.{given_seat}
-use Rattle.npf_seats.specs.Seats.{Seats}
-use Rattle.npf_seats.proofs.PrefixLemmas.{none_listed}
-use Rattle.npf_seats.specs.Sums.{numbers_below}
-use Rattle.npf_seats.proofs.SeatLemmas.{seats-first, seats-split, seats-born, none_seen}
-use Rattle.npf_seats.proofs.SumLemmas.{occurs_below, occurs_beyond, length-numbers_below}
+use Rattle.npf_connections.specs.{Pass.{IsPass, all_places}, Joining.IsSplit}
+use Rattle.npf_seats.{specs.{Moves.given_seat, Seats.Seats, Sums.numbers_below}, proofs.PrefixLemmas.none_listed}
+use Rattle.npf_seats.proofs.{SeatLemmas.{seats-first, seats-split, seats-born, none_seen}, SumLemmas.{occurs_below, occurs_beyond, length-numbers_below}}
 use Rattle.npf_oneturn_store.specs.Represents.{Represents}
-use Rattle.npf_oneturn.specs.declared.contents.Contents.{Contents}
-use Rattle.npf_oneturn.specs.declared.view.View.{View}
-use Rattle.npf_oneturn.specs.Passing.{giver, newcomer, GetsNumber}
-use Rattle.npf_oneturn.specs.Rule.{FitsRule, HasTurn, IsRuled, first_view}
-use Rattle.npf_oneturn.specs.Taking.{IsResting}
-use Rattle.npf_oneturn.specs.Views.{entry_seat, seat_of_view, crowd_of, show}
+use Rattle.npf_oneturn.specs.{declared.{contents.Contents.Contents, view.View.View}, Moves.{giver, newcomer, GetsNumber}}
+use Rattle.npf_oneturn.specs.{Rule.{FitsRule, HasTurn, IsRuled, first_view}, Taking.IsResting, Views.{entry_seat, seat_of_view, crowd_of, show}}
 use Rattle.npf_oneturn.proofs.Counts.{crowd-set, crowd-append, holder-set, holder-append}
 use Rattle.npf_oneturn.proofs.ViewLemmas.{each-set, each-push, had-set, had-push, had_all, views_keep, load_keeps}
 
-one_way : {X : Type 0} (test : Bool) (x : X) → cond test x x ≡ x
-one_way true x = refl
-one_way false x = refl
-
 opening_stage : {S : Type 0} (id : ConnId) → stage_of (opening {S = S}) id ≡ Vacant
-opening_stage id = one_way (0 == id.inc) Vacant
+opening_stage id = cond-same (0 == id.inc) Vacant
 
 module _ {S A R : Type 0} (m : Meaning S A R) (slots : ℕ) where
   -- the rule of a new table
@@ -77,14 +59,16 @@ pub others_left : {S A R : Type 0} (v : View S A R) → length (giver v).seats.r
 others_left v = length-take-le (length v.seats.readers - 1) v.seats.readers (omega arith)
 
 -- a seat is split so
-pub splits : {S A R : Type 0} (m : Meaning S A R) (slots id : ℕ) (v : View S A R) → v.seats.lives ≡ true → v.turn ≡ false → 2 ≤ length v.seats.readers → Splits (IsRuled m slots) id v (giver v) (newcomer v)
+pub splits : {S A R : Type 0} (m : Meaning S A R) (slots id : ℕ) (v : View S A R) → v.seats.lives ≡ true →
+    v.turn ≡ false → 2 ≤ length v.seats.readers → Splits (IsRuled m slots) id v (giver v) (newcomer v)
 splits {S} {A} {R} m slots id v lives turn places s kept at =
     let left : View S A R = giver v in
     let right : View S A R = newcomer v in
     views_keep m slots s kept (set s.views id left ++ right ∷ []) crowd
     (had-push s.views (set s.views id left) right refl (had-set s.views s.views id left turn (had_all s.views)))
     (λ held. holder-append (set s.views id left) right (holder-set s.views id v left at turn held))
-    (subst (λ sides. Seats entry_seat slots all_places kept.log sides) (sym (map-append seat_of_view (set s.views id left) (right ∷ []) ∙ ap (λ z. z ++ right.seats ∷ []) (map-set seat_of_view s.views id left)))
+    (subst (λ sides. Seats entry_seat slots all_places kept.log sides)
+    (sym (map-append seat_of_view (set s.views id left) (right ∷ []) ∙ ap (λ z. z ++ right.seats ∷ []) (map-set seat_of_view s.views id left)))
     (seats-split entry_seat slots all_places kept.log (map seat_of_view s.views) id v.seats kept.seats (at_map seat_of_view s.views id v at) lives places))
     (each-push (state_of m kept.log) (set s.views id left) right right_fits (each-set (state_of m kept.log) s.views id left left_fits kept.each))
   where

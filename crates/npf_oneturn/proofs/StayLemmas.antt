@@ -1,30 +1,15 @@
 -- What a pass was answered and builds, as it asks for an act of its own.
-use Rattle.std.proofs.Common.{◌≡◌, ℕ, Bool, true, false, List, [], ◌∷◌, Option, Some, None, cond, refl, ap, sym, subst, ◌∙◌, ⊎_elim}
-use Rattle.std.specs.List.{Contains, filter}
-use Rattle.std.specs.Prelude.{not}
-use Rattle.std.proofs.lemmas.List.Elements.{Contains-append_cases, Contains-append_left, Contains-append_right, Contains-push}
-use Rattle.npf_types.specs.declared.key.Key.{Key}
-use Rattle.npf_types.specs.declared.key.Way.{Way}
-use Rattle.npf_core.specs.declared.act.Act.{Act}
-use Rattle.npf_core.specs.declared.act.Act.TheVariants.{Claim, Look, Hold, Start, Step, Kill, Unhold, Free}
-use Rattle.npf_core.specs.declared.conn_id.ConnId.{ConnId}
-use Rattle.npf_core.specs.declared.entry.Entry.{Entry}
-use Rattle.npf_core.specs.declared.found.Found.{Found}
-use Rattle.npf_core.specs.declared.stage.Stage.TheVariants.{Building, Dead}
-use Rattle.npf_core.specs.Allowed.{Allows}
-use Rattle.npf_core.specs.HolderLaw.{HoldersAreClaimed}
-use Rattle.npf_core.specs.Machine.{Machine, stage_of, IsClaimed, HoldsNone}
-use Rattle.npf_core.specs.Meaning.{Meaning}
-use Rattle.npf_core.specs.NextState.{after_act, is_id}
-use Rattle.npf_core.specs.Replies.{reply_of, claimed_id, held_by}
-use Rattle.npf_core.proofs.BuildingLemmas.{claim_builds}
-use Rattle.npf_core.proofs.EqualityLemmas.{is_id-Decides}
-use Rattle.npf_core.proofs.HolderLemmas.{Passes, rests, gives, loses, passes, may_hold, claimed_by}
+use Rattle.std.{proofs.Common.{◌≡◌, ℕ, List, [], Option, Some, None, refl, ap, sym, subst, ◌∙◌, ⊎_elim}, specs.List.Contains}
+use Rattle.std.proofs.lemmas.List.Elements.{Contains-append_cases}
+use Rattle.npf_types.specs.declared.key.{Key.Key, Way.Way}
+use Rattle.npf_core.specs.declared.{act.Act.{Act, TheVariants.{Claim, Look, Hold, Start, Step, Kill, Unhold, Free}}, conn_id.ConnId.ConnId, entry.Entry.Entry}
+use Rattle.npf_core.specs.{declared.{found.Found.Found, stage.Stage.TheVariants.{Building, Dead}}, Allowed.Allows, HolderLaw.HoldersAreClaimed}
+use Rattle.npf_core.specs.{Machine.{Machine, stage_of, IsClaimed, HoldsNone}, Meaning.Meaning, NextState.after_act, Replies.{reply_of, claimed_id, held_by}}
+use Rattle.npf_core.proofs.{BuildingLemmas.claim_builds, HolderLemmas.{Passes, rests, gives, loses, passes, may_hold, claimed_by}}
 use Rattle.npf_core.proofs.LifeLemmas.{Life, stage_in, stage_of-is, Moves, keeps, claims, starts, steps, abandons, expires, frees, moves}
-use Rattle.npf_connections.specs.Answered.{without, found_ids, taken_ids}
+use Rattle.npf_connections.{specs.Answered.{found_ids, taken_ids}, proofs.WithoutLemmas.Contains-without_parts}
 use Rattle.npf_seats.proofs.PrefixLemmas.{none_listed, cons_cases}
-use Rattle.npf_oneturn.specs.Endings.{answered_after, builds_after}
-use Rattle.npf_oneturn.specs.Rule.{DeadHoldNone}
+use Rattle.npf_oneturn.specs.{Endings.{answered_after, builds_after}, Rule.DeadHoldNone}
 
 module _ {S A R : Type 0} (m : Meaning S A R) (slots : ℕ) (k : Machine S) (seat : ℕ) (act : Act S A) (allowed : Allows m slots k seat act) where
   abbrev next : Machine S
@@ -84,29 +69,6 @@ module _ {S A R : Type 0} (m : Meaning S A R) (slots : ℕ) (k : Machine S) (sea
       absurd cc)
       (bare id was way)
 
--- what a filter keeps stood there and passes
-pub filter_has : {X : Type 0} (p : X → Bool) (xs : List X) (x : X) → Contains (filter p xs) x → Contains xs x × (p x ≡ true)
-filter_has p [] x c = absurd (none_listed x c)
-filter_has {X} p (y ∷ ys) x c = by_test (λ d. filter_has p ys x d) (p y) refl c
-  where
-    by_test : (Contains (filter p ys) x → Contains ys x × (p x ≡ true)) → (test : Bool) → p y ≡ test →
-        Contains (cond test (y ∷ filter p ys) (filter p ys)) x → Contains (y ∷ ys) x × (p x ≡ true)
-    by_test rest true e c = ⊎_elim
-        (λ (same : y ≡ x). (Contains-append_left (y ∷ []) ys x (subst (λ (z : X). Contains (y ∷ []) z) same (Contains-push [] y)), ap p (sym same) ∙ e))
-        (λ (d : Contains (filter p ys) x). let r = rest d in (Contains-append_right (y ∷ []) ys x r.0, r.1))
-        (cons_cases y x (filter p ys) c)
-    by_test rest false e c = let r = rest c in (Contains-append_right (y ∷ []) ys x r.0, r.1)
-
-not_false : (test : Bool) → not test ≡ true → test ≡ false
-not_false true e = sym e
-not_false false e = refl
-
--- what stands beside an identity is another
-pub not_without : (id other : ConnId) (ids : List ConnId) → Contains (without other ids) id → Contains ids id × ¬ (id ≡ other)
-not_without id other ids c =
-    let kept = filter_has (λ (x : ConnId). not (is_id x other)) ids id c in
-    (kept.0, λ same. let is = (is_id-Decides id other).1 same in let isnt = not_false (is_id id other) kept.1 in absurd cc)
-
 module _ {S A R : Type 0} (m : Meaning S A R) (slots : ℕ) (k : Machine S) (seat : ℕ) (claimed : HoldersAreClaimed k) (ids : List ConnId) where
   abbrev Answered : Act S A → Type 0
   Answered act = (id : ConnId) → Contains (answered_after act (reply_of m k act) ids) id → IsClaimed (stage_of (after_act m k seat act) id)
@@ -151,10 +113,10 @@ module _ {S A R : Type 0} (m : Meaning S A R) (slots : ℕ) (k : Machine S) (sea
       (λ (d : Contains ids id). built_next m slots k seat (Claim packet slot) h id (λ n init e. absurd cc) (λ why e. absurd cc) (were id d))
       (cons_cases (claimed_id k slot) id ids c)
   builds_next (Start other packet init) h were id c =
-      let left = not_without id other ids c in
+      let left = Contains-without_parts id other ids c in
       built_next m slots k seat (Start other packet init) h id (λ n i e. left.1 (sym cc)) (λ why e. absurd cc) (were id left.0)
   builds_next (Kill other why) h were id c =
-      let left = not_without id other ids c in
+      let left = Contains-without_parts id other ids c in
       built_next m slots k seat (Kill other why) h id (λ n i e. absurd cc) (λ w e. left.1 (sym cc)) (were id left.0)
   builds_next (Look packet key) h were id c = built_next m slots k seat (Look packet key) h id (λ n i e. absurd cc) (λ w e. absurd cc) (were id c)
   builds_next (Hold other key way) h were id c = built_next m slots k seat (Hold other key way) h id (λ n i e. absurd cc) (λ w e. absurd cc) (were id c)
@@ -162,11 +124,3 @@ module _ {S A R : Type 0} (m : Meaning S A R) (slots : ℕ) (k : Machine S) (sea
       built_next m slots k seat (Step packet other way arg) h id (λ n i e. absurd cc) (λ w e. absurd cc) (were id c)
   builds_next (Unhold other way) h were id c = built_next m slots k seat (Unhold other way) h id (λ n i e. absurd cc) (λ w e. absurd cc) (were id c)
   builds_next (Free other) h were id c = built_next m slots k seat (Free other) h id (λ n i e. absurd cc) (λ w e. absurd cc) (were id c)
-
--- where a filter keeps nothing the first item fails its test, and it keeps nothing of the others
-pub none_first : {X : Type 0} (p : X → Bool) (x : X) (xs : List X) → filter p (x ∷ xs) ≡ [] → (p x ≡ false) × (filter p xs ≡ [])
-none_first {X} p x xs e = at_test (p x) refl e
-  where
-    at_test : (keep : Bool) → p x ≡ keep → cond keep (x ∷ filter p xs) (filter p xs) ≡ [] → (p x ≡ false) × (filter p xs ≡ [])
-    at_test true t e = absurd cc
-    at_test false t e = (t, e)

@@ -1,27 +1,17 @@
 -- A try to take the turn keeps the rule.
 use Rattle.std.proofs.Common.{◌≡◌, ◌≢◌, ℕ, ◌≤◌, true, eqb, List, [], ◌∷◌, map, length, set, refl, sym, ◌∙◌, subst, ⊎_elim, inl, inr, arith, length-set}
-use Rattle.std.specs.Prelude.{slice_index}
-use Rattle.std.proofs.lemmas.List.{get_or-set_same, map-set}
+use Rattle.std.{specs.Prelude.slice_index, proofs.lemmas.List.{get_or-set_same, map-set}}
 use mathlib.Core.Option.{some}
 use lib.ListN.{get_elem?}
 use prog.Atomic.{either}
-use Rattle.atomic_table.specs.Table.{State, Me, Act, Step, stepped, Allows, carried_after, Valid, keeps, takes}
-use Rattle.atomic_table.proofs.Lists.{at_map, at_set, exchanged}
-use Rattle.npf_core.specs.declared.entry.Entry.{Entry}
-use Rattle.npf_core.specs.History.{state_of}
-use Rattle.npf_core.specs.Meaning.{Meaning}
+use Rattle.atomic_table.{specs.Table.{State, Me, Act, Step, stepped, Allows, carried_after, Valid, keeps, takes}, proofs.Lists.{at_map, at_set, exchanged}}
+use Rattle.npf_core.specs.{declared.entry.Entry.Entry, History.state_of, Meaning.Meaning}
 use Rattle.npf_connections.specs.Pass.{all_places}
-use Rattle.npf_seats.specs.declared.side.SeatSide.{SeatSide}
-use Rattle.npf_seats.specs.Seats.{FitsSeats, Seats}
-use Rattle.npf_seats.proofs.SeatLemmas.{unspent, seats-sees, only_seat, most_places}
+use Rattle.npf_seats.{specs.{declared.side.SeatSide.SeatSide, Seats.{FitsSeats, Seats}}, proofs.SeatLemmas.{unspent, seats-sees, only_seat, most_places}}
 use Rattle.npf_seats.proofs.SumLemmas.{set_there}
-use Rattle.npf_oneturn.specs.declared.contents.Contents.{Contents}
-use Rattle.npf_oneturn.specs.declared.view.View.{View}
-use Rattle.npf_oneturn.specs.Rule.{FitsRule, IsHome, HasTurn, IsRuled}
-use Rattle.npf_oneturn.specs.Taking.{Taken, TakesOrNot, IsResting}
-use Rattle.npf_oneturn.specs.Views.{entry_seat, seat_of_view, crowd_of, IsTidy}
-use Rattle.npf_oneturn.proofs.Counts.{crowd-set, crowd-few, crowd-apart, crowd-there}
-use Rattle.npf_oneturn.proofs.ViewLemmas.{each-set, stays_put}
+use Rattle.npf_oneturn.specs.{declared.{contents.Contents.Contents, view.View.View}, Rule.{FitsRule, IsHome, HasTurn, IsRuled}}
+use Rattle.npf_oneturn.specs.{Taking.{Taken, TakesOrNot, IsResting}, Views.{entry_seat, seat_of_view, crowd_of, IsTidy}}
+use Rattle.npf_oneturn.proofs.{Counts.{crowd-set, crowd-few, crowd-apart, crowd-there}, ViewLemmas.{each-set, stays_put}}
 
 module _ {S A R : Type 0} (m : Meaning S A R) (slots : ℕ) where
   module _ (s : State (Contents S) (View S A R)) (id : ℕ) (v : View S A R) (kept : IsRuled m slots s) (at : get_elem? s.views id ≡ some v)
@@ -69,7 +59,8 @@ module _ {S A R : Type 0} (m : Meaning S A R) (slots : ℕ) where
           (record { taken = one; alone = refl; lives = lives; place = place; newest = refl; crowd = sym same_crowd }))
           (λ (x : (j ≢ id) × (get_elem? s.views j ≡ some u)). absurd (nobody free j u x.1 t))
           (at_set s.views id j taker u e);
-      seats = subst (λ y. Seats entry_seat slots all_places kept.log y) (sym (map-set seat_of_view s.views id taker)) (seats-sees entry_seat slots all_places kept.log sides id v.seats kept.seats there lives);
+      seats = subst (λ y. Seats entry_seat slots all_places kept.log y) (sym (map-set seat_of_view s.views id taker))
+          (seats-sees entry_seat slots all_places kept.log sides id v.seats kept.seats there lives);
       each = each-set (state_of m kept.log) s.views id taker taker_fits kept.each;
     }
       where

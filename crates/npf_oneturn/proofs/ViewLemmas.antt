@@ -1,22 +1,14 @@
 -- The rule where only views change.
 use Rattle.std.proofs.Common.{◌≡◌, ◌≢◌, ℕ, true, false, true≢false, List, [], ◌∷◌, ◌++◌, map, length, set, sym, ap, ◌∙◌, subst, ⊎_elim, arith}
-use Rattle.std.specs.Prelude.{slice_index}
-use Rattle.std.proofs.lemmas.List.{map-set, set-get_or}
+use Rattle.std.{specs.Prelude.slice_index, proofs.lemmas.List.{map-set, set-get_or}}
 use mathlib.Core.Option.{some}
 use lib.ListN.{get_elem?}
-use Rattle.atomic_table.specs.Table.{State, stepped, keeps}
-use Rattle.atomic_table.proofs.Lists.{at_set, set_again}
-use Rattle.npf_core.specs.History.{state_of}
-use Rattle.npf_core.specs.Machine.{Machine}
-use Rattle.npf_core.specs.Meaning.{Meaning}
+use Rattle.atomic_table.{specs.Table.{State, stepped, keeps}, proofs.Lists.{at_set, set_again}}
+use Rattle.npf_core.specs.{History.state_of, Machine.Machine, Meaning.Meaning}
 use Rattle.npf_connections.specs.Pass.{all_places}
-use Rattle.npf_seats.specs.Seats.{Seats}
-use Rattle.npf_seats.proofs.SumLemmas.{there_pushed}
-use Rattle.npf_oneturn.specs.declared.contents.Contents.{Contents}
-use Rattle.npf_oneturn.specs.declared.view.View.{View}
-use Rattle.npf_oneturn.specs.Rule.{FitsRule, IsRuled}
-use Rattle.npf_oneturn.specs.Views.{entry_seat, seat_of_view, crowd_of, one_if, HasHolder}
-use Rattle.npf_oneturn.proofs.Counts.{crowd-set, holder-set}
+use Rattle.npf_seats.{specs.Seats.Seats, proofs.SumLemmas.there_pushed}
+use Rattle.npf_oneturn.specs.{declared.{contents.Contents.Contents, view.View.View}, Rule.{FitsRule, IsRuled}}
+use Rattle.npf_oneturn.{specs.Views.{entry_seat, seat_of_view, crowd_of, one_if, HasHolder}, proofs.Counts.{crowd-set, holder-set}}
 
 module _ {S A R : Type 0} where
   -- each view fits where one changes or a new one comes

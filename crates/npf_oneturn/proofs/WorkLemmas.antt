@@ -1,34 +1,18 @@
 -- Acts one after the other, in one turn.
 use Rattle.std.proofs.Common.{◌≡◌, ◌≢◌, ℕ, Bool, true, false, List, [], ◌∷◌, ◌++◌, map, IsTrue, Option, Some, None, cond, refl, sym, ap, ◌∙◌, subst}
-use Rattle.std.specs.List.{filter}
-use Rattle.npf_types.specs.declared.key.Key.{Key}
-use Rattle.npf_types.specs.declared.key.Way.{Way}
-use Rattle.npf_types.specs.declared.key.Way.TheVariants.{Forward, Backward, Port}
-use Rattle.npf_core.specs.declared.act.Act.{Act}
-use Rattle.npf_core.specs.declared.act.Act.TheVariants.{Claim, Look, Hold, Start, Step, Kill, Unhold, Free}
-use Rattle.npf_core.specs.declared.act.Why.{Why}
-use Rattle.npf_core.specs.declared.act.Why.TheVariants.{Abandoned, Expired}
-use Rattle.npf_core.specs.declared.conn_id.ConnId.{ConnId}
-use Rattle.npf_core.specs.declared.entry.Entry.{Entry}
-use Rattle.npf_core.specs.declared.found.Found.{Found}
-use Rattle.npf_core.specs.declared.stage.Stage.{Stage}
-use Rattle.npf_core.specs.declared.stage.Stage.TheVariants.{Vacant, Building, Live, Dead}
-use Rattle.npf_core.specs.Allowed.{Allows, IsDue}
-use Rattle.npf_core.specs.History.{LegalFrom, state_from, frees, is_free}
-use Rattle.npf_core.specs.Machine.{Machine, stage_of, IsAlive, IsClaimed, HoldsSome, HoldsNone}
-use Rattle.npf_core.specs.Meaning.{Meaning}
-use Rattle.npf_core.specs.NextState.{after_act, is_id, is_way, is_found, given_up}
-use Rattle.npf_core.specs.Replies.{reply_of}
-use Rattle.npf_core.proofs.EqualityLemmas.{is_found-Decides, is_id-Decides}
-use Rattle.npf_core.proofs.HistoryLemmas.{state_from-append, LegalFrom-append}
-use Rattle.npf_oneturn.proofs.EndLemmas.{is_false}
+use Rattle.std.{specs.List.filter, proofs.lemmas.Bool.false_from_ne_true}
+use Rattle.npf_types.specs.declared.key.{Key.Key, Way.{Way, TheVariants.{Forward, Backward, Port}}}
+use Rattle.npf_core.specs.declared.act.{Act.{Act, TheVariants.{Claim, Look, Hold, Start, Step, Kill, Unhold, Free}}, Why.Why}
+use Rattle.npf_core.specs.declared.{act.Why.TheVariants.{Abandoned, Expired}, conn_id.ConnId.ConnId, entry.Entry.Entry, found.Found.Found, stage.Stage.Stage}
+use Rattle.npf_core.specs.{declared.stage.Stage.TheVariants.{Vacant, Building, Live, Dead}, Allowed.{Allows, IsDue}}
+use Rattle.npf_core.specs.{History.{LegalFrom, state_from, frees, is_free}, Machine.{Machine, stage_of, IsAlive, IsClaimed, HoldsSome, HoldsNone}}
+use Rattle.npf_core.specs.{Meaning.Meaning, NextState.{after_act, is_id, is_way, is_found, given_up}, Replies.reply_of}
+use Rattle.npf_core.proofs.{EqualityLemmas.{is_found-Decides, is_id-Decides}, HistoryLemmas.{state_from-append, LegalFrom-append}}
 use Rattle.npf_connections.specs.Ways.{all_ways, HoldsThese}
-use Rattle.npf_oneturn_store.specs.declared.store.Store.{Store}
-use Rattle.npf_oneturn_store.specs.Represents.{Represents}
-use Rattle.npf_oneturn.proofs.StayLemmas.{claimed_next, built_next, dead_move, none_next}
+use Rattle.npf_oneturn_store.specs.{declared.store.Store.Store, Represents.Represents}
+use Rattle.npf_oneturn.{proofs.StayLemmas.{claimed_next, built_next, dead_move, none_next}, specs.Endings.{entries_from, end_acts}}
 use Rattle.npf_core.proofs.LifeLemmas.{stage_of-is, moves}
-use Rattle.npf_oneturn.specs.Endings.{entries_from, end_acts}
-use Rattle.npf_oneturn.specs.Working.{worked, Works, unhold_if, GivesUp, EndsConnection}
+use Rattle.npf_oneturn.specs.Work.{worked, Works, unhold_if, GivesUp, EndsConnection}
 
 module _ {S A R : Type 0} (m : Meaning S A R) (seat : ℕ) where
   pub entries-append : (k : Machine S) (xs ys : List (Act S A)) → entries_from m k seat (xs ++ ys) ≡ entries_from m k seat xs ++ entries_from m (worked m k seat xs) seat ys
@@ -79,7 +63,8 @@ module _ {S A R : Type 0} (m : Meaning S A R) (slots : ℕ) (seat : ℕ) where
     }
 
     -- another way is left alone
-    given_up_other : (other : Way) → other ≢ way → (x : Option Found) → (given_up x (record { id = id; way = way }) ≡ Some (record { id = id; way = other })) → x ≡ Some (record { id = id; way = other })
+    given_up_other : (other : Way) → other ≢ way → (x : Option Found) →
+        (given_up x (record { id = id; way = way }) ≡ Some (record { id = id; way = other })) → x ≡ Some (record { id = id; way = other })
     given_up_other other ne None e = absurd cc
     given_up_other other ne (Some found) e = by_test (is_found found (record { id = id; way = way })) e
       where
@@ -163,7 +148,8 @@ module _ {S A R : Type 0} (m : Meaning S A R) (slots : ℕ) (seat : ℕ) (k : Ma
       let k3 = worked m k2 seat (unhold_if b id Backward) in
       let rest = works_more m slots seat k1 s2 s4 (unhold_if f id Forward) (unhold_if b id Backward ++ unhold_if p id Port) g1.works
       (works_more m slots seat k2 s3 s4 (unhold_if b id Backward) (unhold_if p id Port) g2.works g3.works) in
-      let all = works_more m slots seat k s1 s4 (Kill id why ∷ []) (unhold_if f id Forward ++ (unhold_if b id Backward ++ unhold_if p id Port)) (works_one m slots seat k s1 (Kill id why) allowed r) rest in
+      let all = works_more m slots seat k s1 s4 (Kill id why ∷ []) (unhold_if f id Forward ++
+      (unhold_if b id Backward ++ unhold_if p id Port)) (works_one m slots seat k s1 (Kill id why) allowed r) rest in
       record {
         held = by_way f b p;
         holds = holds;
@@ -215,31 +201,36 @@ end_kill id other act ne (unholds way e) why f = absurd cc
 
 module _ {S A R : Type 0} (m : Meaning S A R) (slots : ℕ) (seat : ℕ) (id other : ConnId) where
   -- what ends one connection leaves the keys and the phases of others
-  pub none_on : (acts : List (Act S A)) → AllEnd id acts → (k : Machine S) → LegalFrom m slots k (entries_from m k seat acts) → (way : Way) → HoldsNone k other way → HoldsNone (worked m k seat acts) other way
+  pub none_on : (acts : List (Act S A)) → AllEnd id acts → (k : Machine S) → LegalFrom m slots k (entries_from m k seat acts) →
+      (way : Way) → HoldsNone k other way → HoldsNone (worked m k seat acts) other way
   none_on [] all k legal way h = h
   none_on (act ∷ acts) all k legal way h =
       none_on acts all.1 (after_act m k seat act) legal.1 way
       (none_next m slots k seat act legal.0.allowed other way (λ found key e. absurd (end_hold id act all.0 found key e)) h)
 
-  pub claimed_on : (acts : List (Act S A)) → AllEnd id acts → (k : Machine S) → LegalFrom m slots k (entries_from m k seat acts) → IsClaimed (stage_of k other) → IsClaimed (stage_of (worked m k seat acts) other)
+  pub claimed_on : (acts : List (Act S A)) → AllEnd id acts → (k : Machine S) → LegalFrom m slots k (entries_from m k seat acts) →
+      IsClaimed (stage_of k other) → IsClaimed (stage_of (worked m k seat acts) other)
   claimed_on [] all k legal h = h
   claimed_on (act ∷ acts) all k legal h =
       claimed_on acts all.1 (after_act m k seat act) legal.1 (claimed_next m slots k seat act legal.0.allowed other (end_free id other act all.0) h)
 
   module _ (ne : other ≢ id) where
-    pub built_on : (acts : List (Act S A)) → AllEnd id acts → (k : Machine S) → LegalFrom m slots k (entries_from m k seat acts) → stage_of k other ≡ Building seat → stage_of (worked m k seat acts) other ≡ Building seat
+    pub built_on : (acts : List (Act S A)) → AllEnd id acts → (k : Machine S) → LegalFrom m slots k (entries_from m k seat acts) →
+        stage_of k other ≡ Building seat → stage_of (worked m k seat acts) other ≡ Building seat
     built_on [] all k legal h = h
     built_on (act ∷ acts) all k legal h =
         built_on acts all.1 (after_act m k seat act) legal.1 (built_next m slots k seat act legal.0.allowed other (end_start id other act all.0) (end_kill id other act ne all.0) h)
 
-    pub dead_back : (acts : List (Act S A)) → AllEnd id acts → (k : Machine S) → LegalFrom m slots k (entries_from m k seat acts) → stage_of (worked m k seat acts) other ≡ Dead → stage_of k other ≡ Dead
+    pub dead_back : (acts : List (Act S A)) → AllEnd id acts → (k : Machine S) → LegalFrom m slots k (entries_from m k seat acts) →
+        stage_of (worked m k seat acts) other ≡ Dead → stage_of k other ≡ Dead
     dead_back [] all k legal h = h
     dead_back (act ∷ acts) all k legal h =
         let later = dead_back acts all.1 (after_act m k seat act) legal.1 h in
-        rw stage_of-is (dead_move m slots k seat act legal.0.allowed other _ _ (moves m slots k seat other act legal.0.allowed) (end_kill id other act ne all.0) (sym (stage_of-is (after_act m k seat act) other) ∙ later))
+        rw stage_of-is (dead_move m slots k seat act legal.0.allowed other _ _ (moves m slots k seat other act legal.0.allowed)
+        (end_kill id other act ne all.0) (sym (stage_of-is (after_act m k seat act) other) ∙ later))
 
 frees_not : {S A : Type 0} (other : ConnId) (act : Act S A) → ¬ (act ≡ Free other) → is_free other act ≡ false
-frees_not other (Free i) free = is_false (is_id i other) (λ e. free (ap (λ j. Free j) ((is_id-Decides i other).0 e)))
+frees_not other (Free i) free = false_from_ne_true (is_id i other) (λ e. free (ap (λ j. Free j) ((is_id-Decides i other).0 e)))
 frees_not other (Claim n slot) free = refl
 frees_not other (Look n key) free = refl
 frees_not other (Hold id key way) free = refl

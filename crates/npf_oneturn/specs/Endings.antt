@@ -23,8 +23,8 @@ use Rattle.npf_connections.specs.Ways.{all_ways, HoldsThese}
 use Rattle.npf_oneturn_store.specs.Represents.{Represents}
 use Rattle.npf_oneturn.specs.declared.contents.Contents.{Contents}
 use Rattle.npf_oneturn.specs.declared.view.View.{View}
-use Rattle.npf_oneturn.specs.declared.rule.Ending.{Ending}
-use Rattle.npf_oneturn.specs.declared.rule.Ending.TheVariants.{Enters, Leaves, Nothing, Asks, Abandons, Expires, Collects}
+use Rattle.npf_oneturn.specs.declared.rule.CallEnding.{CallEnding}
+use Rattle.npf_oneturn.specs.declared.rule.CallEnding.TheVariants.{Enters, Leaves, Nothing, Asks, Abandons, Expires, Collects}
 use Rattle.npf_oneturn.specs.Rule.{DeadHoldNone}
 use Rattle.npf_oneturn.specs.Views.{one_if, Stays, IsTidy}
 
@@ -125,7 +125,7 @@ pub record CollectsBy {S A R : Type 0} (m : Meaning S A R) (v : View S A R) (p :
   pub clean : v.crowd ≡ 0 → (id : ConnId) → stage_of (state_from m (state_of m v.seats.history) (planned_entries m p v)) id ≡ Dead → 2 ^ 64 - 1 ≤ id.inc
 
 -- which plans end a call so
-abbrev pub EndsBy : {S A R : Type 0} → Meaning S A R → Ending S A → View S A R → Plan S A → Type 0
+abbrev pub EndsBy : {S A R : Type 0} → Meaning S A R → CallEnding S A → View S A R → Plan S A → Type 0
 EndsBy m Enters v p = p ≡ record { acts = []; entered = true; answered = v.answered; builds = v.builds }
 EndsBy m Leaves v p = p ≡ record { acts = []; entered = false; answered = []; builds = v.builds }
 EndsBy m Nothing v p = p ≡ record { acts = []; entered = v.entered; answered = v.answered; builds = v.builds }
@@ -146,7 +146,7 @@ pub record MayEnd {S A R : Type 0} (m : Meaning S A R) (p : Plan S A) (v : View 
   pub frees : ((id : ConnId) → frees id (planned_entries m p v) ≡ []) ⊎ (v.crowd ≡ 0)
 
 -- it has the turn, and may end it so
-pub record MayEndTurn {S A R : Type 0} (m : Meaning S A R) (ending : Ending S A) (me : Me (Contents S) (View S A R)) : Type 0 where
+pub record MayEndTurn {S A R : Type 0} (m : Meaning S A R) (ending : CallEnding S A) (me : Me (Contents S) (View S A R)) : Type 0 where
   pub contents : Contents S
   pub has : me.1 ≡ (0, contents) ∷ []
   pub turn : me.0.turn ≡ true
@@ -155,11 +155,11 @@ pub record MayEndTurn {S A R : Type 0} (m : Meaning S A R) (ending : Ending S A)
   pub may : MayEnd m plan me.0 contents
 
 -- it ended so
-pub record HasEnded {S A R : Type 0} (m : Meaning S A R) (ending : Ending S A) (me next : Me (Contents S) (View S A R)) : Type 0 where
+pub record HasEnded {S A R : Type 0} (m : Meaning S A R) (ending : CallEnding S A) (me next : Me (Contents S) (View S A R)) : Type 0 where
   pub plan : Plan S A
   pub by_plan : EndsBy m ending me.0 plan
   pub may : (contents : Contents S) × MayEnd m plan me.0 contents
   pub is : next ≡ (ended m plan me.0, rest me.1)
 
-abbrev pub Ends : {S A R : Type 0} → Meaning S A R → Ending S A → Step (Contents S) → Me (Contents S) (View S A R) → ℕ → Me (Contents S) (View S A R) → Type 0
+abbrev pub Ends : {S A R : Type 0} → Meaning S A R → CallEnding S A → Step (Contents S) → Me (Contents S) (View S A R) → ℕ → Me (Contents S) (View S A R) → Type 0
 Ends m ending step me found next = HasEnded m ending me next

@@ -1,6 +1,6 @@
 pub mod Views
-pub mod Working
-pub mod Passing
+pub mod Work
+pub mod Moves
 pub mod Rule
 pub mod Endings
 pub mod Seats

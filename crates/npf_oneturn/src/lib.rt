@@ -12,14 +12,14 @@
 
 mod contents;
 pub mod laws;
+mod moves;
 mod one_turn;
-mod passing;
 mod rule;
 mod turn;
 mod view;
-mod working;
+mod work;
 
 pub use contents::Contents;
 pub use one_turn::{OneTurn, OneTurnPass};
-pub use rule::{Ending, OneTurnRule};
+pub use rule::{CallEnding, OneTurnRule};
 pub use view::View;

@@ -1,11 +1,12 @@
+// The table under one turn, as the calls that any table has.
 ghost use Rattle.std.specs.Prelude.{◌≡◌};
 
 use crate::contents::Contents;
-use crate::passing::{Cut, GetsNumber, Learns, Merge};
-use crate::rule::{Ending, OneTurnRule};
+use crate::moves::{Cut, GetsNumber, Learns, Merge};
+use crate::rule::{CallEnding, OneTurnRule};
 use crate::turn::{FREE, end, take};
 use crate::view::View;
-use crate::working::{collect_contents, end_connection, expire_all};
+use crate::work::{collect_contents, end_connection, expire_all};
 use atomic_table::{Refused, Seat, Table};
 use npf_connections::Connections;
 use npf_core::{Act, ConnId, Found, Held, Kept, Law, Stepped};
@@ -76,13 +77,13 @@ where
     fn enter(&self, rt: &impl Wait, pass: &mut OneTurnPass<L>) {
         take::<L>(rt, &self.table.shared, &mut pass.seat);
         pass.seat.slot_mut(&self.table.shared, 0).entered += 1;
-        end::<L>(&self.table.shared, &mut pass.seat, Ending::Enters);
+        end::<L>(&self.table.shared, &mut pass.seat, CallEnding::Enters);
     }
 
     fn leave(&self, rt: &impl Wait, pass: &mut OneTurnPass<L>) {
         take::<L>(rt, &self.table.shared, &mut pass.seat);
         pass.seat.slot_mut(&self.table.shared, 0).entered -= 1;
-        end::<L>(&self.table.shared, &mut pass.seat, Ending::Leaves);
+        end::<L>(&self.table.shared, &mut pass.seat, CallEnding::Leaves);
     }
 
     // Inlined with what it asks of the store, and so is a step: each packet looks twice, and what is answered isn't copied from call to call.
@@ -93,7 +94,7 @@ where
         end::<L>(
             &self.table.shared,
             &mut pass.seat,
-            Ending::Asks(Act::Look { packet: n, key }),
+            CallEnding::Asks(Act::Look { packet: n, key }),
         );
         found
     }
@@ -118,7 +119,7 @@ where
         end::<L>(
             &self.table.shared,
             &mut pass.seat,
-            Ending::Asks(Act::Step {
+            CallEnding::Asks(Act::Step {
                 packet: n,
                 id,
                 way,
@@ -131,13 +132,13 @@ where
     fn begin(&self, rt: &impl Wait, pass: &mut OneTurnPass<L>, n: u64) -> Option<ConnId> {
         take::<L>(rt, &self.table.shared, &mut pass.seat);
         let Some(id) = pass.seat.slot_mut(&self.table.shared, 0).store.claim() else {
-            end::<L>(&self.table.shared, &mut pass.seat, Ending::Nothing);
+            end::<L>(&self.table.shared, &mut pass.seat, CallEnding::Nothing);
             return None;
         };
         end::<L>(
             &self.table.shared,
             &mut pass.seat,
-            Ending::Asks(Act::Claim {
+            CallEnding::Asks(Act::Claim {
                 packet: n,
                 slot: id.slot,
             }),
@@ -162,7 +163,7 @@ where
         end::<L>(
             &self.table.shared,
             &mut pass.seat,
-            Ending::Asks(Act::Hold { id, key, way }),
+            CallEnding::Asks(Act::Hold { id, key, way }),
         );
         held
     }
@@ -176,7 +177,7 @@ where
         end::<L>(
             &self.table.shared,
             &mut pass.seat,
-            Ending::Asks(Act::Start {
+            CallEnding::Asks(Act::Start {
                 id,
                 packet: n,
                 init,
@@ -187,7 +188,7 @@ where
     fn abandon(&self, rt: &impl Wait, pass: &mut OneTurnPass<L>, id: ConnId) {
         take::<L>(rt, &self.table.shared, &mut pass.seat);
         end_connection::<L>(&mut pass.seat.slot_mut(&self.table.shared, 0).store, id);
-        end::<L>(&self.table.shared, &mut pass.seat, Ending::Abandons(id));
+        end::<L>(&self.table.shared, &mut pass.seat, CallEnding::Abandons(id));
     }
 
     fn expire(&self, rt: &impl Wait, pass: &mut OneTurnPass<L>, now: u64) -> u64 {
@@ -196,7 +197,7 @@ where
         end::<L>(
             &self.table.shared,
             &mut pass.seat,
-            Ending::Expires { now, count },
+            CallEnding::Expires { now, count },
         );
         count
     }
@@ -204,7 +205,7 @@ where
     fn collect(&self, rt: &impl Wait, pass: &mut OneTurnPass<L>) {
         take::<L>(rt, &self.table.shared, &mut pass.seat);
         collect_contents::<L>(pass.seat.slot_mut(&self.table.shared, 0));
-        end::<L>(&self.table.shared, &mut pass.seat, Ending::Collects);
+        end::<L>(&self.table.shared, &mut pass.seat, CallEnding::Collects);
     }
 
     fn copy_slot(
@@ -215,7 +216,7 @@ where
     ) -> Option<Kept<L::State>> {
         take::<L>(rt, &self.table.shared, &mut pass.seat);
         let kept = pass.seat.slot_mut(&self.table.shared, 0).store.kept(slot);
-        end::<L>(&self.table.shared, &mut pass.seat, Ending::Nothing);
+        end::<L>(&self.table.shared, &mut pass.seat, CallEnding::Nothing);
         kept
     }
 

@@ -1,10 +1,11 @@
+// The rule of the table, and how a call ends.
 use crate::contents::Contents;
 use crate::view::View;
 use atomic_table::{Play, TableRule};
 use npf_core::{Act, ConnId, Law};
 use std::marker::{Brand, PhantomData};
 
-pub(crate) type Sight<L: Law> = View<L::State, L::Arg, L::Reply>;
+pub(crate) type CallView<L: Law> = View<L::State, L::Arg, L::Reply>;
 
 /// The rule of the table.
 pub struct OneTurnRule<L: Law> {
@@ -33,7 +34,7 @@ impl<L: Law> Play<Contents<L::State>, View<L::State, L::Arg, L::Reply>> for Take
 
 /// How a call ends.
 #[derive(Clone, Copy)]
-pub enum Ending<S, A> {
+pub enum CallEnding<S, A> {
     /// The pass is in a stay.
     Enters,
     /// It is in none.

@@ -1,10 +1,11 @@
+// The turn of the table is taken and given back.
 ghost use Rattle.std.specs.Prelude.{◌≡◌};
 ghost use Rattle.npf_oneturn.specs.Endings.{MayEndTurn, HasEnded, Ends};
 ghost use Rattle.npf_oneturn.specs.Seats.{IsSeatOf};
 ghost use Rattle.npf_oneturn.specs.Taking.{IsResting, Taken};
 
 use crate::contents::Contents;
-use crate::rule::{Ending, OneTurnRule, Takes};
+use crate::rule::{CallEnding, OneTurnRule, Takes};
 use crate::view::View;
 use atomic_table::{Play, Seat, Shared};
 use npf_core::Law;
@@ -12,21 +13,21 @@ use std::marker::{Brand, PhantomData};
 use std::sync::Wait;
 use std::thread::yield_now;
 
-pub(crate) type Words<L: Law> = Shared<
+pub(crate) type TableWords<L: Law> = Shared<
     Contents<L::State>,
     View<L::State, L::Arg, L::Reply>,
     u32,
     OneTurnRule<L>,
 >;
 
-pub(crate) type Place<L: Law> = Seat<Contents<L::State>, View<L::State, L::Arg, L::Reply>>;
+pub(crate) type TableSeat<L: Law> = Seat<Contents<L::State>, View<L::State, L::Arg, L::Reply>>;
 
 pub(crate) const FREE: u64 = 0;
 
 const TAKEN: u64 = 1;
 
 /// Takes the turn, once it is free. After each refused try another thread may run.
-pub(crate) fn take<L: Law>(rt: &impl Wait, table: &Words<L>, seat: &mut Place<L>)
+pub(crate) fn take<L: Law>(rt: &impl Wait, table: &TableWords<L>, seat: &mut TableSeat<L>)
     requires of { IsSeatOf table.now.table_id seat.old.table_id }
     requires rests { IsResting seat.old.me }
     ensures of { IsSeatOf table.now.table_id seat.new.table_id }
@@ -42,14 +43,14 @@ pub(crate) fn take<L: Law>(rt: &impl Wait, table: &Words<L>, seat: &mut Place<L>
 }
 
 /// What the end of a call is told.
-trait Aim<S, A> {
-    ghost use Rattle.npf_oneturn.specs.declared.rule.Ending.{Ending};
+trait CallEnd<S, A> {
+    ghost use Rattle.npf_oneturn.specs.declared.rule.CallEnding.{CallEnding};
 
-    ghost ending: { Ending S A };
+    ghost ending: { CallEnding S A };
 }
 
-impl<S, A> Aim<S, A> for Brand {
-    ghost use Rattle.npf_oneturn.specs.declared.rule.Ending.TheVariants.{Nothing};
+impl<S, A> CallEnd<S, A> for Brand {
+    ghost use Rattle.npf_oneturn.specs.declared.rule.CallEnding.TheVariants.{Nothing};
 
     ghost ending = { Nothing };
 }
@@ -59,15 +60,17 @@ struct EndsAs<L: Law, W> {
     aim: PhantomData<W>,
 }
 
-impl<L: Law, W: Aim<L::State, L::Arg>> Play<Contents<L::State>, View<L::State, L::Arg, L::Reply>>
-    for EndsAs<L, W> {
+impl<L: Law, W: CallEnd<L::State, L::Arg>> Play<
+    Contents<L::State>,
+    View<L::State, L::Arg, L::Reply>,
+> for EndsAs<L, W> {
     ghost then = { Ends L.meaning W.ending };
 }
 
-fn end_as<L: Law, W: Aim<L::State, L::Arg>>(
-    table: &Words<L>,
-    seat: &mut Place<L>,
-    ending: Ending<L::State, L::Arg>,
+fn end_as<L: Law, W: CallEnd<L::State, L::Arg>>(
+    table: &TableWords<L>,
+    seat: &mut TableSeat<L>,
+    ending: CallEnding<L::State, L::Arg>,
 )
     requires of { IsSeatOf table.now.table_id seat.old.table_id }
     requires aim { W.ending ≡ ending }
@@ -80,7 +83,11 @@ fn end_as<L: Law, W: Aim<L::State, L::Arg>>(
 }
 
 /// Ends the turn: the call's acts are done, and its entries stand.
-pub(crate) fn end<L: Law>(table: &Words<L>, seat: &mut Place<L>, ending: Ending<L::State, L::Arg>)
+pub(crate) fn end<L: Law>(
+    table: &TableWords<L>,
+    seat: &mut TableSeat<L>,
+    ending: CallEnding<L::State, L::Arg>,
+)
     requires of { IsSeatOf table.now.table_id seat.old.table_id }
     requires may { MayEndTurn L.meaning ending seat.old.me }
     ensures of { IsSeatOf table.now.table_id seat.new.table_id }

@@ -1,3 +1,4 @@
+// What a pass knows.
 use npf_core::{ConnId, Entry};
 use npf_seats::SeatSide;
 use std::collections::LinkedList;

@@ -1,15 +1,10 @@
 -- Connections by the numbers of their slots, as one of them changes.
 use Rattle.std.proofs.Common.{◌≡◌, ◌≢◌, ℕ, zero, suc, [], ◌∷◌, ◌++◌, get_or, ◌+◌, ◌-◌, ◌^◌, ◌<◌, ◌≤◌, ◌==◌, Bool, true, false, cond, List, length, set, arith, refl, sym, ap, subst, ◌∙◌, ⊎_elim}
-use Rattle.std.proofs.lemmas.Bool.{cases_eq, cases_lt}
-use Rattle.std.proofs.lemmas.Bool.Decides.{Decides-eqb}
-use Rattle.std.proofs.lemmas.List.{get_or-set_same, get_or-set_other}
+use Rattle.std.proofs.lemmas.{Bool.{cases_eq, cases_lt, Decides.Decides-eqb}, List.{get_or-set_same, get_or-set_other}}
 use Rattle.std.proofs.lemmas.Option.{slice_get_past, slice_get_read, unwrap_or-slice_get}
 use Rattle.npf_core.specs.declared.conn_id.ConnId.{ConnId}
-use Rattle.npf_oneturn_store.specs.declared.connection.Connection.{Connection}
-use Rattle.npf_oneturn_store.specs.declared.phase.Phase.{Phase}
-use Rattle.npf_oneturn_store.specs.declared.phase.Phase.TheVariants.{Vacant, Live, Dead}
-use Rattle.npf_oneturn_store.specs.Connection.{connection_in, phase_at, phase_among, AreFit}
-use Rattle.npf_oneturn_store.specs.Store.{IsLivePhase}
+use Rattle.npf_oneturn_store.specs.declared.{connection.Connection.Connection, phase.SlotPhase.{SlotPhase, TheVariants.{Vacant, Live, Dead}}}
+use Rattle.npf_oneturn_store.specs.{Connection.{connection_in, phase_at, phase_among, AreFit}, Store.IsLivePhase}
 
 abbrev never : {S : Type 0} → Connection S
 never = record { inc = 0; phase = Vacant }
@@ -66,7 +61,7 @@ module _ {S : Type 0} (xs : List (Connection S)) where
 
   -- a Dead one is claimed
   pub dead_claimed : (id : ConnId) → phase_among xs id ≡ Dead → phase_among xs id ≢ Vacant
-  dead_claimed id dead vacant = let e : ◌≡◌ {A = Phase S} Dead Vacant = sym dead ∙ vacant in absurd cc
+  dead_claimed id dead vacant = let e : ◌≡◌ {A = SlotPhase S} Dead Vacant = sym dead ∙ vacant in absurd cc
 
   -- a Live one is claimed, and its phase is its slot's
   pub live_claimed : (id : ConnId) → IsLivePhase (phase_among xs id) → phase_among xs id ≢ Vacant
@@ -81,9 +76,9 @@ module _ {S : Type 0} (xs : List (Connection S)) where
 
   -- what is Live is claimed
   pub live_stays : (x : Connection S) (flow : S) (steps : ℕ) → x.phase ≡ Live flow steps → x.phase ≢ Vacant
-  live_stays x flow steps is vacant = let e : ◌≡◌ {A = Phase S} (Live flow steps) Vacant = sym is ∙ vacant in absurd cc
+  live_stays x flow steps is vacant = let e : ◌≡◌ {A = SlotPhase S} (Live flow steps) Vacant = sym is ∙ vacant in absurd cc
 
-  pub given_inc : (x : Connection S) (phase : Phase S) (inc other : ℕ) → x ≡ record { inc = inc; phase = phase } → inc ≡ other → x ≡ record { inc = other; phase = phase }
+  pub given_inc : (x : Connection S) (phase : SlotPhase S) (inc other : ℕ) → x ≡ record { inc = inc; phase = phase } → inc ≡ other → x ≡ record { inc = other; phase = phase }
   given_inc x phase inc other is same = is ∙ λ i. record { inc = same i; phase = phase }
 
   -- two claimed identities of one slot are one

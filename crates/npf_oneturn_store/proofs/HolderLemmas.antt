@@ -2,10 +2,8 @@
 use Rattle.std.proofs.Common.{◌≡◌, ◌≢◌, ℕ, zero, suc, ◌<◌, Bool, true, false, cond, List, [], ◌∷◌, length, set, Option, Some, None, refl, ap, sym, ◌∙◌, arith}
 use Rattle.std.proofs.lemmas.List.{get_or-set_other}
 use Rattle.npf_types.specs.declared.key.Key.{Key}
-use Rattle.npf_core.specs.declared.found.Found.{Found}
-use Rattle.npf_core.specs.declared.holding.Holding.{Holding}
-use Rattle.npf_core.specs.Machine.{is_key}
-use Rattle.npf_core.proofs.EqualityLemmas.{is_key-Decides}
+use Rattle.npf_shelf.proofs.OptionLemmas.{Some-injective}
+use Rattle.npf_core.{specs.{declared.{found.Found.Found, hold.Holding.Holding}, Machine.is_key}, proofs.EqualityLemmas.is_key-Decides}
 use Rattle.npf_oneturn_store.specs.Places.{standing, found_in, found_at, first_found, holder_among}
 
 -- what stands there with the key, and is found
@@ -15,15 +13,12 @@ pub record Stands (x : Option Holding) (key : Key) (found : Found) : Type 0 wher
   pub keyed : holding.key ≡ key
   pub held : holding.found ≡ found
 
-some_found : (a b : Found) → Some a ≡ Some b → a ≡ b
-some_found a b e = cc
-
 pub stands : (x : Option Holding) (key : Key) (found : Found) → found_in key x ≡ Some found → Stands x key found
 stands None key found e = absurd cc
 stands (Some holding) key found e = by_key (is_key holding.key key) refl e
   where
     by_key : (same : Bool) → is_key holding.key key ≡ same → cond same (Some holding.found) None ≡ Some found → Stands (Some holding) key found
-    by_key true same f = record { holding = holding; is = refl; keyed = (is_key-Decides holding.key key).0 same; held = some_found _ _ f }
+    by_key true same f = record { holding = holding; is = refl; keyed = (is_key-Decides holding.key key).0 same; held = Some-injective _ _ f }
     by_key false same f = absurd cc
 
 pub found_there : (holding : Holding) (key : Key) → holding.key ≡ key → found_in key (Some holding) ≡ Some holding.found
@@ -73,13 +68,15 @@ no_holder [] key none = refl
 no_holder (x ∷ xs) key none = rw (none 0 (omega arith)) (no_holder xs key (λ place within. none (suc place) (omega (arith, within))))
 
 -- a place has another key or none than before: a key that is neither has the same holder
-pub holder_kept : (xs : List (Option Holding)) (place : ℕ) (y : Option Holding) (key : Key) → found_in key y ≡ None → found_at xs key place ≡ None → holder_among (set xs place y) key ≡ holder_among xs key
+pub holder_kept : (xs : List (Option Holding)) (place : ℕ) (y : Option Holding) (key : Key) → found_in key y ≡ None →
+    found_at xs key place ≡ None → holder_among (set xs place y) key ≡ holder_among xs key
 holder_kept [] place y key new old = refl
 holder_kept (x ∷ xs) zero y key new old = ap (λ head. first_found head (holder_among xs key)) (new ∙ sym old)
 holder_kept (x ∷ xs) (suc place) y key new old = ap (λ rest. first_found (found_in key x) rest) (holder_kept xs place y key new old)
 
 -- a key without a holder is put at a place
-pub holder_put : (xs : List (Option Holding)) (place : ℕ) (y : Option Holding) (key : Key) (found : Found) → place < length xs → holder_among xs key ≡ None → found_in key y ≡ Some found → holder_among (set xs place y) key ≡ Some found
+pub holder_put : (xs : List (Option Holding)) (place : ℕ) (y : Option Holding) (key : Key) (found : Found) → place < length xs →
+    holder_among xs key ≡ None → found_in key y ≡ Some found → holder_among (set xs place y) key ≡ Some found
 holder_put [] place y key found within none new = absurd (omega (arith, within))
 holder_put (x ∷ xs) zero y key found within none new = ap (λ head. first_found head (holder_among xs key)) new
 holder_put (x ∷ xs) (suc place) y key found within none new = by_head (found_in key x) refl none (λ f. holder_put xs place y key found (omega (arith, within)) f new)

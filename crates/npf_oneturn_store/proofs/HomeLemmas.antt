@@ -1,15 +1,10 @@
 -- Where a holder's key stands, and what a look at places tells.
 use Rattle.std.proofs.Common.{◌≡◌, ◌≢◌, ℕ, ◌+◌, ◌*◌, ◌<◌, Bool, true, false, List, length, get_or, set, Option, Some, None, refl, ap, sym, ◌∙◌, ⊎_elim}
-use Rattle.std.proofs.lemmas.Bool.{cases_eq}
-use Rattle.std.proofs.lemmas.List.{get_or-set_same}
+use Rattle.std.proofs.lemmas.{Bool.cases_eq, List.get_or-set_same}
 use Rattle.npf_types.specs.declared.key.Key.{Key}
-use Rattle.npf_core.specs.declared.found.Found.{Found}
-use Rattle.npf_core.specs.declared.holding.Holding.{Holding}
-use Rattle.npf_core.specs.Machine.{is_key}
-use Rattle.npf_core.proofs.EqualityLemmas.{is_key-Decides, is_found-Decides}
+use Rattle.npf_core.{specs.{declared.{found.Found.Found, hold.Holding.Holding}, Machine.is_key}, proofs.EqualityLemmas.{is_key-Decides, is_found-Decides}}
 use Rattle.npf_core.specs.NextState.{given_up, is_found}
-use Rattle.npf_oneturn_store.specs.Hash.{bucket_of}
-use Rattle.npf_oneturn_store.specs.Places.{standing, found_in, found_at, holder_among, key_place, AreKept}
+use Rattle.npf_oneturn_store.specs.{Hash.bucket_of, Places.{standing, found_in, found_at, holder_among, key_place, AreKept}}
 use Rattle.npf_oneturn_store.proofs.HolderLemmas.{Stands, stands, found_there, found_elsewhere, holder_at, holder_nowhere, no_holder, holder_kept, still_there}
 use Rattle.npf_oneturn_store.proofs.GivenUpLemmas.{not_given_up}
 

@@ -1,13 +1,10 @@
 -- What stays so as places, cells and flags change.
 use Rattle.std.proofs.Common.{◌≡◌, ◌≢◌, ℕ, zero, suc, ◌+◌, ◌-◌, ◌*◌, ◌<◌, ◌≤◌, Bool, true, false, List, [], ◌∷◌, ◌++◌, length, get_or, set, Option, Some, None, refl, ap, sym, ◌∙◌, arith, ⊎_elim}
-use Rattle.std.proofs.lemmas.Bool.{cases_eq}
-use Rattle.std.proofs.lemmas.List.{get_or-set_same, get_or-set_other}
+use Rattle.std.proofs.lemmas.{Bool.cases_eq, List.{get_or-set_same, get_or-set_other}}
 use Rattle.npf_types.specs.declared.key.Key.{Key}
-use Rattle.npf_core.specs.declared.holding.Holding.{Holding}
-use Rattle.npf_oneturn_store.specs.Hash.{bucket_of}
-use Rattle.npf_oneturn_store.specs.Places.{standing, found_in, first_found, holder_among, key_place, IsStale, IsUnnamed, AreKept}
-use Rattle.npf_oneturn_store.proofs.HolderLemmas.{still_there}
-use Rattle.npf_oneturn_store.proofs.HomeLemmas.{some_holding, holder_here}
+use Rattle.npf_core.specs.declared.hold.Holding.{Holding}
+use Rattle.npf_oneturn_store.specs.{Hash.bucket_of, Places.{standing, found_in, first_found, holder_among, key_place, IsStale, IsUnnamed, AreKept}}
+use Rattle.npf_oneturn_store.proofs.{HolderLemmas.still_there, HomeLemmas.{some_holding, holder_here}}
 
 -- a place more, at which nothing stands
 pub standing_added : (xs : List (Option Holding)) (place : ℕ) → standing (xs ++ None ∷ []) place ≡ standing xs place

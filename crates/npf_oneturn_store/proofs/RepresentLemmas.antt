@@ -1,17 +1,10 @@
 -- A store that represents a state of the machine is answered as the machine is, and represents the state that the act leaves.
 use Rattle.std.proofs.Common.{◌≡◌, ◌∙◌, ℕ, Option, Some, None, refl, sym, ap, rules}
-use Rattle.npf_types.specs.declared.key.Key.{Key}
-use Rattle.npf_types.specs.declared.key.Way.{Way}
-use Rattle.npf_core.specs.declared.conn_id.ConnId.{ConnId}
-use Rattle.npf_core.specs.declared.stage.Stage.{Stage}
-use Rattle.npf_core.specs.Copying.{HoldsIf}
-use Rattle.npf_core.specs.Machine.{Machine, IsLive}
-use Rattle.npf_core.specs.Meaning.{Meaning}
-use Rattle.npf_oneturn_store.specs.declared.phase.Phase.{Phase}
-use Rattle.npf_oneturn_store.specs.declared.store.Store.{Store}
-use Rattle.npf_oneturn_store.specs.Represents.{Represents, phase_in}
-use Rattle.npf_oneturn_store.specs.Store.{IsLivePhase, TellsKey}
-use Rattle.npf_oneturn_store.specs.RepresentLaw.{NewIsOpening, StaysSame, ShowsPhases, ShowsBuilding, ShowsAlive, LookIsAct, ClaimIsAct, FullIsClaimed, HoldIsAct, StartIsAct, StepIsAct, KillIsAct, UnholdIsAct, FreeIsAct, ShowsBare, ShowsKeys, ShowsKept, ShowsDead, ShowsDue}
+use Rattle.npf_types.specs.declared.key.{Key.Key, Way.Way}
+use Rattle.npf_core.specs.{declared.{conn_id.ConnId.ConnId, stage.Stage.Stage}, Copying.HoldsIf, Machine.{Machine, IsLive}, Meaning.Meaning}
+use Rattle.npf_oneturn_store.specs.{declared.{phase.SlotPhase.SlotPhase, store.Store.Store}, Represents.{Represents, phase_in}, Store.{IsLivePhase, TellsKey}}
+use Rattle.npf_oneturn_store.specs.RepresentLaw.{NewIsOpening, StaysSame, ShowsPhases, ShowsBuilding, ShowsAlive, LookIsAct, ClaimIsAct, FullIsClaimed, HoldIsAct, StartIsAct}
+use Rattle.npf_oneturn_store.specs.RepresentLaw.{StepIsAct, KillIsAct, UnholdIsAct, FreeIsAct, ShowsBare, ShowsKeys, ShowsKept, ShowsDead, ShowsDue}
 
 module _ (S : Type 0) where
   pub new_is_opening : NewIsOpening S
@@ -48,7 +41,7 @@ module _ (S : Type 0) where
   live_phase (Stage.Live flow steps) live = tt
   live_phase Stage.Dead live = live
 
-  live_stage : (stage : Stage S) (flow : S) (steps : ℕ) → phase_in stage ≡ Phase.Live flow steps → stage ≡ Stage.Live flow steps
+  live_stage : (stage : Stage S) (flow : S) (steps : ℕ) → phase_in stage ≡ SlotPhase.Live flow steps → stage ≡ Stage.Live flow steps
   live_stage Stage.Vacant flow steps is = absurd cc
   live_stage (Stage.Building seat) flow steps is = absurd cc
   live_stage (Stage.Live now count) flow steps is = cc

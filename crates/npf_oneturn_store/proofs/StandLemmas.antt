@@ -1,17 +1,10 @@
 -- The holders of keys stay claimed, as connections and keys change.
-use Rattle.std.proofs.Common.{◌≡◌, ◌≢◌, ℕ, ◌<◌, Bool, List, set, Option, Some, None, arith, refl, sym, ap, ◌∙◌, ⊎_elim}
-use Rattle.std.proofs.lemmas.Bool.{cases_eq}
-use Rattle.npf_types.specs.declared.key.Key.{Key}
-use Rattle.npf_types.specs.declared.key.Way.{Way}
-use Rattle.npf_types.specs.declared.key.Way.TheVariants.{Forward, Backward, Port}
-use Rattle.npf_core.specs.declared.conn_id.ConnId.{ConnId}
-use Rattle.npf_core.specs.declared.found.Found.{Found}
-use Rattle.npf_core.specs.declared.holding.Holding.{Holding}
-use Rattle.npf_oneturn_store.specs.declared.connection.Connection.{Connection}
-use Rattle.npf_oneturn_store.specs.declared.phase.Phase.TheVariants.{Vacant}
+use Rattle.std.proofs.{Common.{◌≡◌, ◌≢◌, ℕ, ◌<◌, Bool, List, set, Option, Some, None, arith, refl, sym, ap, ◌∙◌, ⊎_elim}, lemmas.Bool.cases_eq}
+use Rattle.npf_types.specs.declared.key.{Key.Key, Way.{Way, TheVariants.{Forward, Backward, Port}}}
+use Rattle.npf_core.specs.declared.{conn_id.ConnId.ConnId, found.Found.Found, hold.Holding.Holding}
+use Rattle.npf_oneturn_store.specs.declared.{connection.Connection.Connection, phase.SlotPhase.TheVariants.Vacant}
 use Rattle.npf_oneturn_store.specs.Connection.{connection_in, phase_at, phase_among, HoldersStand}
-use Rattle.npf_oneturn_store.specs.Places.{standing, holder_among, key_place, way_number, AreKept}
-use Rattle.npf_oneturn_store.proofs.HomeLemmas.{holder_here}
+use Rattle.npf_oneturn_store.{specs.Places.{standing, holder_among, key_place, way_number, AreKept}, proofs.HomeLemmas.holder_here}
 use Rattle.npf_oneturn_store.proofs.ConnectionLemmas.{set_elsewhere, vacant_phase, claimed_within, given_phase, one_claimed}
 
 -- a place tells slot and way
@@ -42,7 +35,8 @@ module _ {S : Type 0} (xs : List (Connection S)) (holdings : List (Option Holdin
   stand_same ys others same held key found h = rw (same found.id.slot) (stand key found (sym (held key) ∙ h))
 
   -- the others of a slot's identities than the claimed one hold none either, so a change of the slot goes by what is claimed now
-  changed : (s : ℕ) (x : Connection S) → ((key : Key) (found : Found) → holder_among holdings key ≡ Some found → found.id.slot ≡ s → phase_among (set xs s x) found.id ≢ Vacant) → HoldersStand (set xs s x) holdings
+  changed : (s : ℕ) (x : Connection S) → ((key : Key) (found : Found) → holder_among holdings key ≡ Some found →
+      found.id.slot ≡ s → phase_among (set xs s x) found.id ≢ Vacant) → HoldersStand (set xs s x) holdings
   changed s x here key found held = ⊎_elim
       (λ (e : found.id.slot ≡ s). here key found held e)
       (λ (ne : found.id.slot ≢ s). λ vacant. stand key found held (ap (λ (y : Connection S). phase_at y found.id.inc) (sym (set_elsewhere xs s found.id.slot x ne)) ∙ vacant))
@@ -56,7 +50,8 @@ module _ {S : Type 0} (xs : List (Connection S)) (holdings : List (Option Holdin
   pub stand_claimed : (s : ℕ) (x : Connection S) → (connection_in xs s).phase ≡ Vacant → HoldersStand (set xs s x) holdings
   stand_claimed s x vacant = changed s x (λ key found held e. absurd (stand key found held (vacant_phase xs found.id (ap (λ r. (connection_in xs r).phase) e ∙ vacant))))
 
-  pub stand_freed : (id : ConnId) (x : Connection S) → phase_among xs id ≢ Vacant → ((way : Way) (key : Key) → holder_among holdings key ≢ Some (record { id = id; way = way })) → HoldersStand (set xs id.slot x) holdings
+  pub stand_freed : (id : ConnId) (x : Connection S) → phase_among xs id ≢ Vacant →
+      ((way : Way) (key : Key) → holder_among holdings key ≢ Some (record { id = id; way = way })) → HoldersStand (set xs id.slot x) holdings
   stand_freed id x claimed none = changed id.slot x (λ key found held e.
       let same : found.id ≡ id = one_claimed xs id found.id claimed (stand key found held) e in
       absurd (none found.way key (held ∙ ap (λ other. Some (record { id = other; way = found.way })) same)))

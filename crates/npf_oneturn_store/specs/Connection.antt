@@ -3,10 +3,10 @@ use Rattle.std.specs.Prelude.{◌≡◌, ◌≢◌, ℕ, ◌-◌, ◌^◌, ◌<�
 use Rattle.npf_types.specs.declared.key.Key.{Key}
 use Rattle.npf_core.specs.declared.conn_id.ConnId.{ConnId}
 use Rattle.npf_core.specs.declared.found.Found.{Found}
-use Rattle.npf_core.specs.declared.holding.Holding.{Holding}
+use Rattle.npf_core.specs.declared.hold.Holding.{Holding}
 use Rattle.npf_oneturn_store.specs.declared.connection.Connection.{Connection}
-use Rattle.npf_oneturn_store.specs.declared.phase.Phase.{Phase}
-use Rattle.npf_oneturn_store.specs.declared.phase.Phase.TheVariants.{Vacant}
+use Rattle.npf_oneturn_store.specs.declared.phase.SlotPhase.{SlotPhase}
+use Rattle.npf_oneturn_store.specs.declared.phase.SlotPhase.TheVariants.{Vacant}
 use Rattle.npf_oneturn_store.specs.Places.{holder_among}
 
 -- what stands in the slot of this number. In one that the list lacks no connection was claimed yet
@@ -14,11 +14,11 @@ abbrev pub connection_in : {S : Type 0} → List (Connection S) → ℕ → Conn
 connection_in connections s = unwrap_or (slice_get connections s) (record { inc = 0; phase = Vacant })
 
 -- the phase of the incarnation of this number: only the last one of a slot is kept
-abbrev pub phase_at : {S : Type 0} → Connection S → ℕ → Phase S
+abbrev pub phase_at : {S : Type 0} → Connection S → ℕ → SlotPhase S
 phase_at connection inc = if connection.inc == inc then connection.phase else Vacant
 
 -- the phase of an identity
-abbrev pub phase_among : {S : Type 0} → List (Connection S) → ConnId → Phase S
+abbrev pub phase_among : {S : Type 0} → List (Connection S) → ConnId → SlotPhase S
 phase_among connections id = phase_at (connection_in connections id.slot) id.inc
 
 -- each slot below the first one that may be unclaimed is claimed, and the next incarnation of each that isn't is a number of 64 bits

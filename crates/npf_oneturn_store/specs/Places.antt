@@ -4,7 +4,7 @@ use Rattle.npf_types.specs.declared.key.Key.{Key}
 use Rattle.npf_types.specs.declared.key.Way.{Way}
 use Rattle.npf_types.specs.declared.key.Way.TheVariants.{Forward, Backward, Port}
 use Rattle.npf_core.specs.declared.found.Found.{Found}
-use Rattle.npf_core.specs.declared.holding.Holding.{Holding}
+use Rattle.npf_core.specs.declared.hold.Holding.{Holding}
 use Rattle.npf_core.specs.Machine.{is_key}
 use Rattle.npf_oneturn_store.specs.Hash.{bucket_of}
 

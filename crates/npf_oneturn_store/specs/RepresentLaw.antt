@@ -16,7 +16,7 @@ use Rattle.npf_core.specs.Machine.{Machine, opening, stage_of, IsClaimed, IsAliv
 use Rattle.npf_core.specs.Meaning.{Meaning}
 use Rattle.npf_core.specs.NextState.{after_act}
 use Rattle.npf_core.specs.Replies.{claimed_id, held_by, step_answer}
-use Rattle.npf_oneturn_store.specs.declared.phase.Phase.{Phase}
+use Rattle.npf_oneturn_store.specs.declared.phase.SlotPhase.{SlotPhase}
 use Rattle.npf_oneturn_store.specs.declared.store.Store.{Store}
 use Rattle.npf_oneturn_store.specs.Represents.{Represents, phase_in}
 use Rattle.npf_oneturn_store.specs.Store as calls
@@ -38,7 +38,7 @@ ShowsPhases S = (slots : ℕ) (store : Store S) (k : Machine S) (id : ConnId) �
 abbrev pub ShowsBuilding : (S : Type 0) → Type 0
 ShowsBuilding S =
     (slots : ℕ) (store : Store S) (k : Machine S) (id : ConnId) (seat : ℕ) → Represents slots store k →
-    stage_of k id ≡ Building seat → phase_of store id ≡ Phase.Building
+    stage_of k id ≡ Building seat → phase_of store id ≡ SlotPhase.Building
 
 -- and one that is Building or Live may be killed
 abbrev pub ShowsAlive : (S : Type 0) → Type 0
@@ -138,7 +138,7 @@ ShowsKept S =
 abbrev pub ShowsDead : (S : Type 0) → Type 0
 ShowsDead S =
     (slots : ℕ) (store : Store S) (k : Machine S) (id : ConnId) → Represents slots store k →
-    (stage_of k id ≡ Dead) ↔ (phase_of store id ≡ Phase.Dead)
+    (stage_of k id ≡ Dead) ↔ (phase_of store id ≡ SlotPhase.Dead)
 
 -- a connection is due in the state where it is in the store
 abbrev pub ShowsDue : {S A R : Type 0} → Meaning S A R → Type 0

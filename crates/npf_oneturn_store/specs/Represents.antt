@@ -6,13 +6,13 @@ use Rattle.npf_core.specs.declared.stage.Stage.{Stage}
 use Rattle.npf_core.specs.declared.stage.Stage.TheVariants as stage
 use Rattle.npf_core.specs.Machine.{Machine}
 use Rattle.npf_oneturn_store.specs.declared.connection.Connection.{Connection}
-use Rattle.npf_oneturn_store.specs.declared.phase.Phase.{Phase}
-use Rattle.npf_oneturn_store.specs.declared.phase.Phase.TheVariants.{Vacant, Building, Live, Dead}
+use Rattle.npf_oneturn_store.specs.declared.phase.SlotPhase.{SlotPhase}
+use Rattle.npf_oneturn_store.specs.declared.phase.SlotPhase.TheVariants.{Vacant, Building, Live, Dead}
 use Rattle.npf_oneturn_store.specs.declared.store.Store.{Store}
 use Rattle.npf_oneturn_store.specs.Store.{slots_of, slot_of, holder_of}
 
 -- the phase of a stage: the same, but that no seat is told
-abbrev pub phase_in : {S : Type 0} → Stage S → Phase S
+abbrev pub phase_in : {S : Type 0} → Stage S → SlotPhase S
 phase_in stage.Vacant = Vacant
 phase_in (stage.Building seat) = Building
 phase_in (stage.Live flow steps) = Live flow steps

@@ -13,8 +13,8 @@ use Rattle.npf_core.specs.Meaning.{Meaning}
 use Rattle.npf_core.specs.NextState.{given_up}
 use Rattle.npf_oneturn_store.specs.declared.connection.Connection.{Connection}
 use Rattle.npf_oneturn_store.specs.declared.held_keys.HeldKeys.{HeldKeys}
-use Rattle.npf_oneturn_store.specs.declared.phase.Phase.{Phase}
-use Rattle.npf_oneturn_store.specs.declared.phase.Phase.TheVariants.{Vacant, Building, Live, Dead}
+use Rattle.npf_oneturn_store.specs.declared.phase.SlotPhase.{SlotPhase}
+use Rattle.npf_oneturn_store.specs.declared.phase.SlotPhase.TheVariants.{Vacant, Building, Live, Dead}
 use Rattle.npf_oneturn_store.specs.declared.store.Store.{Store}
 use Rattle.npf_oneturn_store.specs.Connection.{connection_in, phase_at}
 use Rattle.npf_oneturn_store.specs.Keys.{keeper_of}
@@ -32,7 +32,7 @@ abbrev pub holder_of : {S : Type 0} → Store S → Key → Option Found
 holder_of store key = keeper_of store.keys key
 
 -- the phase of an identity
-abbrev pub phase_of : {S : Type 0} → Store S → ConnId → Phase S
+abbrev pub phase_of : {S : Type 0} → Store S → ConnId → SlotPhase S
 phase_of store id = phase_at (slot_of store id.slot) id.inc
 
 -- the connection holds no key of that way
@@ -51,21 +51,21 @@ pub record TellsKeys {S : Type 0} (store : Store S) (id : ConnId) (keys : HeldKe
   pub port : TellsKey store id Port keys.port
 
 -- Building or Live
-abbrev pub IsAlivePhase : {S : Type 0} → Phase S → Type 0
+abbrev pub IsAlivePhase : {S : Type 0} → SlotPhase S → Type 0
 IsAlivePhase Vacant = ⊥
 IsAlivePhase Building = Unit {0}
 IsAlivePhase (Live _ _) = Unit {0}
 IsAlivePhase Dead = ⊥
 
 -- Live
-abbrev pub IsLivePhase : {S : Type 0} → Phase S → Type 0
+abbrev pub IsLivePhase : {S : Type 0} → SlotPhase S → Type 0
 IsLivePhase Vacant = ⊥
 IsLivePhase Building = ⊥
 IsLivePhase (Live _ _) = Unit {0}
 IsLivePhase Dead = ⊥
 
 -- Live, and due at that time
-abbrev pub IsDuePhase : {S A R : Type 0} → Meaning S A R → ℕ → Phase S → Type 0
+abbrev pub IsDuePhase : {S A R : Type 0} → Meaning S A R → ℕ → SlotPhase S → Type 0
 IsDuePhase m now Vacant = ⊥
 IsDuePhase m now Building = ⊥
 IsDuePhase m now (Live flow _) = IsTrue (m.is_due flow now)
@@ -107,7 +107,7 @@ pub record IsSame {S : Type 0} (old new : Store S) : Type 0 where
   pub held : (key : Key) → holder_of new key ≡ holder_of old key
 
 -- the slot of the identity has its incarnation at this phase, and all else is as it was
-pub record Puts {S : Type 0} (old new : Store S) (id : ConnId) (phase : Phase S) : Type 0 where
+pub record Puts {S : Type 0} (old new : Store S) (id : ConnId) (phase : SlotPhase S) : Type 0 where
   pub sized : slots_of new ≡ slots_of old
   pub put : slot_of new id.slot ≡ record { inc = id.inc; phase = phase }
   pub others : (s : ℕ) → s ≢ id.slot → slot_of new s ≡ slot_of old s

@@ -21,6 +21,6 @@ mod steps;
 mod store;
 
 pub use held_keys::HeldKeys;
-pub use phase::Phase;
+pub use phase::SlotPhase;
 pub use steps::{due, step};
 pub use store::Store;

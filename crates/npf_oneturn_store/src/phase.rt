@@ -1,6 +1,8 @@
+// What the last connection of a slot is at.
+
 /// What the last connection of a slot is at.
 #[derive(Clone, Copy, Debug, PartialEq, Eq)]
-pub enum Phase<S> {
+pub enum SlotPhase<S> {
     /// It isn't claimed.
     Vacant,
     /// It is claimed, and not Live yet. Who builds it isn't kept.

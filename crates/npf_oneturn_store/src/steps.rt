@@ -2,7 +2,7 @@
 ghost use Rattle.npf_oneturn_store.specs.Store.{AdvancesFlow, AnswersStep, IsLivePhase, TellsDue};
 
 use crate::connection::Connection;
-use crate::phase::Phase;
+use crate::phase::SlotPhase;
 use crate::store::Store;
 use npf_core::{ConnId, Law, Stepped};
 use npf_types::Way;
@@ -32,13 +32,13 @@ fn advance<L: Law>(connection: &mut Connection<L::State>, way: Way, arg: &L::Arg
     ensures { AdvancesFlow L.meaning connection.old connection.new way arg.now result.0 result.1 }
 {
     match &mut connection.phase {
-        Phase::Live { flow, steps } => {
+        SlotPhase::Live { flow, steps } => {
             let place = *steps;
             let reply = L::advance(flow, way, arg);
             *steps = place.saturating_add(1);
             (reply, place)
         }
-        Phase::Vacant | Phase::Building | Phase::Dead => unreachable!(),
+        SlotPhase::Vacant | SlotPhase::Building | SlotPhase::Dead => unreachable!(),
     }
 }
 
@@ -50,7 +50,7 @@ pub fn due<L: Law>(store: &Store<L::State>, slot: u32, now: u64) -> Option<ConnI
         Some(
             Connection {
                 inc,
-                phase: Phase::Live { flow, .. },
+                phase: SlotPhase::Live { flow, .. },
             },
         ) if L::due(flow, now) => Some(ConnId { slot, inc: *inc }),
         _ => None,

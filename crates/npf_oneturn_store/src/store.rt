@@ -9,7 +9,7 @@ ghost use Rattle.npf_oneturn_store.specs.Connection.{AreFit, HoldersStand};
 use crate::connection::Connection;
 use crate::held_keys::HeldKeys;
 use crate::keys::Keys;
-use crate::phase::Phase;
+use crate::phase::SlotPhase;
 use npf_core::{ConnId, Found, Held, Kept};
 use npf_types::{Key, NoMemory, Way};
 use std::alloc::Global;
@@ -64,12 +64,12 @@ impl<S: Copy> Store<S> {
     }
 
     /// The identity's phase.
-    pub fn phase(&self, id: ConnId) -> Phase<S>
+    pub fn phase(&self, id: ConnId) -> SlotPhase<S>
         ensures { result ≡ phase_of self.now id }
     {
         match self.connections.get(id.slot as usize) {
             Some(connection) if connection.inc == id.inc => connection.phase,
-            _ => Phase::Vacant,
+            _ => SlotPhase::Vacant,
         }
     }
 
@@ -79,17 +79,17 @@ impl<S: Copy> Store<S> {
     {
         match self.connections.get(id.slot as usize) {
             Some(connection) => {
-                connection.inc == id.inc && matches!(connection.phase, Phase::Live { .. })
+                connection.inc == id.inc && matches!(connection.phase, SlotPhase::Live { .. })
             }
             None => false,
         }
     }
 
     fn is_vacant(&self, slot: u32) -> bool
-        ensures { IsTrue result ↔ ((slot_of self.now slot).phase ≡ Phase.Vacant) }
+        ensures { IsTrue result ↔ ((slot_of self.now slot).phase ≡ SlotPhase.Vacant) }
     {
         match self.connections.get(slot as usize) {
-            Some(connection) => matches!(connection.phase, Phase::Vacant),
+            Some(connection) => matches!(connection.phase, SlotPhase::Vacant),
             None => true,
         }
     }
@@ -119,7 +119,7 @@ impl<S: Copy> Store<S> {
         let inc = self.connections[slot as usize].inc + 1;
         self.connections[slot as usize] = Connection {
             inc,
-            phase: Phase::Building,
+            phase: SlotPhase::Building,
         };
         self.first = slot + 1;
         Some(ConnId { slot, inc })
@@ -135,7 +135,7 @@ impl<S: Copy> Store<S> {
         if slot as usize == self.connections.len() {
             self.connections.push_reserved(Connection {
                 inc: 0,
-                phase: Phase::Vacant,
+                phase: SlotPhase::Vacant,
             });
             self.keys.add_slot();
         }
@@ -144,7 +144,7 @@ impl<S: Copy> Store<S> {
     /// Gives the connection the key, as its key of that way. Done, or Taken, with nothing changed, exactly where the key has a
     /// holder.
     pub fn hold(&mut self, id: ConnId, key: Key, way: Way) -> Held
-        requires claimed { phase_of self.old id ≢ Phase.Vacant }
+        requires claimed { phase_of self.old id ≢ SlotPhase.Vacant }
         requires none { HoldsNoKey self.old id way }
         ensures answer { AnswersHold self.old self.new key (record { id = id; way = way }) result }
         ensures bare { StaysBare self.old self.new id way result }
@@ -159,10 +159,10 @@ impl<S: Copy> Store<S> {
 
     /// A connection that was Building is Live from now on, with this flow. The start counts as its first step.
     pub fn start(&mut self, id: ConnId, init: S)
-        requires { phase_of self.old id ≡ Phase.Building }
+        requires { phase_of self.old id ≡ SlotPhase.Building }
         ensures { Starts self.old self.new id init }
     {
-        let live = Phase::Live {
+        let live = SlotPhase::Live {
             flow: init,
             steps: 1,
         };
@@ -174,7 +174,7 @@ impl<S: Copy> Store<S> {
         requires { IsAlivePhase (phase_of self.old id) }
         ensures { Kills self.old self.new id }
     {
-        self.put(id, Phase::Dead);
+        self.put(id, SlotPhase::Dead);
     }
 
     /// The key that the connection holds that way; None where it holds none.
@@ -203,7 +203,7 @@ impl<S: Copy> Store<S> {
             Some(
                 Connection {
                     inc,
-                    phase: Phase::Live { flow, .. },
+                    phase: SlotPhase::Live { flow, .. },
                 },
             ) => {
                 let id = ConnId { slot, inc: *inc };
@@ -237,7 +237,7 @@ impl<S: Copy> Store<S> {
             Some(
                 Connection {
                     inc,
-                    phase: Phase::Dead,
+                    phase: SlotPhase::Dead,
                 },
             ) => Some(ConnId { slot, inc: *inc }),
             _ => None,
@@ -247,14 +247,14 @@ impl<S: Copy> Store<S> {
     /// The slot of a Dead connection without keys isn't claimed from now on. Its next connection has the next incarnation, so
     /// that of the last possible one can't be freed.
     pub fn free(&mut self, id: ConnId)
-        requires killed { phase_of self.old id ≡ Phase.Dead }
+        requires killed { phase_of self.old id ≡ SlotPhase.Dead }
         requires none { (way : Way) → HoldsNoKey self.old id way }
         requires further { id.inc < 2 ^ 64 - 1 }
         ensures { Frees self.old self.new id }
     {
         self.connections[id.slot as usize] = Connection {
             inc: id.inc,
-            phase: Phase::Vacant,
+            phase: SlotPhase::Vacant,
         };
         self.first = self.first.min(id.slot);
     }
@@ -262,15 +262,15 @@ impl<S: Copy> Store<S> {
     // The slot's last connection. A slot without one isn't claimed.
     pub(crate) fn connection(&self, slot: u32) -> Option<&Connection<S>>
         ensures some { IfSome result (λ connection. slot_of self.now slot ≡ connection.now) }
-        ensures none { IfNone result ((slot_of self.now slot).phase ≡ Phase.Vacant) }
+        ensures none { IfNone result ((slot_of self.now slot).phase ≡ SlotPhase.Vacant) }
     {
         self.connections.get(slot as usize)
     }
 
     // Puts a claimed connection at a phase.
-    pub(crate) fn put(&mut self, id: ConnId, phase: Phase<S>)
-        requires claimed { phase_of self.old id ≢ Phase.Vacant }
-        requires stays { phase ≢ Phase.Vacant }
+    pub(crate) fn put(&mut self, id: ConnId, phase: SlotPhase<S>)
+        requires claimed { phase_of self.old id ≢ SlotPhase.Vacant }
+        requires stays { phase ≢ SlotPhase.Vacant }
         ensures { Puts self.old self.new id phase }
     {
         self.connections[id.slot as usize] = Connection { inc: id.inc, phase };

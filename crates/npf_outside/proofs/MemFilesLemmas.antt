@@ -1,10 +1,7 @@
 -- How often a name is among names, with one more at the end.
-use Rattle.std.proofs.Common.{◌≡◌, ℕ, ◌+◌, ◌≤◌, true, List, [], ◌∷◌, ◌++◌, refl, ap, cond, arith}
-use Rattle.std.proofs.lemmas.List.Sums.{sum_by_push}
-use Rattle.std.proofs.lemmas.Slice.Eq.{bytes_eq-Decides}
+use Rattle.std.proofs.{Common.{◌≡◌, ℕ, ◌+◌, ◌≤◌, true, List, [], ◌∷◌, ◌++◌, refl, ap, cond, arith}, lemmas.{List.Sums.sum_by_push, Slice.Eq.bytes_eq-Decides}}
 use Rattle.std.specs.Str.{bytes_eq}
-use Rattle.npf_outside.specs.Counts.{Rose}
-use Rattle.npf_outside.specs.MemFiles.{times}
+use Rattle.npf_outside.specs.{Counts.Rose, MemFiles.times}
 
 same_name : (name : List ℕ) → bytes_eq name name ≡ true
 same_name name = (bytes_eq-Decides name name).1 refl

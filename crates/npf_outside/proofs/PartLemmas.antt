@@ -1,7 +1,5 @@
 -- Bytes that were given part by part, and written so far.
-use Rattle.std.proofs.Common.{◌≡◌, ℕ, List, [], ◌++◌, Option, sym, ap, ◌∙◌, append_assoc}
-use Rattle.std.specs.Io.KnownBytes.{Appends}
-use Rattle.std.proofs.KnownBytes.{Appends-trans}
+use Rattle.std.{proofs.{Common.{◌≡◌, ℕ, List, [], ◌++◌, Option, sym, ap, ◌∙◌, append_assoc}, KnownBytes.Appends-trans}, specs.Io.KnownBytes.Appends}
 use Rattle.npf_outside.specs.Parts.{GivesPart}
 
 -- of all bytes those in front of `rest` were written

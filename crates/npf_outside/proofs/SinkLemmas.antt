@@ -40,8 +40,13 @@ IsPutTo-fails old now new text piece rest so_far put = fails old now new so_far.
   fails None (Some _) _ said parts put _ = absurd put
   fails (Some _) None _ said parts put _ = absurd put
   fails (Some _) (Some _) None said parts _ front = absurd front
-  fails (Some old) (Some now) (Some new) said parts put (front, left, piece_is, new_is) =
-      (said ++ front, left ++ rest, parts ∙ ap (λ p. said ++ (p ++ rest)) piece_is ∙ ap (λ q. said ++ q) (append_assoc front left rest) ∙ sym (append_assoc said front (left ++ rest)), new_is ∙ ap (λ held. held ++ front) put ∙ append_assoc old said front)
+  fails (Some old) (Some now) (Some new) said parts put (front, left, piece_is, new_is) = (
+    said ++ front,
+    left ++ rest,
+    parts ∙ ap (λ p. said ++ (p ++ rest)) piece_is ∙ ap (λ q. said ++ q) (append_assoc front left rest)
+        ∙ sym (append_assoc said front (left ++ rest)),
+    new_is ∙ ap (λ held. held ++ front) put ∙ append_assoc old said front,
+  )
 
 -- no more than what was put so far
 pub IsPutTo-stops : (old now : Option (List ℕ)) (text rest : List ℕ) → IsPutTo old now text rest → AppendsFront old now text

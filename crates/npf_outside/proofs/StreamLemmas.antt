@@ -1,8 +1,7 @@
 -- What a sink over a stream holds while bytes move from its buffer to the stream. The stream tells what it holds before a move exactly
 -- where it does so behind it.
 use Rattle.std.proofs.Common.{◌≡◌, ℕ, List, [], ◌++◌, Option, Some, None, false, true, take, drop, sym, ap, ◌∙◌, append_assoc, append-nil, take-append-drop}
-use Rattle.std.specs.Option.{is_some}
-use Rattle.std.specs.Io.KnownBytes.{Keeps, append_known, Appends as KnownAppends}
+use Rattle.std.specs.{Option.is_some, Io.KnownBytes.{Keeps, append_known, Appends as KnownAppends}}
 use Rattle.npf_outside.specs.Sink.{Appends, AppendsFront}
 
 no_longer : (P : Type 0) → true ≡ false → P

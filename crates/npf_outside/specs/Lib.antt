@@ -1,5 +1,6 @@
 pub mod Counts
 pub mod Files
+pub mod Opened
 pub mod Parts
 pub mod Sink
 pub mod Calls

@@ -1,10 +1,13 @@
-use Rattle.std.specs.Prelude.{◌≡◌, ◌⊎◌, ℕ, List, [], length, Some, None, Contains, map, count_by, string_bytes}
+use Rattle.std.specs.Prelude.{◌≡◌, ◌↔◌, ◌⊎◌, ⊤, ℕ, ◌≤◌, List, [], length, Some, None, Result, OnOk, IsErrOf, Contains, map, count_by, string_bytes}
 use Rattle.std.specs.Option.{option_map}
 use Rattle.std.specs.BTreeMap.{get_by_text}
 use Rattle.std.specs.Str.{bytes_eq}
+use Rattle.npf_outside.specs.declared.files.FileFault.{FileFault}
+use Rattle.npf_outside.specs.declared.files.FileFault.TheVariants as Fault
 use Rattle.npf_outside.specs.declared.mem_files.MemFiles.{MemFiles}
 use Rattle.npf_outside.specs.Calls.{planned, next_call}
-use Rattle.npf_outside.specs.Files.{Tree, FilesMoment}
+use Rattle.npf_outside.specs.Counts.{Rose}
+use Rattle.npf_outside.specs.Files.{Tree, FilesMoment, SameFiles, SameOthers, SameReadFaults}
 
 -- the files that are there
 abbrev pub tree_of : MemFiles → Tree
@@ -47,3 +50,17 @@ pub record SameCounts (old new : MemFiles) : Type 0 where
   pub write_faults : new.write_faults ≡ old.write_faults
   pub taken : new.taken ≡ old.taken
   pub calls : new.calls.made ≡ old.calls.made
+
+-- what a write leaves and counts, whatever bytes the file of this name gets
+pub record IsWrite (old new : MemFiles) (name : List ℕ) (result : Result ⊤ FileFault) : Type 0 where
+  pub faultless : OnOk result (new.write_faults ≡ old.write_faults)
+  pub short : IsErrOf result Fault.Long → ⊥
+  pub failed : IsErrOf result Fault.Failed → Rose old.write_faults new.write_faults
+  pub memory : IsErrOf result Fault.NoMemory → SameFiles (Some (tree_of old)) (Some (tree_of new))
+  pub others : SameOthers (Some (tree_of old)) (Some (tree_of new)) name
+  pub writes : old.write_faults ≤ new.write_faults
+  pub reads : SameReadFaults (files_moment old) (files_moment new)
+  pub taken : new.taken ≡ old.taken
+  pub exactly : IsErrOf result Fault.Failed ↔ Contains (planned old.calls) (next_call old.calls)
+  pub plan : planned new.calls ≡ planned old.calls
+  pub calls : new.calls.made ≡ next_call old.calls

@@ -1,17 +1,18 @@
 // The files of the system.
 //
 // One count of failed reads serves all names, since one for each would want memory at the very read that fails.
-ghost use Rattle.std.specs.Prelude.{◌≡◌, ◌≢◌, ◌↔◌, ◌<◌, ◌≤◌, [], ◌++◌, true, None, length, take, is_ok, IfSome, IfOk, IsOk, OnOk, IsErrOf};
+ghost use Rattle.std.specs.Prelude.{◌≡◌, ◌≢◌, ◌↔◌, ◌<◌, ◌≤◌, [], ◌++◌, true, None, length, take, is_ok, vec_capacity, IfSome, IfOk, IsOk, OnOk, IsErrOf};
 ghost use Rattle.std.specs.IoError.{error_kind};
 ghost use Rattle.std.specs.Fs.{new_options, with_create, with_truncate, with_write};
-ghost use Rattle.npf_outside.specs.Counts.{Rose, count_after};
+ghost use Rattle.npf_outside.specs.Counts.{Rose, RoseByMore, count_after};
+ghost use Rattle.npf_outside.specs.Opened.{TookBytes};
 
 use crate::files::{FileFault, Files};
 use crate::parts::{PART_ROOM, Parts, write_each};
-use crate::writing::write_front;
+use crate::write_front::write_front;
 use std::alloc::Global;
 use std::fs::{self, OpenFile, OpenOptions};
-use std::io::{Error, ErrorKind, Read, Result as IoResult};
+use std::io::{Error, ErrorKind, Read, Result as IoResult, Write};
 use std::rt;
 
 /// The files of the system, by paths from the current folder. It tells no contents, and counts the reads that failed for
@@ -39,7 +40,35 @@ impl<'a, R: rt::Files> FolderFiles<'a, R> {
         }
     }
 
-    /// What a read came to that took these bytes. They are counted, and so is a failure.
+    /// What comes of reading what was opened, or was not: all that it had left, of at most `most` bytes. The bytes are counted, and so is
+    /// a failure.
+    fn read_opened<S: Read + OpenFile + Drop>(
+        &mut self,
+        alloc: Global,
+        opened: IoResult<S>,
+        most: u64,
+    ) -> Result<Vec<u8>, FileFault>
+        ensures opened { OnOk result (IsOk opened) }
+        ensures whole { IfOk result (λ bytes. IfOk opened (λ source. IfSome (S.remaining source)
+            (λ left. bytes.items ≡ take (count_after most 1) left))) }
+        ensures fits { IfOk result (λ bytes. length bytes.items ≤ most) }
+        ensures long { IsErrOf result FileFault.Long → RoseByMore most self.old.taken self.new.taken }
+        ensures failed { IsErrOf result FileFault.Failed → Rose self.old.read_faults self.new.read_faults }
+        ensures faultless { OnOk result (self.new.read_faults ≡ self.old.read_faults) }
+        ensures reads { self.old.read_faults ≤ self.new.read_faults }
+        ensures took { IfOk result (λ bytes. self.new.taken ≡ count_after self.old.taken (length bytes.items)) }
+        ensures taken { self.old.taken ≤ self.new.taken }
+        ensures writes { self.new.write_faults ≡ self.old.write_faults }
+    {
+        let mut bytes = Vec::new(alloc);
+        let done = match opened {
+            Ok(source) => read_front(source, most, &mut bytes),
+            Err(error) => Err(error),
+        };
+        self.read_of(bytes, done, most)
+    }
+
+    /// What a read came to that took these bytes.
     fn read_of(
         &mut self,
         bytes: Vec<u8>,
@@ -69,25 +98,66 @@ impl<'a, R: rt::Files> FolderFiles<'a, R> {
         }
     }
 
-    /// What a write came to, whose failure is counted.
-    fn write_of(&mut self, done: IoResult<()>) -> Result<(), FileFault>
-        ensures done { is_ok result ≡ is_ok done }
+    /// What comes of writing the bytes to what was opened, or was not. A failure is counted.
+    fn write_opened<W: Write>(
+        &mut self,
+        opened: &mut IoResult<W>,
+        bytes: &[u8],
+    ) -> Result<(), FileFault>
+        ensures whole { OnOk result (TookBytes W.contents opened.old opened.new bytes.now) }
         ensures faultless { OnOk result (self.new ≡ self.old) }
         ensures short { IsErrOf result FileFault.Long → ⊥ }
         ensures failed { IsErrOf result FileFault.Failed → Rose self.old.write_faults self.new.write_faults }
         ensures writes { self.old.write_faults ≤ self.new.write_faults }
         ensures others { self.new ≡ record self.old { write_faults = self.new.write_faults } }
     {
-        match done {
-            Ok(()) => Ok(()),
-            Err(error) => {
-                self.write_faults = self.write_faults.saturating_add(1);
-                Err(fault_of(&error))
-            }
+        let done = match opened {
+            Ok(writer) => fault_if_any(&write_front(writer, bytes).1),
+            Err(error) => Err(fault_of(error)),
+        };
+        self.write_of(done)
+    }
+
+    /// As `write_opened`, of the parts put together in their order, each by way of the page.
+    fn write_parts_opened<W: Write, P: Parts>(
+        &mut self,
+        opened: &mut IoResult<W>,
+        parts: &mut P,
+        page: &mut Vec<u8>,
+    ) -> Result<(), FileFault>
+        requires { PART_ROOM ≤ vec_capacity page.old }
+        ensures whole { OnOk result (TookBytes W.contents opened.old opened.new (P.rest parts.old)) }
+        ensures given { OnOk result (P.rest parts.new ≡ []) }
+        ensures faultless { OnOk result (self.new ≡ self.old) }
+        ensures short { IsErrOf result FileFault.Long → ⊥ }
+        ensures failed { IsErrOf result FileFault.Failed → Rose self.old.write_faults self.new.write_faults }
+        ensures writes { self.old.write_faults ≤ self.new.write_faults }
+        ensures others { self.new ≡ record self.old { write_faults = self.new.write_faults } }
+    {
+        let done = match opened {
+            Ok(writer) => fault_if_any(&write_each(writer, parts, page)),
+            Err(error) => Err(fault_of(error)),
+        };
+        self.write_of(done)
+    }
+
+    /// What a write came to, whose failure is counted.
+    fn write_of(&mut self, done: Result<(), FileFault>) -> Result<(), FileFault>
+        ensures done { result ≡ done }
+        ensures faultless { OnOk result (self.new ≡ self.old) }
+        ensures failed { IsErrOf result FileFault.Failed → Rose self.old.write_faults self.new.write_faults }
+        ensures writes { self.old.write_faults ≤ self.new.write_faults }
+        ensures others { self.new ≡ record self.old { write_faults = self.new.write_faults } }
+    {
+        if done.is_err() {
+            self.write_faults = self.write_faults.saturating_add(1);
         }
+        done
     }
 }
 
+// What opens a file is one expression of each method. What is done with what was opened is proved of every stream (`read_opened`, `write_opened`,
+// `write_parts_opened`).
 impl<'a, R: rt::Files> Files for FolderFiles<'a, R> {
     ghost moment = { λ files. record {
       contents = None;
@@ -98,30 +168,25 @@ impl<'a, R: rt::Files> Files for FolderFiles<'a, R> {
     } };
 
     fn read(&mut self, alloc: Global, name: &str, most: u64) -> Result<Vec<u8>, FileFault> {
-        let mut bytes = Vec::new(alloc);
-        let done = append_file(self.rt, name, most, &mut bytes);
-        self.read_of(bytes, done, most)
+        self.read_opened(alloc, fs::open(self.rt, name), most)
     }
 
     fn write(&mut self, name: &str, bytes: &[u8]) -> Result<(), FileFault> {
-        let done = replace(self.rt, name, bytes);
-        self.write_of(done)
+        self.write_opened(&mut replacing().open(self.rt, name), bytes)
     }
 
+    /// The room for a part is made before the file is opened.
     fn write_parts<P: Parts>(
         &mut self,
         alloc: Global,
         name: &str,
         parts: &mut P,
     ) -> Result<(), FileFault> {
-        let done = replace_by_parts(self.rt, alloc, name, parts);
-        self.write_of(done)
+        let Ok(mut page) = Vec::with_capacity(alloc, PART_ROOM) else {
+            return Err(FileFault::NoMemory);
+        };
+        self.write_parts_opened(&mut replacing().open(self.rt, name), parts, &mut page)
     }
-}
-
-/// Appends the file's bytes, of which it takes at most one more than `most`.
-fn append_file<R: rt::Files>(rt: &R, name: &str, most: u64, bytes: &mut Vec<u8>) -> IoResult<()> {
-    read_front(fs::open(rt, name)?, most, bytes)
 }
 
 /// Appends what the source has left, of which it takes at most one byte more than `most`. The room for them is made at once.
@@ -145,24 +210,15 @@ fn replacing() -> OpenOptions
     options
 }
 
-fn replace<R: rt::Files>(rt: &R, name: &str, bytes: &[u8]) -> IoResult<()> {
-    let mut file = replacing().open(rt, name)?;
-    let (_, written) = write_front(&mut file, bytes);
-    written
-}
-
-/// The room for a part is made before the file is opened.
-fn replace_by_parts<R: rt::Files, P: Parts>(
-    rt: &R,
-    alloc: Global,
-    name: &str,
-    parts: &mut P,
-) -> IoResult<()>
-    ensures { OnOk result (P.rest parts.new ≡ []) }
+/// The fault of what failed, if it did.
+fn fault_if_any(done: &IoResult<()>) -> Result<(), FileFault>
+    ensures done { is_ok result ≡ is_ok done.now }
+    ensures short { IsErrOf result FileFault.Long → ⊥ }
 {
-    let mut page = Vec::with_capacity(alloc, PART_ROOM)?;
-    let mut file = replacing().open(rt, name)?;
-    write_each(&mut file, parts, &mut page)
+    match done {
+        Ok(()) => Ok(()),
+        Err(error) => Err(fault_of(error)),
+    }
 }
 
 /// Want of memory is told apart from a refusal of the system.

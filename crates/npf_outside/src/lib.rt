@@ -22,7 +22,7 @@ mod sink;
 mod stream;
 mod stream_sink;
 mod streams;
-mod writing;
+mod write_front;
 
 pub use files::{FileFault, Files};
 pub use folder_files::FolderFiles;

@@ -1,5 +1,5 @@
 // Files in memory. The name of a failed read is noted; where memory runs out for the note, it does so for the read.
-ghost use Rattle.std.specs.Prelude.{◌≡◌, ◌↔◌, ◌⊎◌, ◌++◌, [], ◌∷◌, ℕ, ◌<◌, ◌≤◌, ◌≢◌, List, Some, None, length, IfOk, OnOk, OnErr, IsErrOf, Contains};
+ghost use Rattle.std.specs.Prelude.{◌≡◌, ◌⊎◌, ◌++◌, [], ◌∷◌, ℕ, ◌<◌, ◌≤◌, List, Some, length, IfOk, OnOk, OnErr, IsErrOf};
 ghost use Rattle.npf_outside.specs.Calls.{planned, next_call};
 ghost use Rattle.npf_outside.specs.Counts.{Rose, count_after};
 ghost use Rattle.npf_outside.specs.Files.{Has, IsLonger, SameFiles, SameOthers, SameReadFaults};
@@ -80,7 +80,7 @@ impl MemFiles {
 }
 
 impl Files for MemFiles {
-    ghost use Rattle.npf_outside.specs.MemFiles.{tree_of, unread_names, times, files_moment, FailsRead};
+    ghost use Rattle.npf_outside.specs.MemFiles.{tree_of, unread_names, times, files_moment, FailsRead, IsWrite};
 
     ghost moment = { files_moment };
 
@@ -124,20 +124,8 @@ impl Files for MemFiles {
     }
 
     fn write(&mut self, name: &str, bytes: &[u8]) -> Result<(), FileFault>
+        ensures write { IsWrite self.old self.new name.now result }
         ensures whole { OnOk result (Has (Some (tree_of self.new)) name.now bytes.now) }
-        ensures faultless { OnOk result (self.new.write_faults ≡ self.old.write_faults) }
-        ensures short { IsErrOf result FileFault.Long → ⊥ }
-        ensures failed { IsErrOf result FileFault.Failed → Rose self.old.write_faults self.new.write_faults }
-        ensures memory { IsErrOf result FileFault.NoMemory
-            → SameFiles (Some (tree_of self.old)) (Some (tree_of self.new)) }
-        ensures others { SameOthers (Some (tree_of self.old)) (Some (tree_of self.new)) name.now }
-        ensures writes { self.old.write_faults ≤ self.new.write_faults }
-        ensures reads { SameReadFaults (files_moment self.old) (files_moment self.new) }
-        ensures taken { self.new.taken ≡ self.old.taken }
-        ensures exactly { IsErrOf result FileFault.Failed
-            ↔ Contains (planned self.old.calls) (next_call self.old.calls) }
-        ensures plan { planned self.new.calls ≡ planned self.old.calls }
-        ensures calls { self.new.calls.made ≡ next_call self.old.calls }
     {
         if self.calls.begin() {
             self.write_faults = self.write_faults.saturating_add(1);
@@ -155,21 +143,9 @@ impl Files for MemFiles {
         name: &str,
         parts: &mut P,
     ) -> Result<(), FileFault>
+        ensures write { IsWrite self.old self.new name.now result }
         ensures whole { OnOk result (Has (Some (tree_of self.new)) name.now (P.rest parts.old)) }
         ensures given { OnOk result (P.rest parts.new ≡ []) }
-        ensures faultless { OnOk result (self.new.write_faults ≡ self.old.write_faults) }
-        ensures short { IsErrOf result FileFault.Long → ⊥ }
-        ensures failed { IsErrOf result FileFault.Failed → Rose self.old.write_faults self.new.write_faults }
-        ensures memory { IsErrOf result FileFault.NoMemory
-            → SameFiles (Some (tree_of self.old)) (Some (tree_of self.new)) }
-        ensures others { SameOthers (Some (tree_of self.old)) (Some (tree_of self.new)) name.now }
-        ensures writes { self.old.write_faults ≤ self.new.write_faults }
-        ensures reads { SameReadFaults (files_moment self.old) (files_moment self.new) }
-        ensures taken { self.new.taken ≡ self.old.taken }
-        ensures exactly { IsErrOf result FileFault.Failed
-            ↔ Contains (planned self.old.calls) (next_call self.old.calls) }
-        ensures plan { planned self.new.calls ≡ planned self.old.calls }
-        ensures calls { self.new.calls.made ≡ next_call self.old.calls }
     {
         if self.calls.begin() {
             self.write_faults = self.write_faults.saturating_add(1);

@@ -1,7 +1,6 @@
 // A sink in memory.
-ghost use Rattle.std.specs.Prelude.{◌≡◌, ◌↔◌, ◌++◌, [], ◌∷◌, ℕ, ◌+◌, ◌≤◌, Some, length, IfOk, OnOk, OnErr, IsErrOf, Contains, vec_len};
-ghost use Rattle.npf_outside.specs.Calls.{planned, next_call};
-ghost use Rattle.npf_outside.specs.Counts.{Rose};
+ghost use Rattle.std.specs.Prelude.{◌≡◌, ◌++◌, [], ◌∷◌, ◌+◌, ◌≤◌, Some, length, IfOk, OnOk, OnErr, IsErrOf, vec_len};
+ghost use Rattle.npf_outside.specs.Calls.{planned};
 ghost use Rattle.npf_outside.specs.Sink.{Appends, AppendsFront};
 
 use crate::calls::Calls;
@@ -56,26 +55,20 @@ impl MemSink {
 }
 
 impl Sink for MemSink {
-    ghost use Rattle.npf_outside.specs.MemSink.{bytes_of, sink_moment};
+    ghost use Rattle.npf_outside.specs.MemSink.{bytes_of, sink_moment, IsCall};
 
     ghost moment = { sink_moment };
 
     fn put(&mut self, bytes: &[u8]) -> Result<(), SinkFault>
+        ensures call { IsCall self.old self.new result }
         ensures whole { OnOk result (Appends (Some (bytes_of self.old)) (Some (bytes_of self.new)) bytes.now) }
-        ensures faultless { OnOk result (self.new.faults ≡ self.old.faults) }
         ensures front { AppendsFront (Some (bytes_of self.old)) (Some (bytes_of self.new)) bytes.now }
         ensures memory { IsErrOf result SinkFault.NoMemory
             → Appends (Some (bytes_of self.old)) (Some (bytes_of self.new)) [] }
-        ensures failed { IsErrOf result SinkFault.Failed → Rose self.old.faults self.new.faults }
-        ensures counted { self.old.faults ≤ self.new.faults }
-        ensures exactly { IsErrOf result SinkFault.Failed
-            ↔ Contains (planned self.old.calls) (next_call self.old.calls) }
         ensures waits { OnOk result
             ((sink_moment self.new).waiting ≡ (sink_moment self.old).waiting + length bytes.now) }
         ensures nothing { OnErr result (bytes_of self.new ≡ bytes_of self.old) }
         ensures unmoved { OnErr result ((sink_moment self.new).waiting ≡ (sink_moment self.old).waiting) }
-        ensures plan { planned self.new.calls ≡ planned self.old.calls }
-        ensures calls { self.new.calls.made ≡ next_call self.old.calls }
     {
         if self.calls.begin() {
             self.faults = self.faults.saturating_add(1);
@@ -88,16 +81,10 @@ impl Sink for MemSink {
     }
 
     fn flush(&mut self) -> Result<(), SinkFault>
+        ensures call { IsCall self.old self.new result }
         ensures flushed { OnOk result ((sink_moment self.new).waiting ≡ 0) }
-        ensures faultless { OnOk result (self.new.faults ≡ self.old.faults) }
         ensures stays { Appends (Some (bytes_of self.old)) (Some (bytes_of self.new)) [] }
-        ensures failed { IsErrOf result SinkFault.Failed → Rose self.old.faults self.new.faults }
-        ensures counted { self.old.faults ≤ self.new.faults }
-        ensures exactly { IsErrOf result SinkFault.Failed
-            ↔ Contains (planned self.old.calls) (next_call self.old.calls) }
         ensures memory { IsErrOf result SinkFault.NoMemory → ⊥ }
-        ensures plan { planned self.new.calls ≡ planned self.old.calls }
-        ensures calls { self.new.calls.made ≡ next_call self.old.calls }
     {
         if self.calls.begin() {
             self.faults = self.faults.saturating_add(1);

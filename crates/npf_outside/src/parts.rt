@@ -4,7 +4,7 @@ ghost use Rattle.std.specs.Prelude.{◌≡◌, ℕ, ◌+◌, ◌≤◌, List, []
 ghost use Rattle.std.specs.Io.KnownBytes.{Appends};
 ghost use Rattle.npf_outside.specs.Parts.{GivesPart};
 
-use crate::writing::write_front;
+use crate::write_front::write_front;
 use npf_types::NoMemory;
 use npf_types::limits::MAX_PACKET_BYTES;
 use std::alloc::Global;

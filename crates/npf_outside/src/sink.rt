@@ -29,11 +29,12 @@ pub trait Sink {
         ensures failed { IsErrOf result SinkFault.Failed → Rose (moment self.old).faults (moment self.new).faults }
         ensures counted { (moment self.old).faults ≤ (moment self.new).faults };
 
-    /// Passes on what waits. After an error some of it may have been passed on.
+    /// Passes on what waits, for which no memory is wanted. After an error some of it may have been passed on.
     fn flush(&mut self) -> Result<(), SinkFault>
         ensures flushed { OnOk result ((moment self.new).waiting ≡ 0) }
         ensures faultless { OnOk result ((moment self.new).faults ≡ (moment self.old).faults) }
         ensures stays { Appends (moment self.old).held (moment self.new).held [] }
+        ensures memory { IsErrOf result SinkFault.NoMemory → ⊥ }
         ensures failed { IsErrOf result SinkFault.Failed → Rose (moment self.old).faults (moment self.new).faults }
         ensures counted { (moment self.old).faults ≤ (moment self.new).faults };
 }

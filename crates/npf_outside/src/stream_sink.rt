@@ -4,7 +4,7 @@ ghost use Rattle.npf_outside.specs.Sink.{Appends, AppendsFront};
 
 use crate::sink::{Sink, SinkFault};
 use crate::stream::Stream;
-use crate::writing::write_front;
+use crate::write_front::write_front;
 use std::alloc::Global;
 use std::io::Result as IoResult;
 

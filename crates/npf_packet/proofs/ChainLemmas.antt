@@ -1,6 +1,5 @@
 -- What walks a chain makes one, and from a place there is one chain.
-use Rattle.std.proofs.Common.{◌≡◌, Option, Some, None, List, [], ◌∷◌, ◌++◌, refl, sym, ap, ◌∙◌, subst, append_assoc}
-use Rattle.std.specs.Prelude.{IsSomeAnd}
+use Rattle.std.{proofs.Common.{◌≡◌, Option, Some, None, List, [], ◌∷◌, ◌++◌, refl, sym, ap, ◌∙◌, subst, append_assoc}, specs.Prelude.IsSomeAnd}
 use Rattle.npf_packet.specs.Chain.{IsChain}
 
 -- a chain from here on, behind what was passed, is one from the first on
@@ -10,7 +9,8 @@ pub record HasPassed {A : Type 0} (next : A → Option A) (first : A) (passed : 
 pub passes_none : {A : Type 0} (next : A → Option A) (first : A) → HasPassed next first [] first
 passes_none next first = record { onward = λ rest last chain. chain }
 
-pub passes_one : {A : Type 0} (next : A → Option A) (first : A) (passed : List A) (here there : A) → HasPassed next first passed here → next here ≡ Some there → HasPassed next first (passed ++ here ∷ []) there
+pub passes_one : {A : Type 0} (next : A → Option A) (first : A) (passed : List A) (here there : A) →
+    HasPassed next first passed here → next here ≡ Some there → HasPassed next first (passed ++ here ∷ []) there
 passes_one next first passed here there before e =
     record { onward = λ rest last chain. rw append_assoc (before.onward (here ∷ rest) last (refl, rw e chain)) }
 

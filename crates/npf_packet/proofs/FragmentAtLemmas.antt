@@ -1,19 +1,10 @@
 -- In each record one answer is found, and a fragment isn't looked into.
-use Rattle.std.proofs.Common.{◌≡◌, ℕ, true, Some, None, List, Err, refl, sym, ap, ◌∙◌, arith}
-use Rattle.std.proofs.lemmas.Bool.Decides.{nat_tests}
-use Rattle.npf_packet.specs.declared.decoded.Decoded.TheVariants.{Skip}
-use Rattle.npf_packet.specs.declared.fragment_at.FragmentAt.{FragmentAt}
-use Rattle.npf_packet.specs.declared.ipv6.Header.{Header}
-use Rattle.npf_packet.specs.declared.packet.Packet.{Packet}
-use Rattle.npf_packet.specs.declared.version.Version.{Version}
-use Rattle.npf_packet.specs.declared.version.Version.TheVariants.{V4, V6}
-use Rattle.npf_packet.specs.Decoding.{DecodesIp, packet_at, version_behind}
-use Rattle.npf_packet.specs.FragmentAt.{FindsBehindChain, FindsIn, FragmentIsSkipped, OneFragment, fragment_v4, fragment_v6}
-use Rattle.npf_packet.specs.Ipv4.{is_fragment, whole_v4}
-use Rattle.npf_packet.specs.Ipv6.{IsBehindChain, behind_last, end_v6, first_header, next_header}
-use Rattle.npf_packet.proofs.ChainLemmas.{same_chain}
-use Rattle.npf_packet.proofs.DecodingLemmas.{IsOne, one_through}
-use Rattle.npf_packet.proofs.HeaderLemmas.{of_ok, when_fragment}
+use Rattle.std.proofs.{Common.{◌≡◌, ℕ, true, Some, None, List, Err, refl, sym, ap, ◌∙◌, arith}, lemmas.Bool.Decides.nat_tests}
+use Rattle.npf_packet.specs.declared.{decoded.Decoded.TheVariants.Skip, fragment_at.FragmentAt.FragmentAt, ipv6.Header.Header, packet.IpPacket.IpPacket}
+use Rattle.npf_packet.specs.{declared.version.Version.{Version, TheVariants.{V4, V6}}, Decoder.{DecodesIp, packet_at, version_behind}}
+use Rattle.npf_packet.specs.{FragmentAt.{FindsBehindChain, FindsIn, FragmentIsSkipped, OneFragment, fragment_v4, fragment_v6}, Ipv4.{is_fragment, whole_v4}}
+use Rattle.npf_packet.{specs.Ipv6.{IsBehindChain, behind_last, end_v6, first_header, next_header}, proofs.ChainLemmas.same_chain}
+use Rattle.npf_packet.proofs.{DecodingLemmas.{IsOne, one_through}, HeaderLemmas.{of_ok, when_fragment}}
 
 one_behind_chain : (bytes : List ℕ) (ip_at end : ℕ) → IsOne (FindsBehindChain bytes ip_at end)
 one_behind_chain bytes ip_at end one other p q =
@@ -30,7 +21,7 @@ one_fragment_lem link bytes =
     one_through (version_behind link bytes) (λ version. FindsIn version bytes (packet_at link)) (λ answer. None) (λ version. one_in version bytes (packet_at link))
 
 -- what tells a fragment
-is_part_v4 : (bytes : List ℕ) (ip_at : ℕ) (packet : Packet) (found : FragmentAt)
+is_part_v4 : (bytes : List ℕ) (ip_at : ℕ) (packet : IpPacket) (found : FragmentAt)
     → Some found ≡ fragment_v4 bytes ip_at packet → is_fragment bytes ip_at ≡ true
 is_part_v4 bytes ip_at packet found h = grind (arith, nat_tests)
 

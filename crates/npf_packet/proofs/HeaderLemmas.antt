@@ -1,28 +1,14 @@
 -- What the IP headers say of a packet that was decoded.
-use Rattle.std.proofs.Common.{◌≡◌, ℕ, ◌+◌, ◌≤◌, true, false, Some, List, length, Ok, Err, refl, sym, ap, ◌∙◌, subst, arith}
-use Rattle.std.proofs.lemmas.Bool.Decides.{nat_tests}
+use Rattle.std.proofs.{Common.{◌≡◌, ℕ, ◌+◌, ◌≤◌, true, false, Some, List, length, Ok, Err, refl, sym, ap, ◌∙◌, subst, arith}, lemmas.Bool.Decides.nat_tests}
 use Rattle.std.specs.Prelude.{Result, MatchResult}
 use Rattle.npf_fields.specs.Field.{number128}
 use Rattle.npf_types.specs.declared.address.Addr.TheVariants as Addr
-use Rattle.npf_types.specs.declared.facts.Facts.{Facts}
-use Rattle.npf_types.specs.declared.link.Link.{Link}
-use Rattle.npf_types.specs.declared.link.Link.TheVariants.{Ethernet, Raw}
-use Rattle.npf_packet.specs.declared.decoded.Decoded.{Decoded}
-use Rattle.npf_packet.specs.declared.decoded.Decoded.TheVariants.{Ip, Skip}
-use Rattle.npf_packet.specs.declared.ipv6.Header.{Header}
-use Rattle.npf_packet.specs.declared.version.Version.{Version}
-use Rattle.npf_packet.specs.declared.version.Version.TheVariants.{V4, V6}
-use Rattle.npf_packet.specs.declared.packet.Packet.{Packet}
-use Rattle.npf_packet.specs.Decoding.{Decodes, DecodesIp, packet_at, version_behind}
-use Rattle.npf_packet.specs.Extent.{told_end}
-use Rattle.npf_packet.specs.Field.{ipv6_source, ipv6_destination}
-use Rattle.npf_packet.specs.Ipv4.{packet_v4, whole_v4, unless_fragment, is_fragment, fields_v4, header_len, total_len}
-use Rattle.npf_packet.specs.Ipv6.{IsPacketV6, IsBehindChain, behind_last, end_v6, first_header, next_header, payload_len}
-use Rattle.npf_packet.specs.PacketField.{HasIpHeader}
-use Rattle.npf_packet.specs.Place.{least_ip_header}
-use Rattle.npf_packet.specs.Upper.{Carries}
-use Rattle.npf_packet.specs.Version.{version_number}
-use Rattle.npf_packet.proofs.ChainLemmas.{chain_keeps}
+use Rattle.npf_types.specs.declared.{facts.Facts.Facts, link.Link.{Link, TheVariants.{Ethernet, Raw}}}
+use Rattle.npf_packet.specs.declared.{decoded.Decoded.{Decoded, TheVariants.{Ip, Skip}}, ipv6.Header.Header, version.Version.{Version, TheVariants.{V4, V6}}}
+use Rattle.npf_packet.specs.{declared.packet.IpPacket.IpPacket, Decoder.{Decodes, DecodesIp, packet_at, version_behind}, Extent.told_end}
+use Rattle.npf_packet.specs.{Field.{ipv6_source, ipv6_destination}, Ipv4.{packet_v4, whole_v4, unless_fragment, is_fragment, fields_v4, header_len, total_len}}
+use Rattle.npf_packet.specs.{Ipv6.{IsPacketV6, IsBehindChain, behind_last, end_v6, first_header, next_header, payload_len}, PacketField.HasIpHeader}
+use Rattle.npf_packet.{specs.{Place.least_ip_header, Upper.Carries, Version.version_number}, proofs.ChainLemmas.chain_keeps}
 
 -- what holds of a result that isn't an error
 pub of_ok : {T E : Type 0} (r : Result T E) (P : T → Type 0) (Q : E → Type 0)
@@ -34,35 +20,35 @@ same_err : {T E : Type 0} {x y : E} → (let r : Result T E = Err x in r) ≡ Er
 same_err h = cc
 
 -- a whole packet of IPv4
-pub record IsWholeV4 (bytes : List ℕ) (ip_at : ℕ) (packet : Packet) : Type 0 where
+pub record IsWholeV4 (bytes : List ℕ) (ip_at : ℕ) (packet : IpPacket) : Type 0 where
   pub header : 20 ≤ header_len bytes ip_at
   pub total : header_len bytes ip_at ≤ total_len bytes ip_at
   pub whole : ip_at + total_len bytes ip_at ≤ length bytes
   pub is : fields_v4 bytes ip_at ≡ packet
 
 -- what was read goes on unless it is a fragment, whose answer is no packet's facts
-pub record GoesOn (bytes : List ℕ) (ip_at : ℕ) (whole : Result Packet Decoded) (packet : Packet) : Type 0 where
+pub record GoesOn (bytes : List ℕ) (ip_at : ℕ) (whole : Result IpPacket Decoded) (packet : IpPacket) : Type 0 where
   pub is : whole ≡ Ok packet
   pub rest : is_fragment bytes ip_at ≡ false
 
-goes_on : (bytes : List ℕ) (ip_at : ℕ) (whole : Result Packet Decoded) (packet : Packet)
+goes_on : (bytes : List ℕ) (ip_at : ℕ) (whole : Result IpPacket Decoded) (packet : IpPacket)
     → unless_fragment bytes ip_at whole ≡ Ok packet → GoesOn bytes ip_at whole packet
 goes_on bytes ip_at (Ok read) packet h = record { is = grind (arith, nat_tests); rest = grind (arith, nat_tests) }
 goes_on bytes ip_at (Err answer) packet h = absurd (cc)
 
-pub no_fragment : (bytes : List ℕ) (ip_at : ℕ) (packet : Packet)
+pub no_fragment : (bytes : List ℕ) (ip_at : ℕ) (packet : IpPacket)
     → packet_v4 bytes ip_at ≡ Ok packet → GoesOn bytes ip_at (whole_v4 bytes ip_at) packet
 no_fragment bytes ip_at packet h = goes_on bytes ip_at (whole_v4 bytes ip_at) packet h
 
-pub when_fragment : (bytes : List ℕ) (ip_at : ℕ) (whole : Result Packet Decoded) (packet : Packet)
+pub when_fragment : (bytes : List ℕ) (ip_at : ℕ) (whole : Result IpPacket Decoded) (packet : IpPacket)
     → whole ≡ Ok packet → is_fragment bytes ip_at ≡ true → unless_fragment bytes ip_at whole ≡ Err Skip
 when_fragment bytes ip_at whole packet is part = rw is (rw part refl)
 
-pub when_whole : (bytes : List ℕ) (ip_at : ℕ) (whole : Result Packet Decoded) (packet : Packet)
+pub when_whole : (bytes : List ℕ) (ip_at : ℕ) (whole : Result IpPacket Decoded) (packet : IpPacket)
     → whole ≡ Ok packet → is_fragment bytes ip_at ≡ false → unless_fragment bytes ip_at whole ≡ Ok packet
 when_whole bytes ip_at whole packet is rest = rw is (rw rest refl)
 
-pub read_whole_v4 : (bytes : List ℕ) (ip_at : ℕ) (packet : Packet)
+pub read_whole_v4 : (bytes : List ℕ) (ip_at : ℕ) (packet : IpPacket)
     → whole_v4 bytes ip_at ≡ Ok packet → IsWholeV4 bytes ip_at packet
 read_whole_v4 bytes ip_at packet h = record {
   header = grind (arith, nat_tests);
@@ -71,7 +57,7 @@ read_whole_v4 bytes ip_at packet h = record {
   is = grind (arith, nat_tests);
 }
 
-pub is_whole_v4 : (bytes : List ℕ) (ip_at : ℕ) (packet : Packet)
+pub is_whole_v4 : (bytes : List ℕ) (ip_at : ℕ) (packet : IpPacket)
     → packet_v4 bytes ip_at ≡ Ok packet → IsWholeV4 bytes ip_at packet
 is_whole_v4 bytes ip_at packet h = read_whole_v4 bytes ip_at packet (no_fragment bytes ip_at packet h).is
 
@@ -96,7 +82,7 @@ next-between : (bytes : List ℕ) (from to : ℕ) (x y : Header)
 next-between bytes from to x y here h = grind (arith, nat_tests)
 
 -- a whole packet of IPv6, and its last header
-pub record IsWholeV6 (bytes : List ℕ) (ip_at : ℕ) (packet : Packet) : Type 0 where
+pub record IsWholeV6 (bytes : List ℕ) (ip_at : ℕ) (packet : IpPacket) : Type 0 where
   pub last : Header
   pub end : ℕ
   pub told : ip_at + 40 + payload_len bytes ip_at ≡ end
@@ -109,7 +95,7 @@ ends_v6 : (bytes : List ℕ) (ip_at end : ℕ)
     → (ip_at + 40 + payload_len bytes ip_at ≡ end) × (end ≤ length bytes)
 ends_v6 bytes ip_at end h = (grind (arith, nat_tests), grind (arith, nat_tests))
 
-pub is_whole_v6 : (bytes : List ℕ) (ip_at : ℕ) (packet : Packet)
+pub is_whole_v6 : (bytes : List ℕ) (ip_at : ℕ) (packet : IpPacket)
     → IsPacketV6 bytes ip_at (Ok packet) → IsWholeV6 bytes ip_at packet
 is_whole_v6 bytes ip_at packet h =
     let found = of_ok (end_v6 bytes ip_at) (λ end. IsBehindChain bytes ip_at end (Ok packet))
@@ -129,7 +115,7 @@ is_whole_v6 bytes ip_at packet h =
     }
 
 -- the fields of a packet of IPv6, whose last header is this
-abbrev pub fields_v6 : List ℕ → ℕ → ℕ → Header → Packet
+abbrev pub fields_v6 : List ℕ → ℕ → ℕ → Header → IpPacket
 fields_v6 bytes ip_at end last = record {
   src = Addr.V6 (number128 bytes (ip_at + ipv6_source));
   dst = Addr.V6 (number128 bytes (ip_at + ipv6_destination));
@@ -139,12 +125,12 @@ fields_v6 bytes ip_at end last = record {
   end = end;
 }
 
-behind_v6 : (bytes : List ℕ) (ip_at end : ℕ) (last : Header) (packet : Packet)
+behind_v6 : (bytes : List ℕ) (ip_at end : ℕ) (last : Header) (packet : IpPacket)
     → behind_last bytes ip_at end last ≡ Ok packet → fields_v6 bytes ip_at end last ≡ packet
 behind_v6 bytes ip_at end last packet h = grind (arith, nat_tests)
 
 -- what the IP headers of a record of this link say
-pub record IsIpPacket (link : Link) (bytes : List ℕ) (packet : Packet) : Type 0 where
+pub record IsIpPacket (link : Link) (bytes : List ℕ) (packet : IpPacket) : Type 0 where
   pub ip : packet.ip_at ≡ packet_at link
   pub header : HasIpHeader bytes packet.ip_at packet.l4_at packet.proto packet.src packet.dst
   pub after : packet.ip_at + least_ip_header packet.src ≤ packet.l4_at
@@ -152,7 +138,7 @@ pub record IsIpPacket (link : Link) (bytes : List ℕ) (packet : Packet) : Type 
   pub told : told_end bytes packet.ip_at ≡ packet.end
   pub end : packet.end ≤ length bytes
 
-ip_packet_v4 : (link : Link) (bytes : List ℕ) (packet : Packet)
+ip_packet_v4 : (link : Link) (bytes : List ℕ) (packet : IpPacket)
     → version_number bytes (packet_at link) ≡ 4
     → IsWholeV4 bytes (packet_at link) packet → IsIpPacket link bytes packet
 ip_packet_v4 link bytes packet version whole = subst (IsIpPacket link bytes) whole.is (record {
@@ -171,7 +157,7 @@ ip_packet_v4 link bytes packet version whole = subst (IsIpPacket link bytes) who
   end = whole.whole;
 })
 
-ip_packet_v6 : (link : Link) (bytes : List ℕ) (packet : Packet)
+ip_packet_v6 : (link : Link) (bytes : List ℕ) (packet : IpPacket)
     → version_number bytes (packet_at link) ≡ 6
     → IsWholeV6 bytes (packet_at link) packet → IsIpPacket link bytes packet
 ip_packet_v6 link bytes packet version whole =
@@ -194,7 +180,7 @@ never_version Ethernet bytes facts = λ h. grind (arith, nat_tests)
 never_whole_v4 : (bytes : List ℕ) (ip_at : ℕ) (facts : Facts) → ¬ (whole_v4 bytes ip_at ≡ Err (Ip facts))
 never_whole_v4 bytes ip_at facts = λ h. grind (arith, nat_tests)
 
-never_goes_on : (bytes : List ℕ) (ip_at : ℕ) (whole : Result Packet Decoded) (facts : Facts)
+never_goes_on : (bytes : List ℕ) (ip_at : ℕ) (whole : Result IpPacket Decoded) (facts : Facts)
     → ¬ (whole ≡ Err (Ip facts)) → ¬ (unless_fragment bytes ip_at whole ≡ Err (Ip facts))
 never_goes_on bytes ip_at (Ok packet) facts never = λ h. grind (arith, nat_tests)
 never_goes_on bytes ip_at (Err answer) facts never = never
@@ -212,7 +198,7 @@ never_behind_v6 bytes ip_at end last facts = λ h. grind (arith, nat_tests)
 
 never_v6 : (bytes : List ℕ) (ip_at : ℕ) (facts : Facts) → ¬ IsPacketV6 bytes ip_at (Err (Ip facts))
 never_v6 bytes ip_at facts h =
-    let header : Result Packet Decoded = Err (Ip facts) in
+    let header : Result IpPacket Decoded = Err (Ip facts) in
     let found = of_ok (end_v6 bytes ip_at) (λ end. IsBehindChain bytes ip_at end header)
     (λ answer. header ≡ Err answer)
     (λ answer e same. never_end_v6 bytes ip_at facts
@@ -221,7 +207,7 @@ never_v6 bytes ip_at facts h =
 
 -- a record with a packet's facts has IP headers
 pub record IsRead (link : Link) (bytes : List ℕ) (facts : Facts) : Type 0 where
-  pub packet : Packet
+  pub packet : IpPacket
   pub ip : IsIpPacket link bytes packet
   pub carries : Carries bytes packet (Ip facts)
 
@@ -242,7 +228,7 @@ read_v4 link bytes facts version decodes =
 read_v6 : (link : Link) (bytes : List ℕ) (facts : Facts) → version_behind link bytes ≡ Ok V6
     → DecodesIp V6 bytes (packet_at link) (Ip facts) → IsRead link bytes facts
 read_v6 link bytes facts version decodes =
-    let P : Result Packet Decoded → Type 0 = λ header. IsPacketV6 bytes (packet_at link) header in
+    let P : Result IpPacket Decoded → Type 0 = λ header. IsPacketV6 bytes (packet_at link) header in
     let found = of_ok decodes.header (λ packet. Carries bytes packet (Ip facts))
     (λ answer. Ip facts ≡ answer)
     (λ answer e same. never_v6 bytes (packet_at link) facts

@@ -2,20 +2,11 @@
 -- the packet's own.
 use Rattle.std.proofs.Common.{◌≡◌, ℕ, ◌+◌, ◌-◌, ◌*◌, ◌/◌, ◌%◌, ◌<◌, ◌≤◌, Option, Some, None, List, length, refl, sym, ap, ◌∙◌, subst, arith}
 use Rattle.std.specs.Prelude.{if◌then◌else◌, ◌==◌, ◌||◌, slice_index, slice_range}
-use Rattle.npf_fields.specs.Field.{number16, number32}
-use Rattle.npf_fields.proofs.RangeNumbers.{byte-range, length-range, number16-range, number32-range, number128-range}
-use Rattle.npf_types.specs.declared.address.Addr.{Addr}
-use Rattle.npf_types.specs.declared.address.Addr.TheVariants.{V4, V6}
-use Rattle.npf_types.specs.declared.facts.Facts.{Facts}
-use Rattle.npf_types.specs.declared.facts.L4.{L4}
-use Rattle.npf_types.specs.declared.facts.L4.TheVariants.{Tcp, Udp, Icmp, Icmp6, Other}
-use Rattle.npf_packet.specs.DecodingLaw.{DecodedHasFields, DecodedHasPlaces, DecodedHasProtocol, DecodedIsPacket}
-use Rattle.npf_packet.specs.Icmp.{echo_in_icmp}
-use Rattle.npf_packet.specs.Icmpv6.{echo_in_icmpv6}
+use Rattle.npf_fields.{specs.Field.{number16, number32}, proofs.RangeNumbers.{byte-range, length-range, number16-range, number32-range, number128-range}}
+use Rattle.npf_types.specs.declared.{address.Addr.{Addr, TheVariants.{V4, V6}}, facts.{Facts.Facts, L4.{L4, TheVariants.{Tcp, Udp, Icmp, Icmp6, Other}}}}
+use Rattle.npf_packet.specs.{DecodingLaw.{DecodedHasFields, DecodedHasPlaces, DecodedHasProtocol, DecodedIsPacket}, Icmp.echo_in_icmp, Icmpv6.echo_in_icmpv6}
 use Rattle.npf_packet.specs.PacketField.{HasFields, HasIpHeader, HasPorts, HasProtocol, HasUpperFields, IsMessage}
-use Rattle.npf_packet.specs.Place.{HasPlaces, least_ip_header, least_upper_header}
-use Rattle.npf_packet.proofs.HeaderLemmas.{is_read}
-use Rattle.npf_packet.proofs.UpperLemmas.{is_carried}
+use Rattle.npf_packet.{specs.Place.{HasPlaces, least_ip_header, least_upper_header}, proofs.{HeaderLemmas.is_read, UpperLemmas.is_carried}}
 
 pub has_places : DecodedHasPlaces
 has_places link bytes facts decodes =

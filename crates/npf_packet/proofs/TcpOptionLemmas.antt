@@ -1,8 +1,6 @@
 -- The options that were read so far, and that there is one reading of them.
-use Rattle.std.proofs.Common.{◌≡◌, ℕ, Option, Some, None, List, [], ◌∷◌, ◌++◌, refl, sym, ap, ◌∙◌, append-nil}
-use Rattle.std.specs.Option.{option_or}
-use Rattle.npf_packet.specs.declared.tcp_option.Options.{Options}
-use Rattle.npf_packet.specs.TcpOption.{HasOptions, option_end, scale_at, mss_at, first_said}
+use Rattle.std.{proofs.Common.{◌≡◌, ℕ, Option, Some, None, List, [], ◌∷◌, ◌++◌, refl, sym, ap, ◌∙◌, append-nil}, specs.Option.option_or}
+use Rattle.npf_packet.specs.{declared.tcp_option.Options.Options, TcpOption.{HasOptions, option_end, scale_at, mss_at, first_said}}
 use Rattle.npf_packet.proofs.ChainLemmas.{HasPassed, passes_none, passes_one, ends_at, same_chain}
 
 -- the options that begin at the passed places say this
@@ -29,7 +27,8 @@ first_said-more says (p ∷ places) place =
 pub reads_none : (bytes : List ℕ) (from to : ℕ) → HasRead bytes from to from None None
 reads_none bytes from to = record { places = []; passed = passes_none (option_end bytes to) from; scales = refl; sizes = refl }
 
-pub reads_one : (bytes : List ℕ) (from to at end : ℕ) (scale mss : Option ℕ) → HasRead bytes from to at scale mss → option_end bytes to at ≡ Some end → HasRead bytes from to end (option_or scale (scale_at bytes at)) (option_or mss (mss_at bytes at))
+pub reads_one : (bytes : List ℕ) (from to at end : ℕ) (scale mss : Option ℕ) → HasRead bytes from to at scale mss → option_end bytes to at ≡ Some end →
+    HasRead bytes from to end (option_or scale (scale_at bytes at)) (option_or mss (mss_at bytes at))
 reads_one bytes from to at end scale mss read e = record {
   places = read.places ++ at ∷ [];
   passed = passes_one (option_end bytes to) from read.places at end read.passed e;
@@ -37,7 +36,8 @@ reads_one bytes from to at end scale mss read e = record {
   sizes = ap (λ o. option_or o (mss_at bytes at)) read.sizes ∙ sym (first_said-more (mss_at bytes) read.places at);
 }
 
-pub reads_all : (bytes : List ℕ) (from to at : ℕ) (scale mss : Option ℕ) → HasRead bytes from to at scale mss → option_end bytes to at ≡ None → HasOptions bytes from to (record { scale = scale; mss_at = mss })
+pub reads_all : (bytes : List ℕ) (from to at : ℕ) (scale mss : Option ℕ) → HasRead bytes from to at scale mss →
+    option_end bytes to at ≡ None → HasOptions bytes from to (record { scale = scale; mss_at = mss })
 reads_all bytes from to at scale mss read e = record {
   places = read.places ++ [];
   last = at;

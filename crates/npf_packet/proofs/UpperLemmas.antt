@@ -1,28 +1,14 @@
 -- What a packet carries that was decoded, and where its parts stand.
 use Rattle.std.proofs.Common.{◌≡◌, ℕ, ◌+◌, ◌-◌, ◌≤◌, ◌⊎◌, Option, Some, None, List, [], ◌∷◌, Ok, Err, refl, sym, ap, ◌∙◌, inl, inr, ⊎_elim, arith}
-use Rattle.std.proofs.lemmas.Bool.Decides.{nat_tests}
-use Rattle.std.specs.Option.{option_or}
-use Rattle.std.specs.Prelude.{IfSome}
-use Rattle.npf_types.specs.declared.address.Addr.{Addr}
-use Rattle.npf_types.specs.declared.address.Addr.TheVariants.{V4, V6}
-use Rattle.npf_types.specs.declared.facts.Facts.{Facts}
-use Rattle.npf_types.specs.declared.facts.L4.{L4}
-use Rattle.npf_packet.specs.declared.decoded.Decoded.TheVariants.{Ip}
-use Rattle.npf_packet.specs.declared.tcp_option.Options.{Options}
-use Rattle.npf_packet.specs.declared.packet.Packet.{Packet}
-use Rattle.npf_packet.specs.declared.upper.Upper.{Upper}
-use Rattle.npf_packet.specs.declared.upper.Upper.TheVariants.{Tcp, Udp, Icmp, Icmpv6, Other}
-use Rattle.npf_packet.specs.Chain.{IsChain}
-use Rattle.npf_packet.specs.TcpOption.{HasOptions, first_said, mss_at, option_end}
-use Rattle.npf_packet.specs.Packet.{facts_of, with_header}
-use Rattle.npf_packet.specs.PacketField.{HasUpperFields, HasProtocol}
-use Rattle.npf_packet.specs.Place.{HasOptionAt, IsAmongOptions, least_upper_header}
-use Rattle.npf_packet.specs.Tcp.{CarriesTcp, HasSegment, header_end, segment_of}
-use Rattle.npf_packet.specs.Upper.{Carries, CarriesAs, upper_of}
-use Rattle.npf_packet.proofs.ChainLemmas.{is_some_and}
-use Rattle.npf_packet.proofs.HeaderLemmas.{of_ok}
+use Rattle.std.{proofs.lemmas.Bool.Decides.nat_tests, specs.{Option.option_or, Prelude.IfSome}}
+use Rattle.npf_types.specs.declared.{address.Addr.{Addr, TheVariants.{V4, V6}}, facts.{Facts.Facts, L4.L4}}
+use Rattle.npf_packet.specs.declared.{decoded.Decoded.TheVariants.Ip, tcp_option.Options.Options, packet.IpPacket.IpPacket, upper.Upper.Upper}
+use Rattle.npf_packet.specs.{declared.upper.Upper.TheVariants.{Tcp, Udp, Icmp, Icmpv6, Other}, Chain.IsChain}
+use Rattle.npf_packet.specs.{TcpOption.{HasOptions, first_said, mss_at, option_end}, Packet.{facts_of, with_header}, PacketField.{HasUpperFields, HasProtocol}}
+use Rattle.npf_packet.specs.{Place.{HasOptionAt, IsAmongOptions, least_upper_header}, Tcp.{CarriesTcp, HasSegment, header_end, segment_of}}
+use Rattle.npf_packet.{specs.Upper.{Carries, CarriesAs, upper_of}, proofs.{ChainLemmas.is_some_and, HeaderLemmas.of_ok}}
 
-some_of_either : (a b : Option ℕ) (x : ℕ) → option_or a b ≡ Some x → (a ≡ Some x) ⊎ (b ≡ Some x)
+pub some_of_either : (a b : Option ℕ) (x : ℕ) → option_or a b ≡ Some x → (a ≡ Some x) ⊎ (b ≡ Some x)
 some_of_either (Some y) b x h = inl h
 some_of_either None b x h = inr h
 
@@ -54,7 +40,7 @@ module _ (bytes : List ℕ) (to : ℕ) where
       ⊎_elim here there (some_of_either (mss_at bytes x) (first_said (mss_at bytes) xs) mss said)
 
 -- what a packet carries, and has fields
-pub record IsCarried (bytes : List ℕ) (packet : Packet) (facts : Facts) : Type 0 where
+pub record IsCarried (bytes : List ℕ) (packet : IpPacket) (facts : Facts) : Type 0 where
   pub l4 : L4
   pub is : facts_of packet l4 ≡ facts
   pub fields : HasUpperFields bytes packet.l4_at l4
@@ -62,20 +48,20 @@ pub record IsCarried (bytes : List ℕ) (packet : Packet) (facts : Facts) : Type
   pub header : packet.l4_at + least_upper_header l4 ≤ packet.end
   pub option : HasOptionAt (facts_of packet l4) l4
 
-same_facts : (one other : Facts) → Ip one ≡ Ip other → one ≡ other
+pub same_facts : (one other : Facts) → Ip one ≡ Ip other → one ≡ other
 same_facts one other h = cc
 
 -- a header that is whole
-header-whole : (packet : Packet) (n : ℕ) (l4 : L4) (facts : Facts)
+header-whole : (packet : IpPacket) (n : ℕ) (l4 : L4) (facts : Facts)
     → Ip facts ≡ with_header packet n l4
     → (packet.l4_at + n ≤ packet.end) × (facts_of packet l4 ≡ facts)
 header-whole packet n l4 facts h = (grind (arith, nat_tests), grind (arith, nat_tests))
 
-header_end-bounds : (bytes : List ℕ) (packet : Packet) (end : ℕ) → header_end bytes packet ≡ Ok end
+header_end-bounds : (bytes : List ℕ) (packet : IpPacket) (end : ℕ) → header_end bytes packet ≡ Ok end
     → (packet.l4_at + 20 ≤ end) × (end ≤ packet.end)
 header_end-bounds bytes packet end h = (grind (arith, nat_tests), grind (arith, nat_tests))
 
-never_header_end : (bytes : List ℕ) (packet : Packet) (facts : Facts)
+never_header_end : (bytes : List ℕ) (packet : IpPacket) (facts : Facts)
     → ¬ (header_end bytes packet ≡ Err (Ip facts))
 never_header_end bytes packet facts = λ h. grind (arith, nat_tests)
 
@@ -104,7 +90,7 @@ protocol_other (V4 a) proto h =
 protocol_other (V6 a) proto h =
     (grind (arith, nat_tests), grind (arith, nat_tests), grind (arith, nat_tests))
 
-module _ (bytes : List ℕ) (packet : Packet) (facts : Facts) where
+module _ (bytes : List ℕ) (packet : IpPacket) (facts : Facts) where
   option_of : (end : ℕ) (options : Options) → HasOptions bytes (packet.l4_at + 20) end options
       → end ≤ packet.end
       → (o : Option ℕ) → o ≡ options.mss_at

@@ -4,7 +4,7 @@ use Rattle.npf_types.specs.declared.facts.Facts.{Facts}
 use Rattle.npf_types.specs.declared.link.Link.{Link}
 use Rattle.npf_packet.specs.declared.decoded.Decoded.{Decoded}
 use Rattle.npf_packet.specs.declared.decoded.Decoded.TheVariants.{Ip}
-use Rattle.npf_packet.specs.Decoding.{Decodes}
+use Rattle.npf_packet.specs.Decoder.{Decodes}
 use Rattle.npf_packet.specs.PacketField.{HasFields, HasProtocol, IsPacketOf, packet_bytes}
 use Rattle.npf_packet.specs.Place.{HasPlaces}
 

@@ -5,15 +5,15 @@ use Rattle.npf_types.specs.declared.link.Link.{Link}
 use Rattle.npf_packet.specs.declared.decoded.Decoded.TheVariants.{Skip}
 use Rattle.npf_packet.specs.declared.fragment_at.FragmentAt.{FragmentAt}
 use Rattle.npf_packet.specs.declared.ipv6.Header.{Header}
-use Rattle.npf_packet.specs.declared.packet.Packet.{Packet}
+use Rattle.npf_packet.specs.declared.packet.IpPacket.{IpPacket}
 use Rattle.npf_packet.specs.declared.version.Version.{Version}
 use Rattle.npf_packet.specs.declared.version.Version.TheVariants.{V4, V6}
-use Rattle.npf_packet.specs.Decoding.{Decodes, packet_at, version_behind}
+use Rattle.npf_packet.specs.Decoder.{Decodes, packet_at, version_behind}
 use Rattle.npf_packet.specs.Ipv4.{is_fragment, whole_v4}
 use Rattle.npf_packet.specs.Ipv6.{HasLast, end_v6}
 
 -- a packet of IPv4, if it is a fragment: what it carries begins behind the header
-abbrev pub fragment_v4 : List ℕ → ℕ → Packet → Option FragmentAt
+abbrev pub fragment_v4 : List ℕ → ℕ → IpPacket → Option FragmentAt
 fragment_v4 bytes ip_at packet =
     if is_fragment bytes ip_at
     then Some (record { v6 = false; ip_at = ip_at; named_at = 0; at = packet.l4_at; end = packet.end })

@@ -8,7 +8,7 @@ use Rattle.std.specs.Prelude.{ℕ, ◌+◌, ◌*◌, ◌%◌, ◌==◌, nat_lt, 
 use Rattle.npf_types.specs.declared.address.Addr.TheVariants.{V4}
 use Rattle.npf_packet.specs.declared.decoded.Decoded.{Decoded}
 use Rattle.npf_packet.specs.declared.decoded.Decoded.TheVariants.{Skip}
-use Rattle.npf_packet.specs.declared.packet.Packet.{Packet}
+use Rattle.npf_packet.specs.declared.packet.IpPacket.{IpPacket}
 use Rattle.npf_fields.specs.Field.{number16, number32}
 use Rattle.npf_packet.specs.Field.{ipv4_total_length, ipv4_fragment, ipv4_protocol, ipv4_source, ipv4_destination}
 use Rattle.npf_packet.specs.Decoded.{cut, bad}
@@ -27,7 +27,7 @@ module _ (bytes : List ℕ) (ip_at : ℕ) where
   is_fragment = not (number16 bytes (ip_at + ipv4_fragment) % 0x4000 == 0)
 
   -- the packet's fields; what it carries begins behind the header
-  abbrev pub fields_v4 : Packet
+  abbrev pub fields_v4 : IpPacket
   fields_v4 = record {
     src = V4 (number32 bytes (ip_at + ipv4_source));
     dst = V4 (number32 bytes (ip_at + ipv4_destination));
@@ -38,7 +38,7 @@ module _ (bytes : List ℕ) (ip_at : ℕ) where
   }
 
   -- a packet that is whole, or is one fragment of one
-  abbrev pub whole_v4 : Result Packet Decoded
+  abbrev pub whole_v4 : Result IpPacket Decoded
   whole_v4 =
       if nat_lt (length bytes) (ip_at + 20) then Err (cut (length bytes))
       else (if nat_lt header_len 20 then Err (bad ip_at)
@@ -47,9 +47,9 @@ module _ (bytes : List ℕ) (ip_at : ℕ) where
       else Ok fields_v4)))
 
   -- a fragment isn't looked into
-  abbrev pub unless_fragment : Result Packet Decoded → Result Packet Decoded
+  abbrev pub unless_fragment : Result IpPacket Decoded → Result IpPacket Decoded
   unless_fragment (Ok packet) = if is_fragment then Err Skip else Ok packet
   unless_fragment (Err answer) = Err answer
 
-  abbrev pub packet_v4 : Result Packet Decoded
+  abbrev pub packet_v4 : Result IpPacket Decoded
   packet_v4 = unless_fragment whole_v4

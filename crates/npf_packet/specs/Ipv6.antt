@@ -11,7 +11,7 @@ use Rattle.std.specs.Prelude.{◌≡◌, ℕ, ◌+◌, ◌*◌, ◌==◌, ◌||�
 use Rattle.npf_types.specs.declared.address.Addr.TheVariants.{V6}
 use Rattle.npf_packet.specs.declared.decoded.Decoded.{Decoded}
 use Rattle.npf_packet.specs.declared.decoded.Decoded.TheVariants.{Skip}
-use Rattle.npf_packet.specs.declared.packet.Packet.{Packet}
+use Rattle.npf_packet.specs.declared.packet.IpPacket.{IpPacket}
 use Rattle.npf_packet.specs.declared.ipv6.Header.{Header}
 use Rattle.npf_fields.specs.Field.{number16, number128}
 use Rattle.npf_packet.specs.Field.{ipv6_payload_length, ipv6_next_header, ipv6_source, ipv6_destination}
@@ -69,7 +69,7 @@ module _ (bytes : List ℕ) (ip_at : ℕ) where
 
   -- what the last header says: an extension header isn't whole, a fragment (44) isn't looked into, and any other kind
   -- is the protocol of what is carried
-  abbrev pub behind_last : ℕ → Header → Result Packet Decoded
+  abbrev pub behind_last : ℕ → Header → Result IpPacket Decoded
   behind_last end last =
       if is_extension last.kind then Err (cut end)
       else (if last.kind == 44 then Err (fragment_answer end last.at)
@@ -83,10 +83,10 @@ module _ (bytes : List ℕ) (ip_at : ℕ) where
       }))
 
   -- what the headers say of a packet that is whole
-  pub record IsBehindChain (end : ℕ) (header : Result Packet Decoded) : Type 0 where
+  pub record IsBehindChain (end : ℕ) (header : Result IpPacket Decoded) : Type 0 where
     pub last : Header
     pub chain : HasLast end last
     pub says : header ≡ behind_last end last
 
-  abbrev pub IsPacketV6 : Result Packet Decoded → Type 0
+  abbrev pub IsPacketV6 : Result IpPacket Decoded → Type 0
   IsPacketV6 header = MatchResult end_v6 (λ end. IsBehindChain end header) (λ answer. header ≡ Err answer)

@@ -1,6 +1,6 @@
 pub mod Chain
 pub mod Decoded
-pub mod Decoding
+pub mod Decoder
 pub mod DecodingLaw
 pub mod Ethernet
 pub mod Extent

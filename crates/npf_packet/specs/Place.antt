@@ -7,7 +7,7 @@ use Rattle.npf_types.specs.declared.facts.Facts.{Facts}
 use Rattle.npf_types.specs.declared.facts.L4.{L4}
 use Rattle.npf_types.specs.declared.facts.L4.TheVariants.{Tcp, Udp, Icmp, Icmp6, Other}
 use Rattle.npf_types.specs.declared.link.Link.{Link}
-use Rattle.npf_packet.specs.Decoding.{packet_at}
+use Rattle.npf_packet.specs.Decoder.{packet_at}
 
 -- an IP header without options has this many bytes (RFC 791 section 3.1, RFC 8200 section 3)
 abbrev pub least_ip_header : Addr → ℕ

@@ -11,7 +11,7 @@ use Rattle.npf_types.specs.declared.facts.L4.{L4}
 use Rattle.npf_types.specs.declared.facts.L4.TheVariants.{Tcp}
 use Rattle.npf_packet.specs.declared.decoded.Decoded.{Decoded}
 use Rattle.npf_packet.specs.declared.decoded.Decoded.TheVariants.{Ip}
-use Rattle.npf_packet.specs.declared.packet.Packet.{Packet}
+use Rattle.npf_packet.specs.declared.packet.IpPacket.{IpPacket}
 use Rattle.npf_packet.specs.declared.tcp_option.Options.{Options}
 use Rattle.npf_fields.specs.Field.{number16, number32}
 use Rattle.npf_packet.specs.Field.{l4_source_port, l4_destination_port, tcp_sequence, tcp_acknowledgment, tcp_data_offset, tcp_flags, tcp_window}
@@ -19,7 +19,7 @@ use Rattle.npf_packet.specs.Decoded.{cut, bad}
 use Rattle.npf_packet.specs.TcpOption.{HasOptions}
 use Rattle.npf_packet.specs.Packet.{facts_of}
 
-module _ (bytes : List ℕ) (packet : Packet) where
+module _ (bytes : List ℕ) (packet : IpPacket) where
   -- the header's length in bytes: the data offset counts words of four
   abbrev pub header_len : ℕ
   header_len = 4 * (slice_index bytes (packet.l4_at + tcp_data_offset) / 16)

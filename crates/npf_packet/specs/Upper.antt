@@ -5,7 +5,7 @@ use Rattle.npf_types.specs.declared.address.Addr.TheVariants.{V4, V6}
 use Rattle.npf_types.specs.declared.facts.L4.TheVariants as L4
 use Rattle.npf_packet.specs.declared.decoded.Decoded.{Decoded}
 use Rattle.npf_packet.specs.declared.decoded.Decoded.TheVariants.{Ip}
-use Rattle.npf_packet.specs.declared.packet.Packet.{Packet}
+use Rattle.npf_packet.specs.declared.packet.IpPacket.{IpPacket}
 use Rattle.npf_packet.specs.declared.upper.Upper.{Upper}
 use Rattle.npf_packet.specs.declared.upper.Upper.TheVariants.{Tcp, Udp, Icmp, Icmpv6, Other}
 use Rattle.npf_packet.specs.Packet.{facts_of}
@@ -20,12 +20,12 @@ upper_of (V4 _) proto = if proto == 6 then Tcp else (if proto == 17 then Udp els
 upper_of (V6 _) proto = if proto == 6 then Tcp else (if proto == 17 then Udp else (if proto == 58 then Icmpv6 else Other))
 
 -- the packet carries this protocol, and says this
-abbrev pub CarriesAs : Upper → List ℕ → Packet → Decoded → Type 0
+abbrev pub CarriesAs : Upper → List ℕ → IpPacket → Decoded → Type 0
 CarriesAs Tcp bytes packet decoded = CarriesTcp bytes packet decoded
 CarriesAs Udp bytes packet decoded = decoded ≡ decoding_udp bytes packet
 CarriesAs Icmp bytes packet decoded = decoded ≡ decoding_icmp bytes packet
 CarriesAs Icmpv6 bytes packet decoded = decoded ≡ decoding_icmpv6 bytes packet
 CarriesAs Other bytes packet decoded = decoded ≡ Ip (facts_of packet L4.Other)
 
-abbrev pub Carries : List ℕ → Packet → Decoded → Type 0
+abbrev pub Carries : List ℕ → IpPacket → Decoded → Type 0
 Carries bytes packet decoded = CarriesAs (upper_of packet.src packet.proto) bytes packet decoded

@@ -1,3 +1,4 @@
+// What a packet is decoded as.
 use npf_types::Facts;
 
 /// What is wrong with a packet: it ends too early, or a field says what can't be.

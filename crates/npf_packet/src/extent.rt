@@ -2,10 +2,10 @@
 ghost use Rattle.std.specs.Prelude.{◌≡◌, ◌+◌, ◌≤◌, length};
 ghost use Rattle.npf_types.specs.declared.facts.Facts.{Facts};
 ghost use Rattle.npf_packet.specs.declared.decoded.Decoded.TheVariants.{Ip};
-ghost use Rattle.npf_packet.specs.Decoding.{Decodes};
+ghost use Rattle.npf_packet.specs.Decoder.{Decodes};
 ghost use Rattle.npf_packet.specs.Extent.{IsIpExtent, told_end};
 
-use crate::decoding::packet_at;
+use crate::decoder::packet_at;
 use crate::version::version_at;
 use crate::{ipv4, ipv6};
 use npf_types::Link;

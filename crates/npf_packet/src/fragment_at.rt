@@ -4,10 +4,10 @@
 // a fragment (`whole_v4`), and each header of IPv6's chain keeps the place of the byte that names it.
 ghost use Rattle.std.specs.Prelude.{◌≤◌, length, IfSome};
 ghost use Rattle.npf_packet.specs.declared.version.Version.TheVariants.{V4, V6};
-ghost use Rattle.npf_packet.specs.Decoding.{packet_at};
+ghost use Rattle.npf_packet.specs.Decoder.{packet_at};
 ghost use Rattle.npf_packet.specs.FragmentAt.{FindsFragment, FindsIn, IsPlacedFragment};
 
-use crate::decoding::{packet_at, version_behind};
+use crate::decoder::{packet_at, version_behind};
 use crate::ipv4::{self, whole_v4};
 use crate::ipv6::{self, end_v6, last_header};
 use crate::version::Version;

@@ -4,7 +4,7 @@ ghost use Rattle.npf_packet.specs.Ipv4.{is_fragment, packet_v4, total_len, whole
 ghost use Rattle.npf_packet.specs.Packet.{IsPlaced};
 
 use crate::decoded::Decoded;
-use crate::packet::Packet;
+use crate::packet::IpPacket;
 use npf_fields::{get16, get32};
 use npf_types::Addr;
 use npf_types::limits::MAX_PACKET_BYTES;
@@ -26,7 +26,7 @@ mod field {
 const HEADER: usize = 20;
 
 /// What the header says that begins at `ip_at`, or the answer where one of its tests fits.
-pub(crate) fn packet_v4(bytes: &[u8], ip_at: usize) -> Result<Packet, Decoded>
+pub(crate) fn packet_v4(bytes: &[u8], ip_at: usize) -> Result<IpPacket, Decoded>
     requires size { length bytes.now ≤ MAX_PACKET_BYTES }
     requires place { ip_at ≤ 14 }
     ensures value { result ≡ packet_v4 bytes.now ip_at }
@@ -43,7 +43,7 @@ pub(crate) fn packet_v4(bytes: &[u8], ip_at: usize) -> Result<Packet, Decoded>
 }
 
 /// The same of a packet that may be a fragment.
-pub(crate) fn whole_v4(bytes: &[u8], ip_at: usize) -> Result<Packet, Decoded>
+pub(crate) fn whole_v4(bytes: &[u8], ip_at: usize) -> Result<IpPacket, Decoded>
     requires size { length bytes.now ≤ MAX_PACKET_BYTES }
     requires place { ip_at ≤ 14 }
     ensures value { result ≡ whole_v4 bytes.now ip_at }
@@ -65,7 +65,7 @@ pub(crate) fn whole_v4(bytes: &[u8], ip_at: usize) -> Result<Packet, Decoded>
     if size < ip_at + total_len {
         return Err(Decoded::cut(size));
     }
-    Ok(Packet {
+    Ok(IpPacket {
         src: Addr::V4(get32(bytes, ip_at + field::SOURCE)),
         dst: Addr::V4(get32(bytes, ip_at + field::DESTINATION)),
         proto: bytes[ip_at + field::PROTOCOL],

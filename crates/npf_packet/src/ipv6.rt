@@ -7,7 +7,7 @@ ghost use Rattle.npf_packet.specs.Ipv6.{IsPacketV6, HasLast, end_v6, is_extensio
 ghost use Rattle.npf_packet.specs.Packet.{IsPlaced};
 
 use crate::decoded::Decoded;
-use crate::packet::Packet;
+use crate::packet::IpPacket;
 use npf_fields::{get16, get128};
 use npf_types::Addr;
 use npf_types::limits::MAX_PACKET_BYTES;
@@ -51,7 +51,7 @@ pub(crate) struct Header {
 }
 
 /// What the headers say of which the first begins at `ip_at`, or the answer where one of their tests fits.
-pub(crate) fn packet_v6(bytes: &[u8], ip_at: usize) -> Result<Packet, Decoded>
+pub(crate) fn packet_v6(bytes: &[u8], ip_at: usize) -> Result<IpPacket, Decoded>
     requires size { length bytes.now ≤ MAX_PACKET_BYTES }
     requires place { ip_at ≤ 14 }
     ensures value { IsPacketV6 bytes.now ip_at result }
@@ -68,7 +68,7 @@ pub(crate) fn packet_v6(bytes: &[u8], ip_at: usize) -> Result<Packet, Decoded>
     if last.kind == kind::FRAGMENT {
         return Err(fragment_answer(end, last.at));
     }
-    Ok(Packet {
+    Ok(IpPacket {
         src: Addr::V6(get128(bytes, ip_at + field::SOURCE)),
         dst: Addr::V6(get128(bytes, ip_at + field::DESTINATION)),
         proto: last.kind,

@@ -14,7 +14,7 @@
 #![tactic(auto)]
 
 mod decoded;
-mod decoding;
+mod decoder;
 mod ethernet;
 mod extent;
 mod fragment_at;
@@ -31,7 +31,7 @@ mod upper;
 mod version;
 
 pub use decoded::{BadPacket, Decoded};
-pub use decoding::decode;
+pub use decoder::decode;
 pub use extent::{IpExtent, ip_extent};
 pub use fragment_at::{FragmentAt, fragment};
 pub use laws::{

@@ -1,3 +1,4 @@
+// What the headers of IP say.
 ghost use Rattle.std.specs.Prelude.{◌≡◌, ◌≤◌, length};
 
 use npf_types::limits::MAX_PACKET_BYTES;
@@ -6,7 +7,7 @@ use npf_types::{Addr, Facts, L4};
 /// What the headers of IP say: the addresses, the protocol of what is carried, and where the IP header, what is
 /// carried and the packet's end are, in bytes from the record's first.
 #[derive(Clone, Copy)]
-pub(crate) struct Packet {
+pub(crate) struct IpPacket {
     pub(crate) src: Addr,
     pub(crate) dst: Addr,
     pub(crate) proto: u8,
@@ -15,7 +16,7 @@ pub(crate) struct Packet {
     pub(crate) end: usize,
 }
 
-impl Packet {
+impl IpPacket {
     ghost use Rattle.npf_packet.specs.Packet.{facts_of};
 
     /// The facts of a packet that carries this.

@@ -4,7 +4,7 @@ ghost use Rattle.npf_packet.specs.Packet.{IsPlaced};
 ghost use Rattle.npf_packet.specs.Tcp.{CarriesTcp, header_end, segment_of};
 
 use crate::decoded::Decoded;
-use crate::packet::Packet;
+use crate::packet::IpPacket;
 use crate::tcp_option::{Options, options_between};
 use npf_fields::{get16, get32};
 use npf_types::limits::MAX_PACKET_BYTES;
@@ -31,7 +31,7 @@ mod field {
 const HEADER: usize = 20;
 
 /// What a packet says that carries TCP.
-pub(crate) fn decode_tcp(bytes: &[u8], packet: Packet) -> Decoded
+pub(crate) fn decode_tcp(bytes: &[u8], packet: IpPacket) -> Decoded
     requires size { length bytes.now ≤ MAX_PACKET_BYTES }
     requires placed { IsPlaced bytes.now packet }
     ensures { CarriesTcp bytes.now packet result }
@@ -46,7 +46,7 @@ pub(crate) fn decode_tcp(bytes: &[u8], packet: Packet) -> Decoded
 }
 
 /// Where the header ends, or the answer where one of its tests fits.
-fn header_end(bytes: &[u8], packet: Packet) -> Result<usize, Decoded>
+fn header_end(bytes: &[u8], packet: IpPacket) -> Result<usize, Decoded>
     requires size { length bytes.now ≤ MAX_PACKET_BYTES }
     requires placed { IsPlaced bytes.now packet }
     ensures value { result ≡ header_end bytes.now packet }
@@ -74,7 +74,7 @@ fn header_len(byte: u8) -> usize
 }
 
 /// What a segment says whose header is whole.
-fn segment(bytes: &[u8], packet: Packet, header_end: usize, options: Options) -> L4
+fn segment(bytes: &[u8], packet: IpPacket, header_end: usize, options: Options) -> L4
     requires size { length bytes.now ≤ MAX_PACKET_BYTES }
     requires placed { IsPlaced bytes.now packet }
     requires after { packet.l4_at + 20 ≤ header_end }

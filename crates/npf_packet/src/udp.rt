@@ -4,7 +4,7 @@ ghost use Rattle.npf_packet.specs.Packet.{IsPlaced};
 ghost use Rattle.npf_packet.specs.Udp.{decoding_udp};
 
 use crate::decoded::Decoded;
-use crate::packet::Packet;
+use crate::packet::IpPacket;
 use npf_fields::get16;
 use npf_types::L4;
 use npf_types::limits::MAX_PACKET_BYTES;
@@ -20,7 +20,7 @@ mod field {
 const HEADER: usize = 8;
 
 /// What a packet says that carries UDP.
-pub(crate) fn decode_udp(bytes: &[u8], packet: Packet) -> Decoded
+pub(crate) fn decode_udp(bytes: &[u8], packet: IpPacket) -> Decoded
     requires size { length bytes.now ≤ MAX_PACKET_BYTES }
     requires placed { IsPlaced bytes.now packet }
     ensures { result ≡ decoding_udp bytes.now packet }

@@ -6,7 +6,7 @@ ghost use Rattle.npf_packet.specs.Upper.{Carries, upper_of};
 use crate::decoded::Decoded;
 use crate::icmp::decode_icmp;
 use crate::icmpv6::decode_icmpv6;
-use crate::packet::Packet;
+use crate::packet::IpPacket;
 use crate::tcp::decode_tcp;
 use crate::udp::decode_udp;
 use npf_types::limits::MAX_PACKET_BYTES;
@@ -31,7 +31,7 @@ const UDP: u8 = 17;
 const ICMPV6: u8 = 58;
 
 /// What a packet says whose IP headers say this.
-pub(crate) fn decode_upper(bytes: &[u8], packet: Packet) -> Decoded
+pub(crate) fn decode_upper(bytes: &[u8], packet: IpPacket) -> Decoded
     requires size { length bytes.now ≤ MAX_PACKET_BYTES }
     requires placed { IsPlaced bytes.now packet }
     ensures { Carries bytes.now packet result }

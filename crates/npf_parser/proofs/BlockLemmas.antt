@@ -1,15 +1,9 @@
 -- What a loop over the items of a block knows at each of its turns, and what it has to show.
-use Rattle.std.proofs.Common.{◌≡◌, Bool, true, false, Option, Some, None, Ok, Err, List, [], ◌∷◌, ◌++◌, refl, sym, ap, ◌∙◌, append-nil}
-use Rattle.std.specs.Borrow.{Bor}
+use Rattle.std.{proofs.Common.{◌≡◌, Bool, true, false, Option, Some, None, Ok, Err, List, [], ◌∷◌, ◌++◌, refl, sym, ap, ◌∙◌, append-nil}, specs.Borrow.Bor}
 use Rattle.npf_lexer.specs.declared.token.Token.{Token}
-use Rattle.npf_phrase.specs.Phrase.{Reading, head}
-use Rattle.npf_phrase.specs.Grammar.{Grammar, meaning, preceded, unless, block_of}
-use Rattle.npf_phrase.proofs.ListLemmas.{extend, goes_on, ends_with, fails_at, left_out, not_left_out}
-use Rattle.npf_phrase.proofs.TestLemmas.{advances}
-use Rattle.npf_parser_values.specs.declared.stop.Stop.{Stop}
-use Rattle.npf_parser_values.specs.declared.stop.Stop.TheVariants.{Before, NoMemory}
-use Rattle.npf_parser_values.specs.Answer.{Answers, Begins}
-use Rattle.npf_parser_values.specs.Token.{separator}
+use Rattle.npf_phrase.specs.{Phrase.{Reading, head}, Grammar.{Grammar, meaning, preceded, unless, block_of}}
+use Rattle.npf_phrase.proofs.{ListLemmas.{extend, goes_on, ends_with, fails_at, left_out, not_left_out}, TestLemmas.advances}
+use Rattle.npf_parser_values.specs.{declared.stop.Stop.{Stop, TheVariants.{Before, NoMemory}}, Answer.{Answers, Begins}, Token.separator}
 
 -- a block, whose items may be empty
 module _ {A : Type 0} (closes : Option Token → Bool) (g : Grammar Token A) (is : advances (preceded separator (unless closes g)) ≡ true)
@@ -22,7 +16,8 @@ module _ {A : Type 0} (closes : Option Token → Bool) (g : Grammar Token A) (is
   pub block_closes : true ≡ closes (head ts) → Begins separator ts None → all ≡ Ok (done, ts)
   block_closes closed lacks = ends_with separator (unless closes g) is refl all done ts so_far None ts (left_out closes g ts (sym closed)) lacks.0 ∙ ap (λ items. Ok (items, ts)) (append-nil done)
 
-  pub block_goes : (a : A) (us vs : Bor (List Token)) → false ≡ closes (head ts) → (meaning g).read ts ≡ Ok (a, us.now) → Begins separator us.now (Some vs) → all ≡ extend (done ++ a ∷ []) ((meaning (block_of separator closes g)).read vs.now)
+  pub block_goes : (a : A) (us vs : Bor (List Token)) → false ≡ closes (head ts) → (meaning g).read ts ≡ Ok (a, us.now) →
+      Begins separator us.now (Some vs) → all ≡ extend (done ++ a ∷ []) ((meaning (block_of separator closes g)).read vs.now)
   block_goes a us vs stands reads begins =
       goes_on separator (unless closes g) is refl all done ts so_far (Some a) us.now vs.now tt (not_left_out closes g ts (Ok (a, us.now)) (sym stands) reads) begins.0 begins.1
 

@@ -2,17 +2,11 @@
 use Rattle.std.proofs.Common.{◌≡◌, ◌⊎◌, inl, inr, true, false, None, Ok, Err, List, [], ◌++◌, refl, sym, ap, ◌∙◌}
 use Rattle.npf_types.specs.declared.span.Span.{Span}
 use Rattle.npf_lexer.specs.declared.token.Token.{Token}
-use Rattle.npf_phrase.specs.Phrase.{Reading}
-use Rattle.npf_phrase.specs.Grammar.{Grammar, meaning, loose}
+use Rattle.npf_phrase.specs.{Phrase.Reading, Grammar.{Grammar, meaning, loose}}
 use Rattle.npf_phrase.proofs.GrammarLemmas.{settled, read_takes, read_stopped, one_meaning, one_stop, never_both, hopeless, halts_unfit}
-use Rattle.npf_phrase.proofs.SettledLemmas.{Outcome, Settled}
-use Rattle.npf_phrase.proofs.TestLemmas.{advances, fine}
-use Rattle.npf_phrase.proofs.LooseLemmas.{viable}
-use Rattle.npf_parser_values.specs.declared.stop.Stop.{Stop}
-use Rattle.npf_parser_values.specs.declared.stop.Stop.TheVariants.{Before, NoMemory}
-use Rattle.npf_parser_values.specs.Answer.{Answers, refused_by}
+use Rattle.npf_phrase.proofs.{SettledLemmas.{Outcome, Settled}, TestLemmas.{advances, fine}, LooseLemmas.viable}
+use Rattle.npf_parser_values.specs.{declared.stop.Stop.{Stop, TheVariants.{Before, NoMemory}}, Answer.{Answers, refused_by}, Token.place_of}
 use Rattle.npf_parser.specs.Parse.{Means, HasMeaning, HaltsAt, StopsAt, OnFault, AnswersUnlessMemory, FaultsUnlessMemory}
-use Rattle.npf_parser_values.specs.Token.{place_of}
 
 module _ {A : Type 0} (g : Grammar Token A) (is : advances g ≡ true) where
   it : Settled (meaning g)

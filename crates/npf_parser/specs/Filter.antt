@@ -4,14 +4,14 @@ use Rattle.npf_lexer.specs.declared.token.Sign.{Sign}
 use Rattle.npf_lexer.specs.declared.token.Token.{Token}
 use Rattle.npf_syntax.specs.declared.filter.Addresses.{Addresses}
 use Rattle.npf_syntax.specs.declared.filter.Detail.{Detail}
-use Rattle.npf_syntax.specs.declared.filter.Ends.{Ends}
+use Rattle.npf_syntax.specs.declared.filter.EndsTree.{EndsTree}
 use Rattle.npf_syntax.specs.declared.filter.Family.{Family}
 use Rattle.npf_syntax.specs.declared.filter.Filter.{Filter}
 use Rattle.npf_syntax.specs.declared.filter.ProtoPart.{ProtoPart}
 use Rattle.npf_syntax.specs.declared.filter.Where.{Where}
 use Rattle.npf_syntax.specs.declared.value.Values.{Values}
 use Rattle.npf_phrase.specs.Grammar.{Grammar, making, ◌&◌, ◌or◌, optional, preceded}
-use Rattle.npf_parser_values.specs.declared.role.Role.{Role}
+use Rattle.npf_parser_values.specs.declared.role.ValueRole.{ValueRole}
 use Rattle.npf_parser_values.specs.Token.{span_of, quoted, says, sign, flags, number_to}
 use Rattle.npf_parser_values.specs.Value.{protocols, value, value_list, values}
 
@@ -38,18 +38,18 @@ proto_part = making (λ ts a. record { protocols = a.0; detail = a.1; span = spa
 unfoldable pub addresses : Grammar Token Addresses
 addresses =
     says (codes "any") Addresses.Any
-    or making (λ ts list. Addresses.List list (span_of ts)) (value_list Role.Address)
-    or making (λ ts v. Addresses.One v (span_of ts)) (value Role.Address false)
+    or making (λ ts list. Addresses.List list (span_of ts)) (value_list ValueRole.Address)
+    or making (λ ts v. Addresses.One v (span_of ts)) (value ValueRole.Address false)
 
 -- "port" ( value | vlist )
 unfoldable pub ports : Grammar Token Values
-ports = preceded (quoted (codes "port")) (values Role.Port)
+ports = preceded (quoted (codes "port")) (values ValueRole.Port)
 
 -- ends = ( "any" | value | vlist ) [ "port" ( value | vlist ) ] | "port" ( value | vlist )
-unfoldable pub ends : Grammar Token Ends
+unfoldable pub ends : Grammar Token EndsTree
 ends =
-    making (λ ts ports. Ends.Ports ports (span_of ts)) ports
-    or making (λ ts a. Ends.Addresses a.0 a.1 (span_of ts)) (addresses & optional ports)
+    making (λ ts ports. EndsTree.Ports ports (span_of ts)) ports
+    or making (λ ts a. EndsTree.Addresses a.0 a.1 (span_of ts)) (addresses & optional ports)
 
 -- "all" | "from" ends [ "to" ends ] | "to" ends
 unfoldable pub the_ends : Grammar Token Where

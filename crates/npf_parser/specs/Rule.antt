@@ -3,21 +3,21 @@ use Rattle.std.specs.Prelude.{Bool, true, false, ◌||◌, Option, List, codes}
 use Rattle.npf_lexer.specs.declared.token.Sign.{Sign}
 use Rattle.npf_lexer.specs.declared.token.Token.{Token}
 use Rattle.npf_syntax.specs.declared.group.GroupHead.{GroupHead}
-use Rattle.npf_syntax.specs.declared.group.Item.{Item}
-use Rattle.npf_syntax.specs.declared.rule.Answer.{Answer}
+use Rattle.npf_syntax.specs.declared.group.ItemTree.{ItemTree}
+use Rattle.npf_syntax.specs.declared.rule.BlockReturn.{BlockReturn}
 use Rattle.npf_syntax.specs.declared.rule.Direction.{Direction}
 use Rattle.npf_syntax.specs.declared.rule.RuleAction.{RuleAction}
 use Rattle.npf_syntax.specs.declared.rule.RuleTree.{RuleTree}
 use Rattle.npf_syntax.specs.declared.rule.Stateful.{Stateful as StatefulTree}
-use Rattle.npf_syntax.specs.declared.value.Iface.{Iface}
+use Rattle.npf_syntax.specs.declared.value.IfaceTree.{IfaceTree}
 use Rattle.npf_phrase.specs.Grammar.{Grammar, meaning, pure, making, ◌&◌, ◌or◌, optional, preceded, block_of}
 use Rattle.npf_parser_values.specs.Token.{span_of, quoted, says, sign, separator, string, name_string}
 use Rattle.npf_parser_values.specs.Value.{iface}
 use Rattle.npf_parser.specs.Filter.{filter}
 
 -- "return" | "return-rst" | "return-icmp"
-unfoldable pub answer : Grammar Token Answer
-answer = says (codes "return") Answer.Return or says (codes "return-rst") Answer.ReturnRst or says (codes "return-icmp") Answer.ReturnIcmp
+unfoldable pub answer : Grammar Token BlockReturn
+answer = says (codes "return") BlockReturn.Return or says (codes "return-rst") BlockReturn.ReturnRst or says (codes "return-icmp") BlockReturn.ReturnIcmp
 
 -- "block" [ answer ] | "pass"
 unfoldable pub action : Grammar Token RuleAction
@@ -36,7 +36,7 @@ unfoldable pub ends_walk : Grammar Token Bool
 ends_walk = says (codes "final") (λ _. true) or pure false
 
 -- "on" iface
-unfoldable pub on : Grammar Token Iface
+unfoldable pub on : Grammar Token IfaceTree
 on = preceded (quoted (codes "on")) iface
 
 -- rule = action [ "stateful" | "stateful-all" ] [ dir ] [ "final" ] [ "on" iface ] filter [ "apply" STRING ]
@@ -46,10 +46,10 @@ rule =
     (action & optional stateful & optional direction & ends_walk & optional on & filter & optional (preceded (quoted (codes "apply")) string))
 
 -- item = rule | "ruleset" STRING [ dir ] [ "on" iface ]
-unfoldable pub item : Grammar Token Item
+unfoldable pub item : Grammar Token ItemTree
 item =
-    making (λ ts a. Item.Ruleset a.0 a.1.0 a.1.1 (span_of ts)) (preceded (quoted (codes "ruleset")) (name_string & optional direction & optional on))
-    or making (λ ts rule. Item.Rule rule (span_of ts)) rule
+    making (λ ts a. ItemTree.Ruleset a.0 a.1.0 a.1.1 (span_of ts)) (preceded (quoted (codes "ruleset")) (name_string & optional direction & optional on))
+    or making (λ ts rule. ItemTree.Rule rule (span_of ts)) rule
 
 -- STRING [ dir ] [ "on" iface ] | "default"
 unfoldable pub head : Grammar Token GroupHead
@@ -60,5 +60,5 @@ abbrev pub ends_item : Option Token → Bool
 ends_item n = (meaning separator).starts n || (meaning (sign Sign.CloseBrace)).starts n
 
 -- { [ item ] sep }*
-unfoldable pub items : Grammar Token (List Item)
+unfoldable pub items : Grammar Token (List ItemTree)
 items = block_of separator ends_item item

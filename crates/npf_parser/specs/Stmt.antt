@@ -9,7 +9,7 @@ use Rattle.npf_syntax.specs.declared.stmt.Stmt.{Stmt}
 use Rattle.npf_syntax.specs.declared.stmt.TableType.{TableType}
 use Rattle.npf_syntax.specs.declared.stmt.Tree.{Tree}
 use Rattle.npf_phrase.specs.Grammar.{Grammar, meaning, making, ◌&◌, ◌or◌, optional, preceded, terminated, block_of}
-use Rattle.npf_parser_values.specs.declared.role.Role.{Role}
+use Rattle.npf_parser_values.specs.declared.role.ValueRole.{ValueRole}
 use Rattle.npf_parser_values.specs.Token.{span_of, quoted, says, sign, separator, string, word, variable, number, name_word, text_string, is_over, end_token, text_end}
 use Rattle.npf_parser_values.specs.Value.{iface, one, values}
 use Rattle.npf_parser.specs.Filter.{filter}
@@ -19,7 +19,7 @@ use Rattle.npf_parser.specs.Procedure.{calls}
 
 -- VAR "=" ( value | vlist )
 unfoldable pub define : Grammar Token Stmt
-define = making (λ ts a. Stmt.Define a.0 a.1 (span_of ts)) (variable & preceded (sign Sign.Equals) (values Role.Any))
+define = making (λ ts a. Stmt.Define a.0 a.1 (span_of ts)) (variable & preceded (sign Sign.Equals) (values ValueRole.Any))
 
 -- WORD | NUMBER
 unfoldable pub setting : Grammar Token Setting

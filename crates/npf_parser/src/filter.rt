@@ -8,11 +8,11 @@ ghost use Rattle.npf_parser.specs.Filter.{family, flags_detail, icmp_detail, det
 
 use npf_lexer::{Sign, Token};
 use npf_parser_values::{
-    Role, Stop, after_word, behind_sign, behind_word, read_flags, read_number_to, read_protocols,
-    read_value, read_value_list, read_values, span_to,
+    Stop, ValueRole, after_word, behind_sign, behind_word, read_flags, read_number_to,
+    read_protocols, read_value, read_value_list, read_values, span_to,
 };
 use npf_syntax::{
-    Addresses, Boxed, Detail, Ends, Family, Filter, Number, ProtoPart, Values, Where, Word,
+    Addresses, Boxed, Detail, EndsTree, Family, Filter, Number, ProtoPart, Values, Where, Word,
 };
 use std::alloc::Global;
 
@@ -147,12 +147,12 @@ fn read_addresses<'a>(
     }
     match behind_sign(Sign::OpenBrace, tokens) {
         Some(_) => {
-            let (list, rest) = read_value_list(alloc, Role::Address, tokens)?;
+            let (list, rest) = read_value_list(alloc, ValueRole::Address, tokens)?;
             let span = span_to(tokens, rest);
             Ok((Addresses::List { list, span }, rest))
         }
         None => {
-            let (value, rest) = read_value(alloc, Role::Address, false, tokens)?;
+            let (value, rest) = read_value(alloc, ValueRole::Address, false, tokens)?;
             let span = span_to(tokens, rest);
             Ok((Addresses::One { value, span }, rest))
         }
@@ -168,7 +168,7 @@ fn read_optional_ports<'a>(
 {
     match behind_word("port", tokens) {
         Some(rest) => {
-            let (ports, rest) = read_values(alloc, Role::Port, rest)?;
+            let (ports, rest) = read_values(alloc, ValueRole::Port, rest)?;
             Ok((Some(ports), rest))
         }
         None => Ok((None, tokens)),
@@ -176,21 +176,21 @@ fn read_optional_ports<'a>(
 }
 
 #[tactic(auto, unfolding(crate::specs::Filter::ends, crate::specs::Filter::ports))]
-fn read_ends<'a>(alloc: Global, tokens: &'a [Token]) -> Result<(Ends, &'a [Token]), Stop<'a>>
+fn read_ends<'a>(alloc: Global, tokens: &'a [Token]) -> Result<(EndsTree, &'a [Token]), Stop<'a>>
     ensures { Answers ((meaning ends).read tokens.now) result }
 {
     match behind_word("port", tokens) {
         Some(rest) => {
-            let (ports, rest) = read_values(alloc, Role::Port, rest)?;
+            let (ports, rest) = read_values(alloc, ValueRole::Port, rest)?;
             let span = span_to(tokens, rest);
-            Ok((Ends::Ports { ports, span }, rest))
+            Ok((EndsTree::Ports { ports, span }, rest))
         }
         None => {
             let (addresses, rest) = read_addresses(alloc, tokens)?;
             let (ports, rest) = read_optional_ports(alloc, rest)?;
             let span = span_to(tokens, rest);
             Ok((
-                Ends::Addresses {
+                EndsTree::Addresses {
                     addresses,
                     ports,
                     span,
@@ -204,7 +204,7 @@ fn read_ends<'a>(alloc: Global, tokens: &'a [Token]) -> Result<(Ends, &'a [Token
 fn read_optional_to<'a>(
     alloc: Global,
     tokens: &'a [Token],
-) -> Result<(Option<Boxed<Ends>>, &'a [Token]), Stop<'a>>
+) -> Result<(Option<Boxed<EndsTree>>, &'a [Token]), Stop<'a>>
     ensures { Answers ((meaning (optional (preceded (quoted (codes "to")) ends))).read tokens.now) result }
 {
     match behind_word("to", tokens) {

@@ -12,12 +12,12 @@ use npf_parser_values::{
     Stop, after_sign, after_word, behind_separator, behind_sign, behind_word, is_at_separator,
     read_name_string, read_string, span_to,
 };
-use npf_syntax::{GroupHead, Item, Stmt};
+use npf_syntax::{GroupHead, ItemTree, Stmt};
 use npf_types::List;
 use std::alloc::Global;
 
 #[tactic(auto, unfolding(crate::specs::Rule::item))]
-fn read_item<'a>(alloc: Global, tokens: &'a [Token]) -> Result<(Item, &'a [Token]), Stop<'a>>
+fn read_item<'a>(alloc: Global, tokens: &'a [Token]) -> Result<(ItemTree, &'a [Token]), Stop<'a>>
     ensures { Answers ((meaning item).read tokens.now) result }
 {
     match behind_word("ruleset", tokens) {
@@ -27,7 +27,7 @@ fn read_item<'a>(alloc: Global, tokens: &'a [Token]) -> Result<(Item, &'a [Token
             let (on, rest) = read_on(alloc, rest)?;
             let span = span_to(tokens, rest);
             Ok((
-                Item::Ruleset {
+                ItemTree::Ruleset {
                     name,
                     dir,
                     on,
@@ -39,7 +39,7 @@ fn read_item<'a>(alloc: Global, tokens: &'a [Token]) -> Result<(Item, &'a [Token
         None => {
             let (rule, rest) = read_rule(alloc, tokens)?;
             let span = span_to(tokens, rest);
-            Ok((Item::Rule { rule, span }, rest))
+            Ok((ItemTree::Rule { rule, span }, rest))
         }
     }
 }
@@ -79,7 +79,10 @@ pub(crate) fn ends_item(tokens: &[Token]) -> bool
 }
 
 /// Items with separators between them.
-fn read_items<'a>(alloc: Global, tokens: &'a [Token]) -> Result<(List<Item>, &'a [Token]), Stop<'a>>
+fn read_items<'a>(
+    alloc: Global,
+    tokens: &'a [Token],
+) -> Result<(List<ItemTree>, &'a [Token]), Stop<'a>>
     ensures { Answers ((meaning items).read tokens.now) result }
 {
     let mut items = Vec::new(alloc);

@@ -11,10 +11,10 @@ ghost use Rattle.npf_parser.specs.Stmt.{map};
 use crate::filter::read_filter;
 use npf_lexer::{Sign, Token};
 use npf_parser_values::{
-    Role, Stop, after_word, behind_sign, behind_word, read_iface, read_one, read_value, read_word,
-    span_to,
+    Stop, ValueRole, after_word, behind_sign, behind_word, read_iface, read_one, read_value,
+    read_word, span_to,
 };
-use npf_syntax::{Arrow, Boxed, Filter, MapKind, One, Side, Stmt, Value, Word};
+use npf_syntax::{ArrowTree, Boxed, Filter, MapKind, One, SideTree, Stmt, Value, Word};
 use std::alloc::Global;
 
 fn read_algo<'a>(
@@ -51,20 +51,20 @@ fn read_map_kind<'a>(alloc: Global, tokens: &'a [Token]) -> Result<(MapKind, &'a
 }
 
 #[tactic(auto, unfolding(crate::specs::Map::arrow))]
-fn read_arrow(tokens: &[Token]) -> Result<(Arrow, &[Token]), Stop>
+fn read_arrow(tokens: &[Token]) -> Result<(ArrowTree, &[Token]), Stop>
     ensures { AnswersAlone ((meaning arrow).read tokens.now) result }
 {
     if let Some(rest) = behind_sign(Sign::Right, tokens) {
         let span = span_to(tokens, rest);
-        return Ok((Arrow::Right { span }, rest));
+        return Ok((ArrowTree::Right { span }, rest));
     }
     if let Some(rest) = behind_sign(Sign::Left, tokens) {
         let span = span_to(tokens, rest);
-        return Ok((Arrow::Left { span }, rest));
+        return Ok((ArrowTree::Left { span }, rest));
     }
     if let Some(rest) = behind_sign(Sign::Both, tokens) {
         let span = span_to(tokens, rest);
-        return Ok((Arrow::Both { span }, rest));
+        return Ok((ArrowTree::Both { span }, rest));
     }
     Err(Stop::Before(tokens))
 }
@@ -73,11 +73,11 @@ fn read_optional_port<'a>(
     alloc: Global,
     tokens: &'a [Token],
 ) -> Result<(Option<Value>, &'a [Token]), Stop<'a>>
-    ensures { Answers ((meaning (optional (preceded (quoted (codes "port")) (value Role.Port false)))).read tokens.now) result }
+    ensures { Answers ((meaning (optional (preceded (quoted (codes "port")) (value ValueRole.Port false)))).read tokens.now) result }
 {
     match behind_word("port", tokens) {
         Some(rest) => {
-            let (port, rest) = read_value(alloc, Role::Port, false, rest)?;
+            let (port, rest) = read_value(alloc, ValueRole::Port, false, rest)?;
             Ok((Some(port), rest))
         }
         None => Ok((None, tokens)),
@@ -85,13 +85,13 @@ fn read_optional_port<'a>(
 }
 
 #[tactic(auto, unfolding(crate::specs::Map::side))]
-fn read_side<'a>(alloc: Global, tokens: &'a [Token]) -> Result<(Side, &'a [Token]), Stop<'a>>
+fn read_side<'a>(alloc: Global, tokens: &'a [Token]) -> Result<(SideTree, &'a [Token]), Stop<'a>>
     ensures { Answers ((meaning side).read tokens.now) result }
 {
-    let (value, rest) = read_value(alloc, Role::Address, false, tokens)?;
+    let (value, rest) = read_value(alloc, ValueRole::Address, false, tokens)?;
     let (port, rest) = read_optional_port(alloc, rest)?;
     let span = span_to(tokens, rest);
-    Ok((Side { value, port, span }, rest))
+    Ok((SideTree { value, port, span }, rest))
 }
 
 fn read_optional_proto<'a>(

@@ -8,24 +8,24 @@ ghost use Rattle.npf_parser.specs.Rule.{answer, action, stateful, direction, end
 use crate::filter::read_filter;
 use npf_lexer::Token;
 use npf_parser_values::{Stop, behind_word, read_iface, read_string, span_to};
-use npf_syntax::{Answer, Boxed, Direction, Iface, RuleAction, RuleTree, Stateful, Str};
+use npf_syntax::{BlockReturn, Boxed, Direction, IfaceTree, RuleAction, RuleTree, Stateful, Str};
 use std::alloc::Global;
 
 #[tactic(auto, unfolding(crate::specs::Rule::answer))]
-fn answer_of(tokens: &[Token]) -> (Option<Answer>, &[Token])
+fn answer_of(tokens: &[Token]) -> (Option<BlockReturn>, &[Token])
     ensures { (meaning (optional answer)).read tokens.now ≡ Ok (result.0, result.1.now) }
 {
     if let Some(rest) = behind_word("return", tokens) {
         let span = span_to(tokens, rest);
-        return (Some(Answer::Return { span }), rest);
+        return (Some(BlockReturn::Return { span }), rest);
     }
     if let Some(rest) = behind_word("return-rst", tokens) {
         let span = span_to(tokens, rest);
-        return (Some(Answer::ReturnRst { span }), rest);
+        return (Some(BlockReturn::ReturnRst { span }), rest);
     }
     if let Some(rest) = behind_word("return-icmp", tokens) {
         let span = span_to(tokens, rest);
-        return (Some(Answer::ReturnIcmp { span }), rest);
+        return (Some(BlockReturn::ReturnIcmp { span }), rest);
     }
     (None, tokens)
 }
@@ -92,7 +92,7 @@ fn final_of(tokens: &[Token]) -> (bool, &[Token])
 pub(crate) fn read_on<'a>(
     alloc: Global,
     tokens: &'a [Token],
-) -> Result<(Option<Boxed<Iface>>, &'a [Token]), Stop<'a>>
+) -> Result<(Option<Boxed<IfaceTree>>, &'a [Token]), Stop<'a>>
     ensures { Answers ((meaning (optional on)).read tokens.now) result }
 {
     match behind_word("on", tokens) {

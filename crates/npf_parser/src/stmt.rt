@@ -21,9 +21,9 @@ use crate::rule::read_rule;
 use npf_faults::Refused;
 use npf_lexer::{Sign, Token, TokenKind};
 use npf_parser_values::{
-    Role, Stop, after_sign, after_word, behind_separator, behind_word, is_at_separator, read_end,
-    read_name_word, read_number, read_string, read_text_string, read_values, read_variable,
-    read_word, refused_by, span_to,
+    Stop, ValueRole, after_sign, after_word, behind_separator, behind_word, is_at_separator,
+    read_end, read_name_word, read_number, read_string, read_text_string, read_values,
+    read_variable, read_word, refused_by, span_to,
 };
 use npf_syntax::{RuleTree, Setting, Stmt, Str, TableType, Tree};
 use npf_types::List;
@@ -35,7 +35,7 @@ fn read_define<'a>(alloc: Global, tokens: &'a [Token]) -> Result<(Stmt, &'a [Tok
 {
     let (var, rest) = read_variable(alloc, tokens)?;
     let rest = after_sign(Sign::Equals, rest)?;
-    let (values, rest) = read_values(alloc, Role::Any, rest)?;
+    let (values, rest) = read_values(alloc, ValueRole::Any, rest)?;
     let span = span_to(tokens, rest);
     Ok((Stmt::Define { var, values, span }, rest))
 }

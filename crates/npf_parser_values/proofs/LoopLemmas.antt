@@ -1,18 +1,9 @@
 -- What a loop over tokens knows at each of its turns, and what it has to show.
-use Rattle.std.proofs.Common.{◌≡◌, true, false, Some, None, Ok, Err, List, [], ◌∷◌, ◌++◌, refl, ap, ◌∙◌}
-use Rattle.std.specs.Bool.{⊤}
-use Rattle.std.specs.Borrow.{Bor}
+use Rattle.std.{proofs.Common.{◌≡◌, true, false, Some, None, Ok, Err, List, [], ◌∷◌, ◌++◌, refl, ap, ◌∙◌}, specs.{Bool.⊤, Borrow.Bor}}
 use Rattle.npf_lexer.specs.declared.token.Token.{Token}
-use Rattle.npf_phrase.specs.Phrase.{Reading, ◌>>=◌, with_item}
-use Rattle.npf_phrase.specs.Grammar.{Grammar, meaning, making, any_number, preceded, list_of}
-use Rattle.npf_phrase.proofs.GrammarLemmas.{settled}
-use Rattle.npf_phrase.proofs.ListLemmas.{extend, goes_on, ends_with, fails_at}
-use Rattle.npf_phrase.proofs.TestLemmas.{advances}
-use Rattle.npf_phrase.proofs.NumberLemmas.{number_step}
-use Rattle.npf_parser_values.specs.declared.stop.Stop.{Stop}
-use Rattle.npf_parser_values.specs.declared.stop.Stop.TheVariants.{Before, NoMemory}
-use Rattle.npf_parser_values.specs.Answer.{Answers, Begins}
-use Rattle.npf_parser_values.specs.Token.{line_feed, gap}
+use Rattle.npf_phrase.specs.{Phrase.{Reading, ◌>>=◌, with_item}, Grammar.{Grammar, meaning, making, any_number, preceded, list_of}}
+use Rattle.npf_phrase.proofs.{GrammarLemmas.settled, ListLemmas.{extend, goes_on, ends_with, fails_at}, TestLemmas.advances, NumberLemmas.number_step}
+use Rattle.npf_parser_values.specs.{declared.stop.Stop.{Stop, TheVariants.{Before, NoMemory}}, Answer.{Answers, Begins}, Token.{line_feed, gap}}
 
 feeds_with : (r : Reading Token (List ⊤)) → (with_item tt r >>= (λ a. Ok (tt {0}, a.1))) ≡ (r >>= (λ a. Ok (tt {0}, a.1)))
 feeds_with (Ok r) = refl

@@ -1,6 +1,5 @@
 -- Texts: line feeds at the end of tokens, and bytes that are UTF-8.
-use Rattle.std.proofs.Common.{◌≡◌, ℕ, Bool, true, false, List, [], ◌∷◌, ◌++◌, length, arith, refl, sym, ap, ◌∙◌, IsUtf8}
-use Rattle.std.specs.Str.{is_utf8}
+use Rattle.std.{proofs.Common.{◌≡◌, ℕ, Bool, true, false, List, [], ◌∷◌, ◌++◌, length, arith, refl, sym, ap, ◌∙◌, IsUtf8}, specs.Str.is_utf8}
 use Rattle.std.proofs.lemmas.Str.{IsUtf8-from_is_utf8, is_utf8-from_IsUtf8}
 use Rattle.npf_lexer.specs.declared.token.Token.{Token}
 use Rattle.npf_parser_values.specs.Token.{trimmed, is_line_feed_kind, before_others}

@@ -6,7 +6,7 @@ use Rattle.npf_types.specs.NameText.{is_name}
 use Rattle.npf_lexer.specs.declared.token.Sign.{Sign}
 use Rattle.npf_lexer.specs.declared.token.Token.{Token}
 use Rattle.npf_syntax.specs.declared.value.Function.{Function}
-use Rattle.npf_syntax.specs.declared.value.Iface.{Iface}
+use Rattle.npf_syntax.specs.declared.value.IfaceTree.{IfaceTree}
 use Rattle.npf_syntax.specs.declared.value.One.{One}
 use Rattle.npf_syntax.specs.declared.value.OneList.{OneList}
 use Rattle.npf_syntax.specs.declared.filter.Protocols.{Protocols}
@@ -17,15 +17,15 @@ use Rattle.npf_syntax.specs.declared.word.Address.{Address}
 use Rattle.npf_syntax.specs.declared.word.Number.{Number}
 use Rattle.npf_syntax.specs.declared.word.Word.{Word}
 use Rattle.npf_phrase.specs.Grammar.{Grammar, meaning, pure, making, either, fitted, ◌&◌, ◌or◌, optional, preceded, terminated, list_of}
-use Rattle.npf_parser_values.specs.declared.role.Role.{Role}
+use Rattle.npf_parser_values.specs.declared.role.ValueRole.{ValueRole}
 use Rattle.npf_parser_values.specs.Token.{span_of, says, sign, string, word, variable, number, address, number_to, name_word, name_string, spaced}
 
 -- iface = WORD | STRING | VAR
-unfoldable pub iface : Grammar Token Iface
+unfoldable pub iface : Grammar Token IfaceTree
 iface =
-    making (λ ts s. Iface.Str s (span_of ts)) name_string
-    or making (λ ts v. Iface.Var v (span_of ts)) variable
-    or making (λ ts w. Iface.Word w (span_of ts)) name_word
+    making (λ ts s. IfaceTree.Str s (span_of ts)) name_string
+    or making (λ ts v. IfaceTree.Var v (span_of ts)) variable
+    or making (λ ts w. IfaceTree.Word w (span_of ts)) name_word
 
 -- one = WORD | NUMBER | VAR
 unfoldable pub one : Grammar Token One
@@ -84,12 +84,12 @@ word_of (Function.Inet6 span) = record { text = codes "inet6"; span = span }
 word_of (Function.IfAddrs span) = record { text = codes "ifaddrs"; span = span }
 
 -- without a parenthesis such a word is an ordinary one
-abbrev pub called : List Token → Function × Option Iface → Value
+abbrev pub called : List Token → Function × Option IfaceTree → Value
 called ts (function, Some iface) = Value.Function function iface (span_of ts)
 called ts (function, None) = Value.Word (word_of function) (span_of ts)
 
 -- "(" iface ")"
-abbrev pub argument : Bool → Grammar Token Iface
+abbrev pub argument : Bool → Grammar Token IfaceTree
 argument inside = preceded (spaced inside (sign Sign.OpenParen)) (terminated (spaced inside iface) (spaced inside (sign Sign.CloseParen)))
 
 -- ( "inet4" | "inet6" | "ifaddrs" ) "(" iface ")"
@@ -119,33 +119,33 @@ is_port_end None = true
 
 -- What a value may be in its place. In the definition of a variable it may be any; as an address it is an address, a
 -- table, a function or a variable; as a port it is a port, a range of ports, a service's word or a variable.
-abbrev pub can_stand : Role → Value → Bool
-can_stand Role.Any _ = true
-can_stand Role.Address (Value.Address _ _ _) = true
-can_stand Role.Address (Value.Table _ _) = true
-can_stand Role.Address (Value.Function _ _ _) = true
-can_stand Role.Address (Value.Var _ _) = true
-can_stand Role.Port (Value.Number first last _) = is_port first && is_port_end last
-can_stand Role.Port (Value.Word _ _) = true
-can_stand Role.Port (Value.Var _ _) = true
+abbrev pub can_stand : ValueRole → Value → Bool
+can_stand ValueRole.Any _ = true
+can_stand ValueRole.Address (Value.Address _ _ _) = true
+can_stand ValueRole.Address (Value.Table _ _) = true
+can_stand ValueRole.Address (Value.Function _ _ _) = true
+can_stand ValueRole.Address (Value.Var _ _) = true
+can_stand ValueRole.Port (Value.Number first last _) = is_port first && is_port_end last
+can_stand ValueRole.Port (Value.Word _ _) = true
+can_stand ValueRole.Port (Value.Var _ _) = true
 can_stand _ _ = false
 
 -- a value in its place
-unfoldable pub value : Role → Bool → Grammar Token Value
+unfoldable pub value : ValueRole → Bool → Grammar Token Value
 value role inside = fitted (can_stand role) (written inside)
 
-unfoldable pub listed_values : Role → Grammar Token (List Value)
+unfoldable pub listed_values : ValueRole → Grammar Token (List Value)
 listed_values role = list_of (spaced true (sign Sign.Comma)) (value role true)
 
-abbrev pub values_inside : Role → Grammar Token (List Value)
+abbrev pub values_inside : ValueRole → Grammar Token (List Value)
 values_inside role = either (meaning (sign Sign.CloseBrace)).starts (pure []) (listed_values role)
 
 -- vlist = "{" [ value { "," value }* ] "}"
-unfoldable pub value_list : Role → Grammar Token ValueList
+unfoldable pub value_list : ValueRole → Grammar Token ValueList
 value_list role =
     making (λ ts values. record { values = values; span = span_of ts })
     (preceded (spaced true (sign Sign.OpenBrace)) (terminated (values_inside role) (sign Sign.CloseBrace)))
 
 -- value | vlist
-unfoldable pub values : Role → Grammar Token Values
+unfoldable pub values : ValueRole → Grammar Token Values
 values role = making (λ ts list. Values.List list (span_of ts)) (value_list role) or making (λ ts v. Values.One v (span_of ts)) (value role false)

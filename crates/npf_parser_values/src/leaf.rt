@@ -21,18 +21,14 @@ use std::str;
 pub fn read_string<'a>(alloc: Global, tokens: &'a [Token]) -> Result<(Str, &'a [Token]), Stop<'a>>
     ensures { Answers ((meaning string).read tokens.now) result }
 {
-    match tokens.split_first() {
-        Some(
-            (
-                Token {
-                    kind: TokenKind::Str(text),
-                    span,
-                },
-                rest,
-            ),
-        ) => {
+    let Some((first, rest)) = tokens.split_first() else {
+        return Err(Stop::Before(tokens));
+    };
+    match &first.kind {
+        TokenKind::Str(text) => {
             let text = copied(alloc, text.as_slice())?;
-            Ok((Str { text, span: *span }, rest))
+            let span = first.span;
+            Ok((Str { text, span }, rest))
         }
         _ => Err(Stop::Before(tokens)),
     }
@@ -43,18 +39,14 @@ pub fn read_string<'a>(alloc: Global, tokens: &'a [Token]) -> Result<(Str, &'a [
 pub fn read_word<'a>(alloc: Global, tokens: &'a [Token]) -> Result<(Word, &'a [Token]), Stop<'a>>
     ensures { Answers ((meaning word).read tokens.now) result }
 {
-    match tokens.split_first() {
-        Some(
-            (
-                Token {
-                    kind: TokenKind::Word(text),
-                    span,
-                },
-                rest,
-            ),
-        ) => {
+    let Some((first, rest)) = tokens.split_first() else {
+        return Err(Stop::Before(tokens));
+    };
+    match &first.kind {
+        TokenKind::Word(text) => {
             let text = copied(alloc, text.as_slice())?;
-            Ok((Word { text, span: *span }, rest))
+            let span = first.span;
+            Ok((Word { text, span }, rest))
         }
         _ => Err(Stop::Before(tokens)),
     }
@@ -65,18 +57,14 @@ pub fn read_word<'a>(alloc: Global, tokens: &'a [Token]) -> Result<(Word, &'a [T
 pub fn read_variable<'a>(alloc: Global, tokens: &'a [Token]) -> Result<(Var, &'a [Token]), Stop<'a>>
     ensures { Answers ((meaning variable).read tokens.now) result }
 {
-    match tokens.split_first() {
-        Some(
-            (
-                Token {
-                    kind: TokenKind::Var(text),
-                    span,
-                },
-                rest,
-            ),
-        ) => {
+    let Some((first, rest)) = tokens.split_first() else {
+        return Err(Stop::Before(tokens));
+    };
+    match &first.kind {
+        TokenKind::Var(text) => {
             let name = copied(alloc, text.as_slice())?;
-            Ok((Var { name, span: *span }, rest))
+            let span = first.span;
+            Ok((Var { name, span }, rest))
         }
         _ => Err(Stop::Before(tokens)),
     }
@@ -87,23 +75,13 @@ pub fn read_variable<'a>(alloc: Global, tokens: &'a [Token]) -> Result<(Var, &'a
 pub fn read_number(tokens: &[Token]) -> Result<(Number, &[Token]), Stop>
     ensures { AnswersAlone ((meaning number).read tokens.now) result }
 {
-    match tokens.split_first() {
-        Some(
-            (
-                Token {
-                    kind: TokenKind::Number(value),
-                    span,
-                },
-                rest,
-            ),
-        ) => {
-            Ok((
-                Number {
-                    value: *value,
-                    span: *span,
-                },
-                rest,
-            ))
+    let Some((first, rest)) = tokens.split_first() else {
+        return Err(Stop::Before(tokens));
+    };
+    match first.kind {
+        TokenKind::Number(value) => {
+            let span = first.span;
+            Ok((Number { value, span }, rest))
         }
         _ => Err(Stop::Before(tokens)),
     }
@@ -113,23 +91,13 @@ pub fn read_number(tokens: &[Token]) -> Result<(Number, &[Token]), Stop>
 pub(crate) fn read_address(tokens: &[Token]) -> Result<(Address, &[Token]), Stop>
     ensures { AnswersAlone ((meaning address).read tokens.now) result }
 {
-    match tokens.split_first() {
-        Some(
-            (
-                Token {
-                    kind: TokenKind::Address(addr),
-                    span,
-                },
-                rest,
-            ),
-        ) => {
-            Ok((
-                Address {
-                    addr: *addr,
-                    span: *span,
-                },
-                rest,
-            ))
+    let Some((first, rest)) = tokens.split_first() else {
+        return Err(Stop::Before(tokens));
+    };
+    match first.kind {
+        TokenKind::Address(addr) => {
+            let span = first.span;
+            Ok((Address { addr, span }, rest))
         }
         _ => Err(Stop::Before(tokens)),
     }

@@ -23,7 +23,7 @@ pub use leaf::{
     read_text_string, read_variable, read_word,
 };
 pub use protocol::{read_one, read_protocols};
-pub use role::Role;
+pub use role::ValueRole;
 pub use stop::{Stop, refused_by};
 pub use text::span_to;
 pub use tokens::{

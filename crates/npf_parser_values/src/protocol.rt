@@ -18,22 +18,12 @@ pub fn read_one<'a>(alloc: Global, tokens: &'a [Token]) -> Result<(One, &'a [Tok
     ensures { Answers ((meaning one).read tokens.now) result }
 {
     match tokens.first() {
-        Some(
-            Token {
-                kind: TokenKind::Number(_),
-                ..
-            },
-        ) => {
+        Some(first) if matches!(first.kind, TokenKind::Number(_)) => {
             let (number, rest) = read_number_to(255, tokens)?;
             let span = span_to(tokens, rest);
             Ok((One::Number { number, span }, rest))
         }
-        Some(
-            Token {
-                kind: TokenKind::Var(_),
-                ..
-            },
-        ) => {
+        Some(first) if matches!(first.kind, TokenKind::Var(_)) => {
             let (var, rest) = read_variable(alloc, tokens)?;
             let span = span_to(tokens, rest);
             Ok((One::Var { var, span }, rest))

@@ -40,7 +40,7 @@ fn whole_span(tokens: &[Token]) -> Span
     }
 }
 
-fn is_line_feed(token: &Token) -> bool
+pub(crate) fn is_line_feed(token: &Token) -> bool
     ensures { result ≡ is_line_feed_kind token.now.kind }
 {
     matches!(token.kind, TokenKind::LineFeed)

@@ -1,11 +1,12 @@
 // The tokens that stand first, with one token of sight.
-ghost use Rattle.std.specs.Prelude.{◌≡◌, ◌<◌, true, Ok, IfSome, length};
+ghost use Rattle.std.specs.Prelude.{◌≡◌, ◌<◌, true, Ok, IfSome, is_some, length};
 ghost use Rattle.npf_phrase.specs.Grammar.{meaning};
 ghost use Rattle.npf_phrase.specs.Phrase.{head};
 ghost use Rattle.npf_parser_values.specs.Answer.{AnswersAlone, GoesOn, Begins};
-ghost use Rattle.npf_parser_values.specs.Token.{quoted, quoted_name, sign, separator, line_feed, gap, spaced, text_end};
+ghost use Rattle.npf_parser_values.specs.Token.{quoted, quoted_name, sign, separator, separator_test, line_feed, gap, spaced, text_end};
 
 use crate::stop::{NOWHERE, Stop};
+use crate::text::is_line_feed;
 use npf_lexer::{Sign, Token, TokenKind};
 use npf_types::Span;
 
@@ -14,16 +15,11 @@ use npf_types::Span;
 pub fn behind_word<'a>(word: &str, tokens: &'a [Token]) -> Option<&'a [Token]>
     ensures { Begins (quoted word.now) tokens.now result }
 {
-    match tokens.split_first() {
-        Some(
-            (
-                Token {
-                    kind: TokenKind::Word(text),
-                    ..
-                },
-                rest,
-            ),
-        ) if text.as_slice() == word.as_bytes() => Some(rest),
+    let Some((first, rest)) = tokens.split_first() else {
+        return None;
+    };
+    match &first.kind {
+        TokenKind::Word(text) if text.as_slice() == word.as_bytes() => Some(rest),
         _ => None,
     }
 }
@@ -43,16 +39,11 @@ pub fn after_word<'a>(word: &str, tokens: &'a [Token]) -> Result<&'a [Token], St
 pub fn behind_name<'a>(name: &str, tokens: &'a [Token]) -> Option<&'a [Token]>
     ensures { Begins (quoted_name name.now) tokens.now result }
 {
-    match tokens.split_first() {
-        Some(
-            (
-                Token {
-                    kind: TokenKind::Str(text),
-                    ..
-                },
-                rest,
-            ),
-        ) if text.as_slice() == name.as_bytes() => Some(rest),
+    let Some((first, rest)) = tokens.split_first() else {
+        return None;
+    };
+    match &first.kind {
+        TokenKind::Str(text) if text.as_slice() == name.as_bytes() => Some(rest),
         _ => None,
     }
 }
@@ -63,16 +54,11 @@ pub fn behind_sign(wanted: Sign, tokens: &[Token]) -> Option<&[Token]>
     ensures begins { Begins (sign wanted) tokens.now result }
     ensures left { IfSome result (λ rest. length rest.now < length tokens.now) }
 {
-    match tokens.split_first() {
-        Some(
-            (
-                Token {
-                    kind: TokenKind::Sign(found),
-                    ..
-                },
-                rest,
-            ),
-        ) if found.text() == wanted.text() => Some(rest),
+    let Some((first, rest)) = tokens.split_first() else {
+        return None;
+    };
+    match &first.kind {
+        TokenKind::Sign(found) if found.text() == wanted.text() => Some(rest),
         _ => None,
     }
 }
@@ -87,6 +73,12 @@ pub fn after_sign(wanted: Sign, tokens: &[Token]) -> Result<&[Token], Stop>
     }
 }
 
+fn is_separator(token: &Token) -> bool
+    ensures { result ≡ is_some (separator_test token.now.kind) }
+{
+    matches!(token.kind, TokenKind::LineFeed | TokenKind::Semicolon)
+}
+
 /// The tokens behind a line feed or a semicolon, where one stands first.
 #[tactic(auto, unfolding(npf_phrase::specs::Phrase::read_token))]
 pub fn behind_separator(tokens: &[Token]) -> Option<&[Token]>
@@ -94,15 +86,7 @@ pub fn behind_separator(tokens: &[Token]) -> Option<&[Token]>
     ensures left { IfSome result (λ rest. length rest.now < length tokens.now) }
 {
     match tokens.split_first() {
-        Some(
-            (
-                Token {
-                    kind: TokenKind::LineFeed | TokenKind::Semicolon,
-                    ..
-                },
-                rest,
-            ),
-        ) => Some(rest),
+        Some((first, rest)) if is_separator(first) => Some(rest),
         _ => None,
     }
 }
@@ -114,15 +98,7 @@ fn behind_line_feed(tokens: &[Token]) -> Option<&[Token]>
     ensures left { IfSome result (λ rest. length rest.now < length tokens.now) }
 {
     match tokens.split_first() {
-        Some(
-            (
-                Token {
-                    kind: TokenKind::LineFeed,
-                    ..
-                },
-                rest,
-            ),
-        ) => Some(rest),
+        Some((first, rest)) if is_line_feed(first) => Some(rest),
         _ => None,
     }
 }
@@ -174,7 +150,7 @@ pub fn is_at_separator(tokens: &[Token]) -> bool
     ensures { result ≡ (meaning separator).starts (head tokens.now) }
 {
     match tokens.first() {
-        Some(token) => matches!(token.kind, TokenKind::LineFeed | TokenKind::Semicolon),
+        Some(token) => is_separator(token),
         None => false,
     }
 }
@@ -186,15 +162,7 @@ pub fn read_end(tokens: &[Token]) -> Result<(Span, &[Token]), Stop>
 {
     match tokens.split_first() {
         None => Ok((NOWHERE, tokens)),
-        Some(
-            (
-                Token {
-                    kind: TokenKind::End,
-                    span,
-                },
-                rest,
-            ),
-        ) => Ok((*span, rest)),
+        Some((first, rest)) if matches!(first.kind, TokenKind::End) => Ok((first.span, rest)),
         _ => Err(Stop::Before(tokens)),
     }
 }

@@ -15,45 +15,38 @@ use crate::leaf::{
     is_name, read_address, read_name_string, read_name_word, read_number, read_string,
     read_variable, read_word,
 };
-use crate::role::Role;
+use crate::role::ValueRole;
 use crate::stop::Stop;
 use crate::text::{copied, span_to};
 use crate::tokens::{after_sign, after_spaced, behind_sign, behind_spaced, behind_word, skip};
 use npf_lexer::{Sign, Token, TokenKind};
-use npf_syntax::{Address, Boxed, Function, Iface, Number, Value, ValueList, Values, Word};
+use npf_syntax::{Address, Boxed, Function, IfaceTree, Number, Value, ValueList, Values, Word};
 use npf_types::List;
 use std::alloc::Global;
 
 /// An interface, and the tokens behind it; or the tokens at which it stops going on.
 #[tactic(auto, unfolding(crate::specs::Value::iface))]
-pub fn read_iface<'a>(alloc: Global, tokens: &'a [Token]) -> Result<(Iface, &'a [Token]), Stop<'a>>
+pub fn read_iface<'a>(
+    alloc: Global,
+    tokens: &'a [Token],
+) -> Result<(IfaceTree, &'a [Token]), Stop<'a>>
     ensures { Answers ((meaning iface).read tokens.now) result }
 {
     match tokens.first() {
-        Some(
-            Token {
-                kind: TokenKind::Str(_),
-                ..
-            },
-        ) => {
+        Some(first) if matches!(first.kind, TokenKind::Str(_)) => {
             let (string, rest) = read_name_string(alloc, tokens)?;
             let span = span_to(tokens, rest);
-            Ok((Iface::Str { string, span }, rest))
+            Ok((IfaceTree::Str { string, span }, rest))
         }
-        Some(
-            Token {
-                kind: TokenKind::Var(_),
-                ..
-            },
-        ) => {
+        Some(first) if matches!(first.kind, TokenKind::Var(_)) => {
             let (var, rest) = read_variable(alloc, tokens)?;
             let span = span_to(tokens, rest);
-            Ok((Iface::Var { var, span }, rest))
+            Ok((IfaceTree::Var { var, span }, rest))
         }
         _ => {
             let (word, rest) = read_name_word(alloc, tokens)?;
             let span = span_to(tokens, rest);
-            Ok((Iface::Word { word, span }, rest))
+            Ok((IfaceTree::Word { word, span }, rest))
         }
     }
 }
@@ -189,7 +182,7 @@ fn read_argument<'a>(
     alloc: Global,
     inside: bool,
     tokens: &'a [Token],
-) -> Result<(Option<Iface>, &'a [Token]), Stop<'a>>
+) -> Result<(Option<IfaceTree>, &'a [Token]), Stop<'a>>
     ensures { Answers ((meaning (optional (argument inside))).read tokens.now) result }
 {
     match behind_spaced(Sign::OpenParen, inside, tokens) {
@@ -298,36 +291,21 @@ fn read_written<'a>(
     ensures { Answers ((meaning (written inside)).read tokens.now) result }
 {
     match tokens.first() {
-        Some(
-            Token {
-                kind: TokenKind::Number(_),
-                ..
-            },
-        ) => read_number_value(inside, tokens),
-        Some(
-            Token {
-                kind: TokenKind::Address(_),
-                ..
-            },
-        ) => read_address_value(alloc, inside, tokens),
-        Some(
-            Token {
-                kind: TokenKind::Word(_),
-                ..
-            },
-        ) => read_word_value(alloc, inside, tokens),
-        Some(
-            Token {
-                kind: TokenKind::Var(_),
-                ..
-            },
-        ) => read_variable_value(alloc, inside, tokens),
-        Some(
-            Token {
-                kind: TokenKind::Str(_),
-                ..
-            },
-        ) => read_string_value(alloc, inside, tokens),
+        Some(first) if matches!(first.kind, TokenKind::Number(_)) => read_number_value(
+            inside, tokens,
+        ),
+        Some(first) if matches!(first.kind, TokenKind::Address(_)) => read_address_value(
+            alloc, inside, tokens,
+        ),
+        Some(first) if matches!(first.kind, TokenKind::Word(_)) => read_word_value(
+            alloc, inside, tokens,
+        ),
+        Some(first) if matches!(first.kind, TokenKind::Var(_)) => read_variable_value(
+            alloc, inside, tokens,
+        ),
+        Some(first) if matches!(first.kind, TokenKind::Str(_)) => read_string_value(
+            alloc, inside, tokens,
+        ),
         _ => read_table_value(alloc, inside, tokens),
     }
 }
@@ -348,20 +326,21 @@ fn is_port_end(number: Option<Number>) -> bool
 }
 
 /// Whether a written value can stand there.
-fn can_stand(role: Role, value: &Value) -> bool
+fn can_stand(role: ValueRole, value: &Value) -> bool
     ensures { result ≡ can_stand role value.now }
 {
     match (role, value) {
-        (Role::Any, _) => true,
+        (ValueRole::Any, _) => true,
         (
-            Role::Address,
+            ValueRole::Address,
             Value::Address { .. }
             | Value::Table { .. }
             | Value::Function { .. }
             | Value::Var { .. },
         ) => true,
-        (Role::Port, Value::Number { first, last, .. }) => is_port(*first) && is_port_end(*last),
-        (Role::Port, Value::Word { .. } | Value::Var { .. }) => true,
+        (ValueRole::Port, Value::Number { first, last, .. }) => is_port(*first)
+            && is_port_end(*last),
+        (ValueRole::Port, Value::Word { .. } | Value::Var { .. }) => true,
         _ => false,
     }
 }
@@ -371,7 +350,7 @@ fn can_stand(role: Role, value: &Value) -> bool
 #[tactic(auto, unfolding(crate::specs::Value::value))]
 pub fn read_value<'a>(
     alloc: Global,
-    role: Role,
+    role: ValueRole,
     inside: bool,
     tokens: &'a [Token],
 ) -> Result<(Value, &'a [Token]), Stop<'a>>
@@ -387,7 +366,7 @@ pub fn read_value<'a>(
 /// The values of a list, one at least.
 fn read_listed_values<'a>(
     alloc: Global,
-    role: Role,
+    role: ValueRole,
     tokens: &'a [Token],
 ) -> Result<(List<Value>, &'a [Token]), Stop<'a>>
     ensures { Answers ((meaning (listed_values role)).read tokens.now) result }
@@ -407,7 +386,7 @@ fn read_listed_values<'a>(
 /// The values up to the closing brace, of which there may be none.
 fn read_values_inside<'a>(
     alloc: Global,
-    role: Role,
+    role: ValueRole,
     tokens: &'a [Token],
 ) -> Result<(List<Value>, &'a [Token]), Stop<'a>>
     ensures { Answers ((meaning (values_inside role)).read tokens.now) result }
@@ -422,7 +401,7 @@ fn read_values_inside<'a>(
 #[tactic(auto, unfolding(crate::specs::Value::value_list))]
 pub fn read_value_list<'a>(
     alloc: Global,
-    role: Role,
+    role: ValueRole,
     tokens: &'a [Token],
 ) -> Result<(ValueList, &'a [Token]), Stop<'a>>
     ensures { Answers ((meaning (value_list role)).read tokens.now) result }
@@ -438,7 +417,7 @@ pub fn read_value_list<'a>(
 #[tactic(auto, unfolding(crate::specs::Value::values, crate::specs::Value::value_list))]
 pub fn read_values<'a>(
     alloc: Global,
-    role: Role,
+    role: ValueRole,
     tokens: &'a [Token],
 ) -> Result<(Values, &'a [Token]), Stop<'a>>
     ensures { Answers ((meaning (values role)).read tokens.now) result }

@@ -1,18 +1,10 @@
 -- What stands in the places of a branch's nodes, and where its keys part.
 use Rattle.std.proofs.Common.{◌≡◌, ◌≢◌, ℕ, ◌+◌, ◌-◌, ◌≤◌, ◌<◌, inl, inr, List, [], ◌∷◌, ◌++◌, length, get_or, suc, refl, ap, sym, ◌∙◌, arith, length-append}
-use Rattle.std.specs.Prelude.{Contains}
-use Rattle.std.proofs.Math.Seq.{get_or-append_seam}
-use Rattle.std.proofs.lemmas.Bool.Decides.{eqb_tells}
-use Rattle.npf_paths.specs.declared.cell.Cell.{Cell}
+use Rattle.std.{specs.Prelude.Contains, proofs.{Math.Seq.get_or-append_seam, lemmas.Bool.Decides.eqb_tells}}
+use Rattle.npf_shelf.proofs.ListLemmas.{Contains-later, Contains-first}
+use Rattle.npf_paths.specs.{declared.{cell.Cell.Cell, place.Place.{Place, TheVariants.Node}}, Growing.{IsBranch, IsBranch.{parts, goes_on}}}
 use Rattle.npf_paths.specs.declared.cell.Cell.TheVariants as Cells
-use Rattle.npf_paths.specs.declared.place.Place.{Place}
-use Rattle.npf_paths.specs.declared.place.Place.TheVariants.{Node}
-use Rattle.npf_paths.specs.Growing.{IsBranch}
-use Rattle.npf_paths.specs.Growing.IsBranch.{parts, goes_on}
-use Rattle.npf_paths.specs.GrowingLaw.{IsGrownPlace}
-use Rattle.npf_paths.specs.Paths.{AreDigits, IsOnPath, IsEnd}
-use Rattle.npf_paths.specs.Paths.IsOnPath.{further}
-use Rattle.npf_paths.proofs.PathLemmas.{node_no_end}
+use Rattle.npf_paths.{specs.{GrowingLaw.IsGrownPlace, Paths.{AreDigits, IsOnPath, IsEnd, IsOnPath.further}}, proofs.PathLemmas.node_no_end}
 
 -- the first of the nodes is the first of the list
 pub branch_head : {mine theirs : ℕ → ℕ} {cell : Place → Cell} {leaf other : Cell} {level node : ℕ} {nodes : List ℕ} →
@@ -49,25 +41,19 @@ branch_parts (goes_on level node next tail agree is empty below) l last =
     let within : l + 1 ≡ level + 1 + length tail = omega arith in
     branch_parts below l within
 
-has_first : (node : ℕ) (tail : List ℕ) → Contains (node ∷ tail) node
-has_first node tail = (0, omega arith, refl)
-
-has_later : (node : ℕ) (tail : List ℕ) (n : ℕ) → Contains tail n → Contains (node ∷ tail) n
-has_later node tail n has = let within = has.1 in (suc has.0, omega arith, has.2)
-
 -- with the same in the places of its nodes the branch is there still
 pub branch_same : {mine theirs : ℕ → ℕ} {cell cell' : Place → Cell} {leaf other : Cell} {level first : ℕ} {nodes : List ℕ} →
     IsBranch mine theirs cell leaf other level first nodes → AreDigits mine → AreDigits theirs → 1 ≤ level →
     ((node digit : ℕ) → Contains nodes node → digit < 16 → cell' (Node node digit) ≡ cell (Node node digit)) →
     IsBranch mine theirs cell' leaf other level first nodes
 branch_same {mine} {theirs} (parts level node apart mine_is theirs_is empty) small small' deep same =
-    let here = λ (digit : ℕ). same node digit (has_first node []) in
+    let here = λ (digit : ℕ). same node digit (Contains-first node []) in
     parts level node apart (here (mine level) (small.node level deep) ∙ mine_is) (here (theirs level) (small'.node level deep) ∙ theirs_is)
     (λ digit low not_mine not_theirs. here digit low ∙ empty digit low not_mine not_theirs)
 branch_same {mine} {theirs} (goes_on level node next tail agree is empty below) small small' deep same =
-    let here = λ (digit : ℕ). same node digit (has_first node tail) in
+    let here = λ (digit : ℕ). same node digit (Contains-first node tail) in
     goes_on level node next tail agree (here (mine level) (small.node level deep) ∙ is) (λ digit low not_mine. here digit low ∙ empty digit low not_mine)
-    (branch_same below small small' (omega arith) (λ n digit has. same n digit (has_later node tail n has)))
+    (branch_same below small small' (omega arith) (λ n digit has. same n digit (Contains-later node n tail has)))
 
 -- a path that has come to the first node with a key's digits goes down through them all
 pub mine_down : {mine theirs : ℕ → ℕ} {cell : Place → Cell} {leaf other : Cell} {level node : ℕ} {nodes : List ℕ} →

@@ -1,12 +1,8 @@
 -- Words with the same half-bytes are one, and so are keys; digits are shared at each level, or there is a first at which they part.
-use Rattle.std.proofs.Common.{◌≡◌, ◌<◌, ◌≤◌, ◌+◌, ◌-◌, ◌*◌, ◌/◌, ◌%◌, ◌^◌, ◌⊎◌, ℕ, zero, suc, get_or, inl, inr, sym, ap, ◌∙◌, arith}
-use Rattle.std.proofs.Math.Nat.{mod-eq_of_lt}
-use Rattle.std.proofs.lemmas.Nat.{mod-pow-add}
-use Rattle.std.proofs.lemmas.Bool.{cases_eq}
-use Rattle.std.proofs.lemmas.Grind.{same_number_lists}
+use Rattle.std.proofs.{Common.{◌≡◌, ◌<◌, ◌≤◌, ◌+◌, ◌-◌, ◌*◌, ◌/◌, ◌%◌, ◌^◌, ◌⊎◌, ℕ, zero, suc, get_or, inl, inr, sym, ap, ◌∙◌, arith}, Math.Nat.mod-eq_of_lt}
+use Rattle.std.proofs.lemmas.{Nat.mod-pow-add, Bool.cases_eq, Grind.same_number_lists}
 use Rattle.npf_types.specs.declared.key.Key.{Key}
-use Rattle.npf_paths.specs.Digits.{half_byte_of, digit_of, SharesDigits, PartsAt}
-use Rattle.npf_paths.specs.DigitLaw.{FitsWords}
+use Rattle.npf_paths.specs.{Digits.{half_byte_of, digit_of, SharesDigits, PartsAt}, DigitLaw.FitsWords}
 
 -- numbers with the same lowest half-bytes have the same remainder
 same_low : (a b count : ℕ) → ((place : ℕ) → place < count → a / 2 ^ (4 * place) % 16 ≡ b / 2 ^ (4 * place) % 16) → a % 2 ^ (4 * count) ≡ b % 2 ^ (4 * count)

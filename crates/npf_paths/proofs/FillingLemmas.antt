@@ -1,14 +1,8 @@
 -- A place that is filled leaves each path as it was.
-use Rattle.std.proofs.Common.{◌≡◌, ◌≢◌, ℕ, ◌⊎◌, inl, inr, ap, sym, ◌∙◌}
-use Rattle.std.proofs.lemmas.Bool.Decides.{eqb_tells}
-use Rattle.npf_paths.specs.declared.cell.Cell.{Cell}
+use Rattle.std.proofs.{Common.{◌≡◌, ◌≢◌, ℕ, ◌⊎◌, inl, inr, ap, sym, ◌∙◌}, lemmas.Bool.Decides.eqb_tells}
+use Rattle.npf_paths.specs.{declared.{cell.Cell.Cell, place.Place.{Place, TheVariants.{Root, Node}}}, FillingLaw.FillsPlace, Paths.{IsOnPath, IsEnd, EndsAt}}
 use Rattle.npf_paths.specs.declared.cell.Cell.TheVariants as Cells
-use Rattle.npf_paths.specs.declared.place.Place.{Place}
-use Rattle.npf_paths.specs.declared.place.Place.TheVariants.{Root, Node}
-use Rattle.npf_paths.specs.FillingLaw.{FillsPlace}
-use Rattle.npf_paths.specs.Paths.{IsOnPath, IsEnd, EndsAt}
-use Rattle.npf_paths.specs.Paths.IsOnPath.{at_root, further}
-use Rattle.npf_paths.proofs.PathLemmas.{node_no_end}
+use Rattle.npf_paths.{specs.Paths.IsOnPath.{at_root, further}, proofs.PathLemmas.node_no_end}
 
 -- two places are one or not
 pub same_or_apart : (p q : Place) → (p ≡ q) ⊎ (p ≢ q)

@@ -1,16 +1,11 @@
 -- The paths where a branch grows.
 use Rattle.std.proofs.Common.{◌≡◌, ◌≢◌, ℕ, ◌+◌, ◌-◌, ◌⊎◌, inl, inr, List, [], ◌∷◌, ◌++◌, get_or, refl, ap, sym, ◌∙◌, arith, append_assoc, length-append}
-use Rattle.npf_paths.specs.declared.cell.Cell.{Cell}
+use Rattle.npf_paths.specs.{declared.{cell.Cell.Cell, place.Place.{Place, TheVariants.{Root, Node}}}, Growing.GrowsBranch}
 use Rattle.npf_paths.specs.declared.cell.Cell.TheVariants as Cells
-use Rattle.npf_paths.specs.declared.place.Place.{Place}
-use Rattle.npf_paths.specs.declared.place.Place.TheVariants.{Root, Node}
-use Rattle.npf_paths.specs.Growing.{GrowsBranch}
 use Rattle.npf_paths.specs.GrowingLaw.{IsGrownPlace, IsGrownNode, IsPlaceNow, IsEndNow, IsNodeNow, PathsAfterGrowth}
-use Rattle.npf_paths.specs.Paths.{AreDigits, IsOnPath, IsEnd, EndsAt}
-use Rattle.npf_paths.specs.Paths.IsOnPath.{at_root, further}
+use Rattle.npf_paths.specs.Paths.{AreDigits, IsOnPath, IsEnd, EndsAt, IsOnPath.{at_root, further}}
 use Rattle.npf_paths.proofs.BranchLemmas.{mine_at_foot, theirs_at_foot, Stands, stands, IsInBranch, grown_place}
-use Rattle.npf_paths.proofs.BranchLemmas.Stands.{stands_empty, stands_leaf, stands_other, stands_node}
-use Rattle.npf_paths.proofs.FillingLemmas.{same_or_apart, apart_from_end}
+use Rattle.npf_paths.proofs.{BranchLemmas.Stands.{stands_empty, stands_leaf, stands_other, stands_node}, FillingLemmas.{same_or_apart, apart_from_end}}
 use Rattle.npf_paths.proofs.PathLemmas.{node_no_end, one_end}
 
 module _ (mine theirs : ℕ → ℕ) (cell cell' : Place → Cell) (leaf other : Cell) (level : ℕ) (p : Place) (first : ℕ) (nodes : List ℕ) where

@@ -1,7 +1,5 @@
 -- The bytes of a word are those of its upper half and then of its lower.
-use Rattle.std.proofs.Common.{◌≡◌, ℕ, ◌/◌, ◌%◌, ◌^◌, ◌++◌, fold, ap, ◌∙◌, arith}
-use Rattle.std.specs.Int.{w32, w64, to_be_bytes}
-use Rattle.std.proofs.lemmas.List.Sums.{fold-append}
+use Rattle.std.{proofs.{Common.{◌≡◌, ℕ, ◌/◌, ◌%◌, ◌^◌, ◌++◌, fold, ap, ◌∙◌, arith}, lemmas.List.Sums.fold-append}, specs.Int.{w32, w64, to_be_bytes}}
 use Rattle.npf_paths.specs.Hash.{fnv_round}
 
 halves : (word : ℕ) → to_be_bytes w64 word ≡ to_be_bytes w32 (word / 2 ^ 32) ++ to_be_bytes w32 (word % 2 ^ 32)

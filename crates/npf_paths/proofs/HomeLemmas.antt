@@ -1,15 +1,9 @@
 -- The paths of a branch's two keys go down through it, and each leaf stands on its own key's path.
 use Rattle.std.proofs.Common.{◌≡◌, ◌≢◌, ℕ, ◌+◌, List, ap, sym, ◌∙◌, arith}
-use Rattle.npf_paths.specs.declared.cell.Cell.{Cell}
+use Rattle.npf_paths.specs.{declared.{cell.Cell.Cell, place.Place.{Place, TheVariants.Node}}, Growing.{IsPlaceOf, GrowsBranch}}
 use Rattle.npf_paths.specs.declared.cell.Cell.TheVariants as Cells
-use Rattle.npf_paths.specs.declared.place.Place.{Place}
-use Rattle.npf_paths.specs.declared.place.Place.TheVariants.{Node}
-use Rattle.npf_paths.specs.Growing.{IsPlaceOf, GrowsBranch}
-use Rattle.npf_paths.specs.GrowingLaw.{GoesDownBranch, LeavesAreHome}
-use Rattle.npf_paths.specs.Paths.{AreDigits, IsOnPath}
-use Rattle.npf_paths.specs.Paths.IsOnPath.{further}
-use Rattle.npf_paths.proofs.BranchLemmas.{mine_down, theirs_down, mine_digit, theirs_digit, IsInBranch, grown_place}
-use Rattle.npf_paths.proofs.GrowingLemmas.{Meets, meets, old_place}
+use Rattle.npf_paths.specs.{GrowingLaw.{GoesDownBranch, LeavesAreHome}, Paths.{AreDigits, IsOnPath, IsOnPath.further}}
+use Rattle.npf_paths.proofs.{BranchLemmas.{mine_down, theirs_down, mine_digit, theirs_digit, IsInBranch, grown_place}, GrowingLemmas.{Meets, meets, old_place}}
 
 module _ (mine theirs : ℕ → ℕ) (cell cell' : Place → Cell) (leaf other : Cell) (level : ℕ) (p : Place) (first : ℕ) (nodes : List ℕ) where
   module _ (grows : GrowsBranch mine theirs cell cell' leaf other level p first nodes) where

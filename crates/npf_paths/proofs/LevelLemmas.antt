@@ -1,18 +1,9 @@
 -- Each place stands at one level.
 use Rattle.std.proofs.Common.{◌≡◌, ℕ, ◌+◌, ◌-◌, List, get_or, refl, sym, ◌∙◌, arith}
-use Rattle.npf_paths.specs.declared.cell.Cell.{Cell}
-use Rattle.npf_paths.specs.declared.place.Place.{Place}
-use Rattle.npf_paths.specs.declared.place.Place.TheVariants.{Node}
-use Rattle.npf_paths.specs.FillingLaw.{FillsPlace}
-use Rattle.npf_paths.specs.Growing.{IsPlaceOf, GrowsBranch}
-use Rattle.npf_paths.specs.GrowingLaw.{IsGrownPlace, IsPlaceNow}
-use Rattle.npf_paths.specs.GrowingLaw.IsPlaceNow.{place_stays, place_is_there, place_grew}
-use Rattle.npf_paths.specs.LevelLaw.{MeetsAtOneLevel, AreApart}
-use Rattle.npf_paths.specs.Paths.{AreDigits, IsOnPath, IsEnd}
-use Rattle.npf_paths.specs.Paths.IsOnPath.{at_root, further}
-use Rattle.npf_paths.proofs.FillingLemmas.{filled_back, filled_places}
-use Rattle.npf_paths.proofs.GrowingLemmas.{growth_told}
-use Rattle.npf_paths.proofs.PathLemmas.{node_no_end}
+use Rattle.npf_paths.specs.{declared.{cell.Cell.Cell, place.Place.{Place, TheVariants.Node}}, FillingLaw.FillsPlace, Growing.{IsPlaceOf, GrowsBranch}}
+use Rattle.npf_paths.specs.{GrowingLaw.{IsGrownPlace, IsPlaceNow, IsPlaceNow.{place_stays, place_is_there, place_grew}}, LevelLaw.{MeetsAtOneLevel, AreApart}}
+use Rattle.npf_paths.{specs.Paths.{AreDigits, IsOnPath, IsEnd, IsOnPath.{at_root, further}}, proofs.FillingLemmas.{filled_back, filled_places}}
+use Rattle.npf_paths.proofs.{GrowingLemmas.growth_told, PathLemmas.node_no_end}
 
 bare_level : (cell : Place → Cell) → ((q : Place) → IsEnd (cell q)) → {digits : ℕ → ℕ} {l : ℕ} {q : Place} → IsOnPath digits cell l q → l ≡ 0
 bare_level cell ends at_root = refl

@@ -1,11 +1,7 @@
 -- The places and the end of one path.
 use Rattle.std.proofs.Common.{◌≡◌, ℕ, ◌≤◌, refl, ap, sym, ◌∙◌, arith}
-use Rattle.npf_paths.specs.declared.cell.Cell.{Cell}
+use Rattle.npf_paths.specs.{declared.{cell.Cell.Cell, place.Place.{Place, TheVariants.Node}}, PathLaw.AgreesOnPath, Paths.{IsOnPath, IsEnd, EndsAt}}
 use Rattle.npf_paths.specs.declared.cell.Cell.TheVariants as Cells
-use Rattle.npf_paths.specs.declared.place.Place.{Place}
-use Rattle.npf_paths.specs.declared.place.Place.TheVariants.{Node}
-use Rattle.npf_paths.specs.PathLaw.{AgreesOnPath}
-use Rattle.npf_paths.specs.Paths.{IsOnPath, IsEnd, EndsAt}
 use Rattle.npf_paths.specs.Paths.IsOnPath.{at_root, further}
 
 -- a node is no end

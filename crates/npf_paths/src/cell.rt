@@ -1,3 +1,4 @@
+// What stands in a place, and the word that says so.
 ghost use Rattle.std.specs.Prelude.{◌≡◌};
 ghost use Rattle.npf_paths.specs.CellWords.{way_number, way_numbered, cell_word, cell_of, IsCellWord};
 

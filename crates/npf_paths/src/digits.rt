@@ -1,3 +1,4 @@
+// The digits of a key, and the levels that they choose at.
 ghost use Rattle.std.specs.Prelude.{◌≡◌, ◌≤◌, ◌<◌, IfSome};
 ghost use Rattle.npf_paths.specs.Digits.{digit_of, half_byte_of, SharesDigits, PartsAt};
 

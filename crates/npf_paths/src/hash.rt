@@ -1,3 +1,4 @@
+// The hash of a key (FNV-1a).
 ghost use Rattle.std.specs.Prelude.{◌≡◌, ℕ, fold};
 ghost use Rattle.std.specs.Int.{w32, w64, to_be_bytes};
 ghost use Rattle.npf_paths.specs.Hash.{fnv_round};

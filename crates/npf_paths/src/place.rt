@@ -1,3 +1,4 @@
+// Places of the trie, and their locks.
 ghost use Rattle.std.specs.Prelude.{◌≡◌};
 ghost use Rattle.npf_paths.specs.Places.{lock_of};
 

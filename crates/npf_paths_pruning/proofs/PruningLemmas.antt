@@ -1,14 +1,8 @@
 -- The paths where an emptied node is taken off.
 use Rattle.std.proofs.Common.{◌≡◌, ◌≢◌, ℕ, ◌+◌, inl, inr, refl, ap, sym, ◌∙◌, arith}
-use Rattle.npf_paths.specs.declared.cell.Cell.{Cell}
+use Rattle.npf_paths.specs.{declared.{cell.Cell.Cell, place.Place.{Place, TheVariants.Node}}, FillingLaw.FillsPlace, LevelLaw.MeetsAtOneLevel}
 use Rattle.npf_paths.specs.declared.cell.Cell.TheVariants as Cells
-use Rattle.npf_paths.specs.declared.place.Place.{Place}
-use Rattle.npf_paths.specs.declared.place.Place.TheVariants.{Node}
-use Rattle.npf_paths.specs.FillingLaw.{FillsPlace}
-use Rattle.npf_paths.specs.LevelLaw.{MeetsAtOneLevel}
-use Rattle.npf_paths.specs.Paths.{AreDigits, IsOnPath, IsEnd, EndsAt}
-use Rattle.npf_paths.specs.Paths.IsOnPath.{at_root, further}
-use Rattle.npf_paths.proofs.FillingLemmas.{same_or_apart, apart_from_end}
+use Rattle.npf_paths.{specs.Paths.{AreDigits, IsOnPath, IsEnd, EndsAt, IsOnPath.{at_root, further}}, proofs.FillingLemmas.{same_or_apart, apart_from_end}}
 use Rattle.npf_paths.proofs.PathLemmas.{node_no_end}
 use Rattle.npf_paths_pruning.specs.Pruning.{PrunesNode, ClearsMark}
 use Rattle.npf_paths_pruning.specs.PruningLaw.{HangsThereAlone, IsPrunedPlace, IsPlaceLeft, IsEndLeft, IsOldEnd, PathsAfterPruning}

@@ -3,14 +3,10 @@
 use Rattle.std.proofs.Common.{◌≡◌, ◌≢◌, ℕ, zero, suc, ◌<◌, ◌≤◌, ◌⊎◌, inl, inr, ◌∙◌, sym, ap, subst, refl, List, length, drop, arith, Result, Ok, Err, IfOk, IfErr, MatchResult, IsErrAnd}
 use Rattle.std.proofs.lemmas.Bool.{cases_lt, cases_eq, cases_order}
 use Rattle.npf_types.specs.declared.link.Link.{Link}
-use Rattle.npf_pcap.specs.declared.format.Format.{Format}
-use Rattle.npf_pcap.specs.declared.capture.Record.{Record}
-use Rattle.npf_pcap.specs.declared.capture.Capture.{Capture}
-use Rattle.npf_pcap.specs.declared.fault.CaptureFault.{CaptureFault}
+use Rattle.npf_pcap.specs.declared.{format.Format.Format, capture.{Record.Record, Capture.Capture}, fault.CaptureFault.CaptureFault}
 use Rattle.npf_pcap.specs.declared.fault.CaptureFault.TheVariants.{ShortHeader, BadMagic, BadVersion, BadLink, CutRecord, LongRecord, NoMemory}
 use Rattle.npf_fields.specs.Field.{number32}
-use Rattle.npf_pcap.specs.Format.{number_at}
-use Rattle.npf_pcap.specs.Record.{AreRecords, IsFirstBad, EndsInside, IsTooLong}
+use Rattle.npf_pcap.specs.{Format.number_at, Record.{AreRecords, IsFirstBad, EndsInside, IsTooLong}}
 use Rattle.npf_pcap.specs.Capture.{IsCapture, HasCaptureFault, HasHeader, HasVersion, HasLink, Opens, HasBadRecord, HasOtherVersion, HasOtherLink}
 use Rattle.npf_pcap.proofs.FormatLemmas.{same_format, same_link, format_or_none, link_or_none}
 use Rattle.npf_pcap.proofs.RecordLemmas.{IsBadness, cut_is_bad, long_is_bad, cut_not_long, same_records, no_bad, meets, RecordsOrBad, records_or_bad}

@@ -1,7 +1,6 @@
 -- Extents that stand apart.
 use Rattle.std.proofs.Common.{◌≤◌, ◌+◌, ◌++◌, ℕ, List, [], ◌∷◌, arith}
-use Rattle.npf_pcap.specs.declared.extent.Extent.{Extent}
-use Rattle.npf_pcap.specs.Extent.{StandApart}
+use Rattle.npf_pcap.specs.{declared.extent.Extent.Extent, Extent.StandApart}
 
 -- one more, behind where they end
 pub apart_push : (low : ℕ) (extents : List Extent) (high : ℕ) (extent : Extent) → StandApart low extents high → high ≤ extent.at → StandApart low (extents ++ extent ∷ []) (extent.at + extent.len)

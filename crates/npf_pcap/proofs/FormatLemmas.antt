@@ -1,13 +1,8 @@
 -- A magic number tells one format, and a link type's number one link.
-use Rattle.std.proofs.Common.{◌≡◌, ◌≢◌, ℕ, ◌⊎◌, inl, inr, ◌∙◌, sym, ap, refl, cond, eqb, Option, Some, arith}
-use Rattle.std.proofs.lemmas.Bool.{cases_eq}
-use Rattle.npf_types.specs.declared.link.Link.{Link}
-use Rattle.npf_types.specs.declared.link.Link.TheVariants.{Ethernet, Raw}
-use Rattle.npf_pcap.specs.declared.format.Format.{Format}
-use Rattle.npf_pcap.specs.declared.format.Order.{Order}
-use Rattle.npf_pcap.specs.declared.format.Order.TheVariants.{Big, Little}
-use Rattle.npf_pcap.specs.declared.format.Precision.{Precision}
-use Rattle.npf_pcap.specs.declared.format.Precision.TheVariants.{Micro, Nano}
+use Rattle.std.proofs.{Common.{◌≡◌, ◌≢◌, ℕ, ◌⊎◌, inl, inr, ◌∙◌, sym, ap, refl, cond, eqb, Option, Some, arith}, lemmas.Bool.cases_eq}
+use Rattle.npf_types.specs.declared.link.Link.{Link, TheVariants.{Ethernet, Raw}}
+use Rattle.npf_shelf.proofs.OptionLemmas.{Some-injective}
+use Rattle.npf_pcap.specs.declared.format.{Format.Format, Endianness.{Endianness, TheVariants.{Big, Little}}, Precision.{Precision, TheVariants.{Micro, Nano}}}
 use Rattle.npf_pcap.specs.Format.{magic_of, link_number}
 
 -- what a magic number tells
@@ -18,18 +13,15 @@ told_by n =
     (cond (eqb n 0xd4c3b2a1) (Some (record { order = Little; precision = Micro }))
     (Some (record { order = Little; precision = Nano }))))
 
-told_by-magic_of : (o : Order) (p : Precision) → told_by (magic_of o p) ≡ Some (record { order = o; precision = p })
+told_by-magic_of : (o : Endianness) (p : Precision) → told_by (magic_of o p) ≡ Some (record { order = o; precision = p })
 told_by-magic_of Big Micro = refl
 told_by-magic_of Big Nano = refl
 told_by-magic_of Little Micro = refl
 told_by-magic_of Little Nano = refl
 
-same_some : {A : Type 0} (x y : A) → Some x ≡ Some y → x ≡ y
-same_some x y e = cc
-
 pub same_format : (f g : Format) → magic_of f.order f.precision ≡ magic_of g.order g.precision → f ≡ g
 same_format f g e =
-    same_some f g (sym (told_by-magic_of f.order f.precision) ∙ ap told_by e ∙ told_by-magic_of g.order g.precision)
+    Some-injective f g (sym (told_by-magic_of f.order f.precision) ∙ ap told_by e ∙ told_by-magic_of g.order g.precision)
 
 pub same_link : (l m : Link) → link_number l ≡ link_number m → l ≡ m
 same_link Ethernet Ethernet e = refl
@@ -37,7 +29,7 @@ same_link Ethernet Raw e = absurd (omega arith)
 same_link Raw Ethernet e = absurd (omega arith)
 same_link Raw Raw e = refl
 
-none_of : (n : ℕ) → n ≢ 0xa1b2c3d4 → n ≢ 0xa1b23c4d → n ≢ 0xd4c3b2a1 → n ≢ 0x4d3cb2a1 → (o : Order) (p : Precision) → n ≢ magic_of o p
+none_of : (n : ℕ) → n ≢ 0xa1b2c3d4 → n ≢ 0xa1b23c4d → n ≢ 0xd4c3b2a1 → n ≢ 0x4d3cb2a1 → (o : Endianness) (p : Precision) → n ≢ magic_of o p
 none_of n a b c d Big Micro = a
 none_of n a b c d Big Nano = b
 none_of n a b c d Little Micro = c

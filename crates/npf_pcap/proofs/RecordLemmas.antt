@@ -1,11 +1,8 @@
 -- Records are spelled in one way, and no bytes are records and have a bad one.
 use Rattle.std.proofs.Common.{◌≡◌, ◌≢◌, ℕ, zero, suc, ◌+◌, ◌-◌, ◌*◌, ◌≤◌, ◌⊎◌, inl, inr, ◌∙◌, sym, ap, subst, refl, List, [], ◌∷◌, ◌++◌, length, take, drop, arith, add-one, append_assoc, length-drop}
-use Rattle.std.proofs.lemmas.Bool.{cases_lt}
-use Rattle.std.proofs.lemmas.List.{append-nil}
+use Rattle.std.proofs.lemmas.{Bool.cases_lt, List.append-nil}
 use Rattle.npf_types.specs.declared.limits.TheConstants.{MAX_PACKET_BYTES}
-use Rattle.npf_pcap.specs.declared.format.Format.{Format}
-use Rattle.npf_pcap.specs.declared.capture.Record.{Record}
-use Rattle.npf_pcap.specs.declared.fault.CaptureFault.{CaptureFault}
+use Rattle.npf_pcap.specs.declared.{format.Format.Format, capture.Record.Record, fault.CaptureFault.CaptureFault}
 use Rattle.npf_pcap.specs.declared.fault.CaptureFault.TheVariants.{ShortHeader, BadMagic, BadVersion, BadLink, CutRecord, LongRecord, NoMemory}
 use Rattle.npf_pcap.specs.Reading.{HasRecordFault, FailsRecord}
 use Rattle.npf_pcap.specs.Record.{stored_len, record_len, time_of, HasRecord, Spells, AreRecords, AfterRecords, EndsInside, IsTooLong}

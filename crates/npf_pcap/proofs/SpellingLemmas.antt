@@ -1,17 +1,10 @@
 -- What is written is a capture of the same records.
 use Rattle.std.proofs.Common.{◌≡◌, ℕ, ◌+◌, ◌/◌, ◌%◌, ◌^◌, ◌∙◌, sym, ap, subst, refl, List, [], ◌∷◌, ◌++◌, length, take, drop, arith, append_assoc, length-append, All}
-use Rattle.std.proofs.lemmas.List.{drop-drop, take_at, drop_at}
-use Rattle.std.proofs.lemmas.List.Elements.{recursion_from_All}
-use Rattle.std.specs.List.{flat_map, AllByRecursion}
+use Rattle.std.{proofs.lemmas.List.{drop-drop, take_at, drop_at, Elements.recursion_from_All}, specs.List.{flat_map, AllByRecursion}}
 use Rattle.byteorder.specs.Numbers.{little_number-reads_back}
 use Rattle.npf_types.specs.declared.link.Link.TheVariants.{Raw}
-use Rattle.npf_pcap.specs.declared.format.Format.{Format}
-use Rattle.npf_pcap.specs.declared.format.Order.TheVariants.{Little}
-use Rattle.npf_pcap.specs.declared.format.Precision.TheVariants.{Nano}
-use Rattle.npf_pcap.specs.declared.capture.Record.{Record}
-use Rattle.npf_pcap.specs.Format.{number_at}
-use Rattle.npf_pcap.specs.Record.{stored_len, record_len, Spells, AreRecords}
-use Rattle.npf_pcap.specs.Capture.{IsCapture}
+use Rattle.npf_pcap.specs.declared.{format.{Format.Format, Endianness.TheVariants.Little, Precision.TheVariants.Nano}, capture.Record.Record}
+use Rattle.npf_pcap.specs.{Format.number_at, Record.{stored_len, record_len, Spells, AreRecords}, Capture.IsCapture}
 use Rattle.npf_pcap.specs.Spelling.{record_bytes, capture_bytes, FitsCapture}
 
 -- five pieces, appended one after the other

@@ -4,18 +4,18 @@ use Rattle.std.specs.Prelude.{ℕ, ◌*◌, min, List, drop}
 use Rattle.byteorder.specs.Endian.{big_number, little_number}
 use Rattle.npf_types.specs.declared.link.Link.{Link}
 use Rattle.npf_types.specs.declared.link.Link.TheVariants.{Ethernet, Raw}
-use Rattle.npf_pcap.specs.declared.format.Order.{Order}
-use Rattle.npf_pcap.specs.declared.format.Order.TheVariants.{Big, Little}
+use Rattle.npf_pcap.specs.declared.format.Endianness.{Endianness}
+use Rattle.npf_pcap.specs.declared.format.Endianness.TheVariants.{Big, Little}
 use Rattle.npf_pcap.specs.declared.format.Precision.{Precision}
 use Rattle.npf_pcap.specs.declared.format.Precision.TheVariants.{Micro, Nano}
 
 -- the number of `size` bytes at a place
-abbrev pub number_at : Order → ℕ → List ℕ → ℕ → ℕ
+abbrev pub number_at : Endianness → ℕ → List ℕ → ℕ → ℕ
 number_at Big size bytes at = big_number size (drop at bytes)
 number_at Little size bytes at = little_number size (drop at bytes)
 
 -- the magic number, as it reads with the highest byte first: 0xa1b2c3d4 or 0xa1b23c4d, or its bytes turned round
-abbrev pub magic_of : Order → Precision → ℕ
+abbrev pub magic_of : Endianness → Precision → ℕ
 magic_of Big Micro = 0xa1b2c3d4
 magic_of Big Nano = 0xa1b23c4d
 magic_of Little Micro = 0xd4c3b2a1

@@ -3,7 +3,7 @@
 // The magic number is read with the highest byte first and compared with four numbers, so bytes tell one format at most, whatever they are,
 // and the laws of captures need no premise on bytes.
 ghost use Rattle.std.specs.Prelude.{◌≡◌, ◌≢◌, ◌+◌, ◌≤◌, length, IfSome, IfNone};
-ghost use Rattle.npf_pcap.specs.declared.format.Order.{Order as OrderType};
+ghost use Rattle.npf_pcap.specs.declared.format.Endianness.{Endianness as OrderType};
 ghost use Rattle.npf_pcap.specs.declared.format.Precision.{Precision as PrecisionType};
 ghost use Rattle.npf_pcap.specs.Format.{number_at, magic_of, nanoseconds as nanoseconds_of};
 
@@ -11,20 +11,20 @@ use byteorder::{BigEndian, ByteOrder, LittleEndian};
 
 /// In which order the bytes of a number stand.
 #[derive(Clone, Copy, Debug, PartialEq, Eq)]
-pub enum Order {
+pub enum Endianness {
     Big,
     Little,
 }
 
-impl Order {
+impl Endianness {
     /// The 16-bit number at a place.
     pub fn number16(self, bytes: &[u8], at: usize) -> u16
         requires { at + 2 ≤ length bytes.now }
         ensures { result ≡ number_at self 2 bytes.now at }
     {
         match self {
-            Order::Big => BigEndian::read_u16(&bytes[at..]),
-            Order::Little => LittleEndian::read_u16(&bytes[at..]),
+            Endianness::Big => BigEndian::read_u16(&bytes[at..]),
+            Endianness::Little => LittleEndian::read_u16(&bytes[at..]),
         }
     }
 
@@ -34,8 +34,8 @@ impl Order {
         ensures { result ≡ number_at self 4 bytes.now at }
     {
         match self {
-            Order::Big => BigEndian::read_u32(&bytes[at..]),
-            Order::Little => LittleEndian::read_u32(&bytes[at..]),
+            Endianness::Big => BigEndian::read_u32(&bytes[at..]),
+            Endianness::Little => LittleEndian::read_u32(&bytes[at..]),
         }
     }
 }
@@ -62,7 +62,7 @@ impl Precision {
 /// What a capture's magic number tells.
 #[derive(Clone, Copy, Debug, PartialEq, Eq)]
 pub struct Format {
-    pub order: Order,
+    pub order: Endianness,
     pub precision: Precision,
 }
 
@@ -73,10 +73,10 @@ impl Format {
         ensures none { IfNone result ((o : OrderType) (p : PrecisionType) → magic ≢ magic_of o p) }
     {
         let (order, precision) = match magic {
-            0xa1b2_c3d4 => (Order::Big, Precision::Micro),
-            0xa1b2_3c4d => (Order::Big, Precision::Nano),
-            0xd4c3_b2a1 => (Order::Little, Precision::Micro),
-            0x4d3c_b2a1 => (Order::Little, Precision::Nano),
+            0xa1b2_c3d4 => (Endianness::Big, Precision::Micro),
+            0xa1b2_3c4d => (Endianness::Big, Precision::Nano),
+            0xd4c3_b2a1 => (Endianness::Little, Precision::Micro),
+            0x4d3c_b2a1 => (Endianness::Little, Precision::Nano),
             _ => return None,
         };
         Some(Format { order, precision })

@@ -20,6 +20,6 @@ mod write;
 pub use capture::{Capture, Record};
 pub use extent::{Extent, Extents};
 pub use fault::CaptureFault;
-pub use format::{Format, Order, Precision};
+pub use format::{Endianness, Format, Precision};
 pub use read::{read_capture, read_extents};
 pub use write::{append_header, append_record, write_capture};

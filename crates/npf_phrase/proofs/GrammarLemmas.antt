@@ -1,12 +1,10 @@
 -- What holds of every grammar in which nothing that may be empty is repeated.
 use Rattle.std.proofs.Common.{◌≡◌, ◌⊎◌, inl, inr, true, Option, Ok, Err, List, [], ◌∷◌, ◌++◌, sym, ap, subst, ◌∙◌}
-use Rattle.npf_phrase.specs.Phrase.{Phrase, Reading, head, items_halt}
-use Rattle.npf_phrase.specs.Place.{StandsFirst, Stopped}
+use Rattle.npf_phrase.specs.{Phrase.{Phrase, Reading, head, items_halt}, Place.{StandsFirst, Stopped}}
 use Rattle.npf_phrase.specs.Grammar.{Grammar, token, pure, both, making, either, any_number, fitted, meaning, IsUnfit}
 use Rattle.npf_phrase.proofs.ReadingLemmas.{and_true, not_true, either_of}
 use Rattle.npf_phrase.proofs.SettledLemmas.{Outcome, Settled, settled_token, settled_pure, settled_both, settled_making, settled_either, settled_fitted}
-use Rattle.npf_phrase.proofs.TestLemmas.{advances}
-use Rattle.npf_phrase.proofs.NumberLemmas.{settled_number}
+use Rattle.npf_phrase.proofs.{TestLemmas.advances, NumberLemmas.settled_number}
 
 pub settled : {T A : Type 0} (g : Grammar T A) → advances g ≡ true → Settled (meaning g)
 settled (token test example) is = settled_token test example

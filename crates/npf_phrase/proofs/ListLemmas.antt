@@ -1,11 +1,9 @@
 -- Lists with separators, read in a loop, an item a turn.
 use Rattle.std.proofs.Common.{◌≡◌, ◌+◌, ◌≤◌, ◌<◌, Bool, true, false, ◌||◌, ◌&&◌, if◌then◌else◌, Option, Some, None, Ok, Err, List, [], ◌∷◌, ◌++◌, length, refl, sym, ap, ◌∙◌, append_assoc, arith}
-use Rattle.std.proofs.lemmas.List.{length-append}
+use Rattle.std.proofs.lemmas.{List.length-append, Bool.or_left}
 use Rattle.npf_phrase.specs.Phrase.{Phrase, Reading, ◌>>=◌, head, any_number, with_item}
-use Rattle.npf_phrase.specs.Grammar.{Grammar, meaning, preceded, those_there, sparse_list, unless}
-use Rattle.npf_phrase.proofs.NumberLemmas.{takes_some, number_step}
-use Rattle.npf_phrase.proofs.TestLemmas.{advances}
-use Rattle.npf_phrase.proofs.GrammarLemmas.{settled, read_takes}
+use Rattle.npf_phrase.{specs.Grammar.{Grammar, meaning, preceded, those_there, sparse_list, unless}, proofs.NumberLemmas.{takes_some, number_step}}
+use Rattle.npf_phrase.proofs.{TestLemmas.advances, GrammarLemmas.{settled, read_takes}}
 
 -- reading leaves no more tokens than there were, and fewer where the phrase isn't empty
 pub leaves : {T A : Type 0} (g : Grammar T A) → advances g ≡ true → (ts : List T) (a : A) (rest : List T) → (meaning g).read ts ≡ Ok (a, rest) → length rest ≤ length ts
@@ -14,7 +12,8 @@ leaves g is ts a rest reads =
     let count : length ts ≡ length taken.front + length rest = ap length taken.parts ∙ length-append taken.front rest in
     omega arith
 
-pub shortens : {T A : Type 0} (g : Grammar T A) → advances g ≡ true → (meaning g).nullable ≡ false → (ts : List T) (a : A) (rest : List T) → (meaning g).read ts ≡ Ok (a, rest) → length rest < length ts
+pub shortens : {T A : Type 0} (g : Grammar T A) → advances g ≡ true → (meaning g).nullable ≡ false →
+    (ts : List T) (a : A) (rest : List T) → (meaning g).read ts ≡ Ok (a, rest) → length rest < length ts
 shortens g is full ts a rest reads =
     let taken = read_takes (meaning g) (settled g is) ts a rest reads in
     let some = takes_some (meaning g) (settled g is) full taken.front a (head rest) taken.is in
@@ -33,10 +32,6 @@ extend_none (Err at) = refl
 extend_more : {T A : Type 0} (done more : List A) (r : Reading T (List A)) → extend done (extend more r) ≡ extend (done ++ more) r
 extend_more done more (Ok r) = ap (λ items. Ok (items, r.1)) (sym (append_assoc done more r.0))
 extend_more done more (Err at) = refl
-
-or_begins : {a : Bool} (b : Bool) → a ≡ true → (a || b) ≡ true
-or_begins {a = true} b is = refl
-or_begins {a = false} b is = cc
 
 or_lacks : {a b : Bool} (c : Bool) → a ≡ false → b ≡ false → (a || (b && c)) ≡ false
 or_lacks {a = true} c is full = cc
@@ -119,10 +114,11 @@ module _ {T A S : Type 0} (separator : Grammar T S) (entry : Grammar T (Option A
     -- a loop has read some of the items, and goes on with these tokens
     module _ (all : Reading T (List A)) (done : List A) (ts : List T) (so_far : all ≡ extend done (whole ts)) where
       -- an entry and a separator behind it
-      pub goes_on : (e : Option A) (us vs : List T) (s : S) → (meaning entry).read ts ≡ Ok (e, us) → (meaning separator).starts (head us) ≡ true → (meaning separator).read us ≡ Ok (s, vs) → all ≡ extend (done ++ if_there e) (whole vs)
+      pub goes_on : (e : Option A) (us vs : List T) (s : S) → (meaning entry).read ts ≡ Ok (e, us) → (meaning separator).starts (head us) ≡ true →
+          (meaning separator).read us ≡ Ok (s, vs) → all ≡ extend (done ++ if_there e) (whole vs)
       goes_on e us vs s reads begins separates =
           so_far ∙ ap (extend done) (whole_is ts (Ok (e, us)) reads
-          ∙ ap (with_entry e) (step us true (or_begins ((meaning separator).nullable && (meaning entry).starts (head us)) begins)
+          ∙ ap (with_entry e) (step us true (or_left _ ((meaning separator).nullable && (meaning entry).starts (head us)) begins)
           ∙ ap (λ r. ((r >>= (λ a. (meaning entry).read a.1 >>= paired a.0)) >>= second) >>= (λ e'. with_item e'.0 (others e'.1))) separates)
           ∙ with_next e s ((meaning entry).read vs) ∙ ap (extend (if_there e)) (sym (whole_is vs ((meaning entry).read vs) refl)))
           ∙ extend_more done (if_there e) (whole vs)
@@ -140,5 +136,6 @@ module _ {T A S : Type 0} (separator : Grammar T S) (entry : Grammar T (Option A
 pub left_out : {T A : Type 0} (closes : Option T → Bool) (g : Grammar T A) (ts : List T) → closes (head ts) ≡ true → (meaning (unless closes g)).read ts ≡ Ok (None, ts)
 left_out closes g ts closed = ap (λ b. if b then Ok (None, ts) else ((meaning g).read ts >>= (λ a. Ok (Some a.0, a.1)))) closed
 
-pub not_left_out : {T A : Type 0} (closes : Option T → Bool) (g : Grammar T A) (ts : List T) (r : Reading T A) → closes (head ts) ≡ false → (meaning g).read ts ≡ r → (meaning (unless closes g)).read ts ≡ (r >>= (λ a. Ok (Some a.0, a.1)))
+pub not_left_out : {T A : Type 0} (closes : Option T → Bool) (g : Grammar T A) (ts : List T) (r : Reading T A) → closes (head ts) ≡ false →
+    (meaning g).read ts ≡ r → (meaning (unless closes g)).read ts ≡ (r >>= (λ a. Ok (Some a.0, a.1)))
 not_left_out closes g ts r stands reads = ap (λ b. if b then Ok (None, ts) else ((meaning g).read ts >>= (λ a. Ok (Some a.0, a.1)))) stands ∙ ap (λ r. r >>= (λ a. Ok (Some a.0, a.1))) reads

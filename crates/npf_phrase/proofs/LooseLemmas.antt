@@ -1,13 +1,10 @@
 -- The tokens before the place at which a grammar halts can be finished, were every value to fit.
 use Rattle.std.proofs.Common.{◌≡◌, inl, inr, Bool, true, false, ◌||◌, ◌&&◌, Option, Some, None, List, [], ◌∷◌, ◌++◌, refl, sym, ap, subst, ◌∙◌, append_assoc, append-nil}
 use Rattle.npf_phrase.specs.Phrase as P
-use Rattle.npf_phrase.specs.Phrase.{Phrase, ahead, chosen, are_items, items_halt}
-use Rattle.npf_phrase.specs.Place.{StandsFirst}
+use Rattle.npf_phrase.specs.{Phrase.{Phrase, ahead, chosen, are_items, items_halt}, Place.StandsFirst}
 use Rattle.npf_phrase.specs.Grammar.{Grammar, token, pure, both, making, either, any_number, fitted, meaning, loose}
-use Rattle.npf_phrase.proofs.ReadingLemmas.{and_true, or_false, not_true, shown, choose, either_of, take_first, take_second}
-use Rattle.npf_phrase.proofs.SettledLemmas.{Settled}
-use Rattle.npf_phrase.proofs.GrammarLemmas.{settled}
-use Rattle.npf_phrase.proofs.TestLemmas.{stands_apart, fine, fine_advances}
+use Rattle.npf_phrase.proofs.{ReadingLemmas.{and_true, or_false, not_true, shown, choose, either_of, take_first, take_second}, SettledLemmas.Settled}
+use Rattle.npf_phrase.proofs.{GrammarLemmas.settled, TestLemmas.{stands_apart, fine, fine_advances}}
 
 fine_settled : {T A : Type 0} (g : Grammar T A) → fine g ≡ true → Settled (meaning g)
 fine_settled g is = settled g (fine_advances g is)
@@ -25,7 +22,8 @@ pub record Exemplary {T A : Type 0} (p : Phrase T A) : Type 0 where
 
 -- what comes before an example doesn't go on with it
 module _ {T A : Type 0} (q : Phrase T A) (it : Settled q) (example : Exemplary q) where
-  pub before_example : (more : Option T → Bool) → (us : List T) (n : Option T) (qn : Bool) → us ≡ q.example → q.nullable ≡ qn → stands_apart more us ≡ true → q.more n ≡ false → (qn && more n) ≡ false → more (ahead us n) ≡ false
+  pub before_example : (more : Option T → Bool) → (us : List T) (n : Option T) (qn : Bool) → us ≡ q.example → q.nullable ≡ qn →
+      stands_apart more us ≡ true → q.more n ≡ false → (qn && more n) ≡ false → more (ahead us n) ≡ false
   before_example more (u ∷ us) n qn us_is qn_is apart ends none = not_true apart
   before_example more [] n true us_is qn_is apart ends none = none
   before_example more [] n false us_is qn_is apart ends none = absurd (it.filled qn_is example.value n (subst (λ us. q.Is us example.value n) (sym us_is) (example.is n ends)))
@@ -86,9 +84,11 @@ same_starts (fitted fits g) n = same_starts g n
 abbrev Weakens : {T A : Type 0} → Phrase T A → Phrase T A → Type 0
 Weakens {T} {A} p p' = (ts : List T) (a : A) (n : Option T) → p.Is ts a n → p'.Is ts a n
 
-number_weakens : {T A : Type 0} (p p' : Phrase T A) → ((n : Option T) → p'.starts n ≡ p.starts n) → Weakens p p' → (items : List A) (ts : List T) (n : Option T) → are_items p ts items n → are_items p' ts items n
+number_weakens : {T A : Type 0} (p p' : Phrase T A) → ((n : Option T) → p'.starts n ≡ p.starts n) → Weakens p p' →
+    (items : List A) (ts : List T) (n : Option T) → are_items p ts items n → are_items p' ts items n
 number_weakens p p' same weaker [] ts n is = (is.0, same n ∙ is.1)
-number_weakens p p' same weaker (a ∷ items) ts n (one, other, parts, begins, is, onward) = (one, other, parts, same (ahead ts n) ∙ begins, weaker one a (ahead other n) is, number_weakens p p' same weaker items other n onward)
+number_weakens p p' same weaker (a ∷ items) ts n (one, other, parts, begins, is, onward) =
+    (one, other, parts, same (ahead ts n) ∙ begins, weaker one a (ahead other n) is, number_weakens p p' same weaker items other n onward)
 
 weakens : {T A : Type 0} (g : Grammar T A) → Weakens (meaning g) (meaning (loose g))
 weakens (token test example) ts a n is = is
@@ -178,7 +178,8 @@ finishes (both g h) is t front unfit n halts =
     let parts = and_true (and_true is).0 in
     both_finishes (meaning g) (meaning (loose g)) (meaning h) (meaning (loose h)) (fine_settled (loose g) parts.0) (fine_settled (loose h) parts.1) (exemplary h parts.1) (and_true is).1
     (weakens g) (finishes g parts.0) (finishes h parts.1) t front unfit n halts
-finishes (making f g) is t front unfit n halts = let last = finishes g is t front unfit n halts in record { behind = last.behind; a = f ((t ∷ front) ++ last.behind) last.a; is = λ m ends. (last.a, last.is m ends, refl) }
+finishes (making f g) is t front unfit n halts = let last = finishes g is t front unfit n halts in
+    record { behind = last.behind; a = f ((t ∷ front) ++ last.behind) last.a; is = λ m ends. (last.a, last.is m ends, refl) }
 finishes (either test g h) is t front unfit n halts =
     let parts = and_true (and_true is).0 in
     either_of (test (Some t)) halts

@@ -1,10 +1,8 @@
 -- Phrases that stand any number of times.
 use Rattle.std.proofs.Common.{◌≡◌, ℕ, zero, suc, ◌+◌, ◌<◌, Bool, true, false, ◌||◌, Option, Some, Ok, Err, List, [], ◌∷◌, ◌++◌, length, if◌then◌else◌, refl, sym, ap, subst, ◌∙◌, append_assoc, arith}
 use Rattle.std.proofs.lemmas.List.{length-append}
-use Rattle.npf_phrase.specs.Phrase.{Phrase, Reading, ◌>>=◌, ahead, head, are_items, items_halt, with_item, read_items, any_number}
-use Rattle.npf_phrase.specs.Place.{StandsFirst}
-use Rattle.npf_phrase.proofs.ReadingLemmas.{head_behind, head_parts, head_three, joined_parts, or_false}
-use Rattle.npf_phrase.proofs.SettledLemmas.{Outcome, Settled, followed_by}
+use Rattle.npf_phrase.specs.{Phrase.{Phrase, Reading, ◌>>=◌, ahead, head, are_items, items_halt, with_item, read_items, any_number}, Place.StandsFirst}
+use Rattle.npf_phrase.proofs.{ReadingLemmas.{head_behind, head_parts, head_three, joined_parts, or_false}, SettledLemmas.{Outcome, Settled, followed_by}}
 
 module _ {T A : Type 0} (p : Phrase T A) (settled : Settled p) (full : p.nullable ≡ false) where
   pub takes_some : (one : List T) (a : A) (n : Option T) → p.Is one a n → 0 < length one
@@ -30,13 +28,21 @@ module _ {T A : Type 0} (p : Phrase T A) (settled : Settled p) (full : p.nullabl
   turn_by : (k : ℕ) (ts : List T) (b : Bool) → p.starts (head ts) ≡ b → read_items p (suc k) ts ≡ (if b then (p.read ts >>= behind_item k) else Ok ([], ts))
   turn_by k ts b is = turn k ts ∙ ap (λ b. if b then (p.read ts >>= behind_item k) else Ok ([], ts)) is
 
-  rest_outcome : (ts : List T) (a : A) (mid : List T) → p.starts (head ts) ≡ true → StandsFirst p ts a mid → (r : Reading T (List A)) → Outcome (any_number p) mid r → Outcome (any_number p) ts (with_item a r)
+  rest_outcome : (ts : List T) (a : A) (mid : List T) → p.starts (head ts) ≡ true → StandsFirst p ts a mid →
+      (r : Reading T (List A)) → Outcome (any_number p) mid r → Outcome (any_number p) ts (with_item a r)
   rest_outcome ts a mid begins is (Ok r) onward =
       let parts = joined_parts is.front onward.front r.1 is.parts onward.parts in
       record {
         front = is.front ++ onward.front;
         parts = parts;
-        is = (is.front, onward.front, refl, ap p.starts (sym (head_parts (is.front ++ onward.front) r.1 parts)) ∙ begins, subst (p.Is is.front a) (head_parts onward.front r.1 onward.parts) is.is, onward.is);
+        is = (
+          is.front,
+          onward.front,
+          refl,
+          ap p.starts (sym (head_parts (is.front ++ onward.front) r.1 parts)) ∙ begins,
+          subst (p.Is is.front a) (head_parts onward.front r.1 onward.parts) is.is,
+          onward.is,
+        );
       }
   rest_outcome ts a mid begins is (Err at) onward =
       let parts = joined_parts is.front onward.front at is.parts onward.parts in
@@ -83,9 +89,11 @@ module _ {T A : Type 0} (p : Phrase T A) (settled : Settled p) (full : p.nullabl
   items_outcome (suc k) ts less = subst (Outcome (any_number p) ts) (sym (turn k ts)) (turn_outcome k ts less (items_outcome k) (p.starts (head ts)) refl)
 
   -- as many turns as there are tokens are enough
-  same_turns : (k j : ℕ) (ts : List T) → length ts < suc k → length ts < suc j → ((us : List T) → length us < k → length us < j → read_items p k us ≡ read_items p j us) → (r : Reading T A) → Outcome p ts r →
+  same_turns : (k j : ℕ) (ts : List T) → length ts < suc k → length ts < suc j →
+      ((us : List T) → length us < k → length us < j → read_items p k us ≡ read_items p j us) → (r : Reading T A) → Outcome p ts r →
       (r >>= behind_item k) ≡ (r >>= behind_item j)
-  same_turns k j ts less fewer_yet again (Ok r) is = ap (with_item r.0) (again r.1 (fewer ts is.front r.1 r.0 (head r.1) k less is.is is.parts) (fewer ts is.front r.1 r.0 (head r.1) j fewer_yet is.is is.parts))
+  same_turns k j ts less fewer_yet again (Ok r) is =
+      ap (with_item r.0) (again r.1 (fewer ts is.front r.1 r.0 (head r.1) k less is.is is.parts) (fewer ts is.front r.1 r.0 (head r.1) j fewer_yet is.is is.parts))
   same_turns k j ts less fewer_yet again (Err at) is = refl
 
   enough_turns : (k j : ℕ) (ts : List T) → length ts < k → length ts < j → read_items p k ts ≡ read_items p j ts
@@ -104,7 +112,8 @@ module _ {T A : Type 0} (p : Phrase T A) (settled : Settled p) (full : p.nullabl
   pub number_step : (ts : List T) (b : Bool) → p.starts (head ts) ≡ b → (any_number p).read ts ≡ (if b then (p.read ts >>= (λ a. with_item a.0 ((any_number p).read a.1))) else Ok ([], ts))
   number_step ts b is = turn_by (length ts) ts b is ∙ ap (λ r. if b then r else Ok ([], ts)) (one_turn ts (p.read ts) (settled.outcome ts))
 
-  reads_on : (k : ℕ) (ts : List T) (a : A) (mid : List T) (r : Reading T (List A)) → p.starts (head ts) ≡ true → p.read ts ≡ Ok (a, mid) → read_items p k mid ≡ r → read_items p (suc k) ts ≡ with_item a r
+  reads_on : (k : ℕ) (ts : List T) (a : A) (mid : List T) (r : Reading T (List A)) → p.starts (head ts) ≡ true →
+      p.read ts ≡ Ok (a, mid) → read_items p k mid ≡ r → read_items p (suc k) ts ≡ with_item a r
   reads_on k ts a mid r begins is onward = turn_by k ts true begins ∙ ap (λ r. r >>= behind_item k) is ∙ ap (with_item a) onward
 
   number_complete : (items : List A) (k : ℕ) (ts rest : List T) → length (ts ++ rest) < k → are_items p ts items (head rest) → read_items p k (ts ++ rest) ≡ Ok (items, rest)
@@ -116,7 +125,8 @@ module _ {T A : Type 0} (p : Phrase T A) (settled : Settled p) (full : p.nullabl
       (ap p.read whole ∙ settled.complete one a (other ++ rest) (subst (p.Is one a) (sym (head_behind other rest)) is))
       (number_complete items k other rest (fewer (ts ++ rest) one (other ++ rest) a (ahead other (head rest)) k less is whole) onward)
 
-  number_halting : (items : List A) (k : ℕ) (front unfit behind : List T) → length (front ++ (unfit ++ behind)) < k → items_halt p items front unfit (head behind) → read_items p k (front ++ (unfit ++ behind)) ≡ Err (unfit ++ behind)
+  number_halting : (items : List A) (k : ℕ) (front unfit behind : List T) → length (front ++ (unfit ++ behind)) < k →
+      items_halt p items front unfit (head behind) → read_items p k (front ++ (unfit ++ behind)) ≡ Err (unfit ++ behind)
   number_halting items zero front unfit behind less is = none_left (length (front ++ (unfit ++ behind))) less
   number_halting [] (suc k) front unfit behind less (begins, is) =
       turn_by k (front ++ (unfit ++ behind)) true (ap p.starts (head_three front unfit behind) ∙ begins) ∙ ap (λ r. r >>= behind_item k) (settled.halting front unfit behind is)
@@ -134,8 +144,14 @@ module _ {T A : Type 0} (p : Phrase T A) (settled : Settled p) (full : p.nullabl
 
   number_followed : (ts : List T) (items : List A) (n m : Option T) → are_items p ts items n → (p.starts m || p.more m) ≡ false → are_items p ts items m
   number_followed ts [] n m is ends = (is.0, (or_false ends).0)
-  number_followed ts (a ∷ items) n m (one, other, parts, begins, is, onward) ends =
-      (one, other, parts, ap p.starts (sym (same_first ts one other a (ahead other n) n m is parts)) ∙ begins, followed_by p settled other one a n m is (λ _. (or_false ends).1), number_followed other items n m onward ends)
+  number_followed ts (a ∷ items) n m (one, other, parts, begins, is, onward) ends = (
+    one,
+    other,
+    parts,
+    ap p.starts (sym (same_first ts one other a (ahead other n) n m is parts)) ∙ begins,
+    followed_by p settled other one a n m is (λ _. (or_false ends).1),
+    number_followed other items n m onward ends,
+  )
 
   number_begins : (t : T) (ts : List T) (items : List A) (n : Option T) → are_items p (t ∷ ts) items n → p.starts (Some t) ≡ true
   number_begins t ts [] n is = let taken = is.0 in cc

@@ -29,10 +29,6 @@ pub or_false : {a b : Bool} → (a || b) ≡ false → (a ≡ false) × (b ≡ f
 or_false {a = true} is = cc
 or_false {a = false} is = (refl, is)
 
-pub or_true : {a : Bool} (b : Bool) → a ≡ true → (a || b) ≡ true
-or_true {a = true} b is = refl
-or_true {a = false} b is = cc
-
 pub or_other : (a : Bool) {b : Bool} → b ≡ true → (a || b) ≡ true
 or_other true is = refl
 or_other false is = is
@@ -69,3 +65,7 @@ take_second {b = false} P is q = q
 pub either_of : {R P Q : Type 0} (b : Bool) → chosen b P Q → (b ≡ true → P → R) → (b ≡ false → Q → R) → R
 either_of true is one other = one refl is
 either_of false is one other = other refl is
+
+pub by_choice : (b : Bool) (P Q G : Type 0) → (P → G) → (Q → G) → chosen b P Q → G
+by_choice true P Q G one other is = one is
+by_choice false P Q G one other is = other is

@@ -1,9 +1,10 @@
 -- What holds of each phrase: reading tells the truth and all of it, whatever stands further behind; and its shape tells
 -- the truth.
 use Rattle.std.proofs.Common.{◌≡◌, inl, inr, Bool, true, false, ◌&&◌, ◌||◌, not, Option, Some, None, is_some, Ok, Err, List, [], ◌∷◌, ◌++◌, if◌then◌else◌, refl, sym, ap, subst, ◌∙◌, append_assoc}
+use Rattle.std.proofs.lemmas.Bool.{or_left}
 use Rattle.npf_phrase.specs.Phrase.{Phrase, Reading, ◌>>=◌, ahead, head, front_of, Test, seen_by, read_by, read_token, token, pure, IsBoth, in_turn, making, either, where_fit, fitted}
 use Rattle.npf_phrase.specs.Place.{StandsFirst, Stopped}
-use Rattle.npf_phrase.proofs.ReadingLemmas.{head_behind, head_parts, head_three, joined_parts, front_is, or_false, or_true, or_other, not_false, choose, take_first, take_second, either_of}
+use Rattle.npf_phrase.proofs.ReadingLemmas.{head_behind, head_parts, head_three, joined_parts, front_is, or_false, or_other, not_false, choose, take_first, take_second, either_of}
 
 -- what reading answers is so
 abbrev pub Outcome : {T A : Type 0} → Phrase T A → List T → Reading T A → Type 0
@@ -106,7 +107,8 @@ module _ {T A B : Type 0} (p : Phrase T A) (q : Phrase T B) (first : Settled p) 
   both_halting : (front unfit behind : List T) → (in_turn p q).Halts front unfit (head behind) → (in_turn p q).read (front ++ (unfit ++ behind)) ≡ Err (unfit ++ behind)
   both_halting front unfit behind (inl is) = ap (λ r. r >>= behind_first) (first.halting front unfit behind is)
   both_halting front unfit behind (inr is) =
-      reads_on is.one (is.other ++ (unfit ++ behind)) (front ++ (unfit ++ behind)) is.a (Err (unfit ++ behind)) (ap (λ us. us ++ (unfit ++ behind)) is.parts ∙ append_assoc is.one is.other (unfit ++ behind))
+      reads_on is.one (is.other ++ (unfit ++ behind)) (front ++ (unfit ++ behind)) is.a (Err (unfit ++ behind))
+      (ap (λ us. us ++ (unfit ++ behind)) is.parts ∙ append_assoc is.one is.other (unfit ++ behind))
       (subst (p.Is is.one is.a) (sym (head_three is.other unfit behind)) is.first) (second.halting is.other unfit behind is.second)
 
   -- where the second takes nothing, it may be empty
@@ -114,15 +116,17 @@ module _ {T A B : Type 0} (p : Phrase T A) (q : Phrase T B) (first : Settled p) 
   first_ends us b n m true is_nullable is ends empty = ends
   first_ends us b n m false is_nullable is ends empty = absurd (second.filled is_nullable b n (subst (λ vs. q.Is vs b n) empty is))
 
-  both_filled : (one other : List T) (ab : A × B) (n : Option T) (pn qn : Bool) → p.nullable ≡ pn → q.nullable ≡ qn → (pn && qn) ≡ false → [] ≡ one ++ other → p.Is one ab.0 (ahead other n) → q.Is other ab.1 n → ⊥
+  both_filled : (one other : List T) (ab : A × B) (n : Option T) (pn qn : Bool) → p.nullable ≡ pn → q.nullable ≡ qn →
+      (pn && qn) ≡ false → [] ≡ one ++ other → p.Is one ab.0 (ahead other n) → q.Is other ab.1 n → ⊥
   both_filled (t ∷ one) other ab n pn qn p_is q_is full parts is onward = cc
   both_filled [] (t ∷ other) ab n pn qn p_is q_is full parts is onward = cc
   both_filled [] [] ab n false qn p_is q_is full parts is onward = first.filled p_is ab.0 n is
   both_filled [] [] ab n true false p_is q_is full parts is onward = second.filled q_is ab.1 n onward
   both_filled [] [] ab n true true p_is q_is full parts is onward = cc
 
-  both_begins : (t : T) (ts one other : List T) (ab : A × B) (n : Option T) (pn : Bool) → p.nullable ≡ pn → t ∷ ts ≡ one ++ other → p.Is one ab.0 (ahead other n) → q.Is other ab.1 n → (p.starts (Some t) || (pn && q.starts (Some t))) ≡ true
-  both_begins t ts (u ∷ us) other ab n pn pn_is parts is onward = or_true (pn && q.starts (Some t)) (ap (λ vs. p.starts (head vs)) parts ∙ first.begins u us ab.0 (ahead other n) is)
+  both_begins : (t : T) (ts one other : List T) (ab : A × B) (n : Option T) (pn : Bool) → p.nullable ≡ pn → t ∷ ts ≡ one ++ other →
+      p.Is one ab.0 (ahead other n) → q.Is other ab.1 n → (p.starts (Some t) || (pn && q.starts (Some t))) ≡ true
+  both_begins t ts (u ∷ us) other ab n pn pn_is parts is onward = or_left _ (pn && q.starts (Some t)) (ap (λ vs. p.starts (head vs)) parts ∙ first.begins u us ab.0 (ahead other n) is)
   both_begins t ts [] [] ab n pn pn_is parts is onward = cc
   both_begins t ts [] (u ∷ us) ab n true pn_is parts is onward = or_other (p.starts (Some t)) (ap (λ vs. q.starts (head vs)) parts ∙ second.begins u us ab.1 n onward)
   both_begins t ts [] (u ∷ us) ab n false pn_is parts is onward = absurd (first.filled pn_is ab.0 (Some u) is)
@@ -203,7 +207,8 @@ module _ {T A : Type 0} (test : Option T → Bool) (p q : Phrase T A) (first : S
   empty_second a n m false qn_is ends is = absurd (second.filled qn_is a n is)
 
   either_followed : (ts : List T) (a : A) (n m : Option T) → (either test p q).Is ts a n → (either test p q).more m ≡ false → (either test p q).Is ts a m
-  either_followed (t ∷ us) a n m is ends = choose (test (Some t)) is (λ _ is. first.followed (t ∷ us) a n m is (or_false (or_false ends).0).0) (λ _ is. second.followed (t ∷ us) a n m is (or_false (or_false ends).0).1)
+  either_followed (t ∷ us) a n m is ends =
+      choose (test (Some t)) is (λ _ is. first.followed (t ∷ us) a n m is (or_false (or_false ends).0).0) (λ _ is. second.followed (t ∷ us) a n m is (or_false (or_false ends).0).1)
   either_followed [] a n m is ends =
       either_of (test n) is (λ _ is. take_first _ (empty_first a n m p.nullable refl (or_false (or_false ends).1).0 is) (first.followed [] a n m is (or_false (or_false ends).0).0))
       (λ _ is. take_second _ (empty_second a n m q.nullable refl (or_false (or_false ends).1).1 is) (second.followed [] a n m is (or_false (or_false ends).0).1))
@@ -220,7 +225,7 @@ module _ {T A : Type 0} (test : Option T → Bool) (p q : Phrase T A) (first : S
         (λ lacks is. reads_second (Err (unfit ++ behind)) (front ++ (unfit ++ behind)) (ap test (head_three front unfit behind) ∙ lacks) (second.halting front unfit behind is));
     followed = either_followed;
     filled = λ full a n is. either_of (test n) is (λ _ is. first.filled (or_false full).0 a n is) (λ _ is. second.filled (or_false full).1 a n is);
-    begins = λ t ts a n is. either_of (test (Some t)) is (λ _ is. or_true (q.starts (Some t)) (first.begins t ts a n is)) (λ _ is. or_other (p.starts (Some t)) (second.begins t ts a n is));
+    begins = λ t ts a n is. either_of (test (Some t)) is (λ _ is. or_left _ (q.starts (Some t)) (first.begins t ts a n is)) (λ _ is. or_other (p.starts (Some t)) (second.begins t ts a n is));
   }
 
 module _ {T A : Type 0} (fits : A → Bool) (p : Phrase T A) (settled : Settled p) where
@@ -238,7 +243,8 @@ module _ {T A : Type 0} (fits : A → Bool) (p : Phrase T A) (settled : Settled 
   fitted_halting : (front unfit behind : List T) → (fitted fits p).Halts front unfit (head behind) → (fitted fits p).read (front ++ (unfit ++ behind)) ≡ Err (unfit ++ behind)
   fitted_halting front unfit behind (inl is) = ap (λ r. r >>= tested (front ++ (unfit ++ behind))) (settled.halting front unfit behind is)
   fitted_halting front unfit behind (inr (empty, a, is, unfits)) =
-      ap (λ us. (fitted fits p).read (us ++ (unfit ++ behind))) empty ∙ ap (λ r. r >>= tested (unfit ++ behind)) (settled.complete unfit a behind is) ∙ ap (λ b. where_fit b a behind (unfit ++ behind)) unfits
+      ap (λ us. (fitted fits p).read (us ++ (unfit ++ behind))) empty ∙ ap (λ r. r >>= tested (unfit ++ behind))
+      (settled.complete unfit a behind is) ∙ ap (λ b. where_fit b a behind (unfit ++ behind)) unfits
 
   pub settled_fitted : Settled (fitted fits p)
   settled_fitted = record {

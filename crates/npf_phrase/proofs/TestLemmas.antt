@@ -1,7 +1,6 @@
 -- What can be tested of a grammar, and what follows.
 use Rattle.std.proofs.Common.{◌≡◌, Bool, true, ◌&&◌, not, Option, Some, is_some, List, [], ◌∷◌, refl, ap, ◌∙◌}
-use Rattle.npf_phrase.specs.Grammar.{Grammar, token, pure, both, making, either, any_number, fitted, meaning}
-use Rattle.npf_phrase.proofs.ReadingLemmas.{and_true}
+use Rattle.npf_phrase.{specs.Grammar.{Grammar, token, pure, both, making, either, any_number, fitted, meaning}, proofs.ReadingLemmas.and_true}
 
 -- nothing that may be empty is repeated
 abbrev pub advances : {T A : Type 0} → Grammar T A → Bool

@@ -1,7 +1,7 @@
 -- Counts of the bytes below a size that pass a test.
 use Rattle.std.proofs.Common.{◌≡◌, ℕ, ◌+◌, ◌-◌, ◌≤◌, ◌⊎◌, ◌&&◌, ◌||◌, Bool, false, zero, suc, inl, inr, sym, ap, min, nat_eq, nat_le, nat_lt, if◌then◌else◌, arith}
 use Rattle.std.proofs.lemmas.Bool.Decides.{nat_tests}
-use Rattle.npf_pieces.specs.OpenSet.{count_below}
+use Rattle.npf_pieces.specs.Overlap.{count_below}
 
 pub count_within : (f : ℕ → Bool) (n : ℕ) → count_below f n ≤ n
 count_within f zero = omega arith

@@ -1,16 +1,10 @@
 -- Data that are written to their places, and what stays beside them.
 use Rattle.std.proofs.Common.{◌≡◌, ℕ, ◌+◌, ◌-◌, ◌<◌, ◌≤◌, ◌⊎◌, ◌∙◌, false, ⊎_elim, inl, inr, zero, suc, sym, ap, max, nat_lt, List, [], ◌∷◌, length, take, drop, get_or, arith}
-use Rattle.std.specs.Prelude.{All, AllPairs, slice_range}
-use Rattle.std.proofs.lemmas.Bool.{cases_lt}
-use Rattle.std.proofs.lemmas.Bool.Decides.{nat_tests}
-use Rattle.std.proofs.lemmas.List.{get_or-take, get_or_default, length-take}
+use Rattle.std.{specs.Prelude.{All, AllPairs, slice_range}, proofs.lemmas.{Bool.{cases_lt, Decides.nat_tests}, List.{get_or-take, get_or_default, length-take}}}
 use Rattle.std.proofs.lemmas.Slice.{between_is, between-put_mid, take-put_mid_below, drop-put_mid}
 use borrow.Rule.Slice.PartMut.{put_mid}
-use Rattle.npf_pieces.specs.declared.arrived.Arrived.{Arrived}
+use Rattle.npf_pieces.specs.{declared.arrived.Arrived.Arrived, Datagram.{HasDataAt, KeepsOthers}, Piece.end_of, Sets.{reach, shares_byte}}
 use Rattle.npf_traffic.specs.declared.packet.Packet.{Packet}
-use Rattle.npf_pieces.specs.Datagram.{HasDataAt, KeepsOthers}
-use Rattle.npf_pieces.specs.Piece.{end_of}
-use Rattle.npf_pieces.specs.Sets.{reach, shares_byte}
 
 pub range_kept : (xs ys : List ℕ) (a k from to : ℕ) → a + k ≤ length xs → length ys ≡ k → (to ≤ a) ⊎ (a + k ≤ from)
     → slice_range (put_mid a k xs ys) from to ≡ slice_range xs from to

@@ -1,15 +1,10 @@
 -- Datagrams that stand one behind the other.
 use Rattle.std.proofs.Common.{◌≡◌, ℕ, ◌+◌, ◌-◌, ◌<◌, ◌≤◌, ◌∙◌, zero, suc, refl, sym, ap, List, [], ◌∷◌, ◌++◌, length, take, drop, get_or, set, append-nil, length-drop, arith}
 use borrow.Rule.Slice.PartMut.{post_of}
-use Rattle.std.specs.Prelude.{All, sum_by}
-use Rattle.std.proofs.lemmas.List.{drop_all, drop_more, drop-append-le, take_all, take_at, take-append-le}
-use Rattle.std.proofs.lemmas.List.Elements.{All-cons, All-head, All-nil, All-tail}
-use Rattle.std.proofs.lemmas.List.Sums.{sum_by-cons}
+use Rattle.std.{specs.Prelude.{All, sum_by}, proofs.lemmas.List.{drop_all, drop_more, drop-append-le, take_all, take_at, take-append-le}}
+use Rattle.std.proofs.lemmas.List.{Elements.{All-cons, All-head, All-nil, All-tail}, Sums.sum_by-cons}
 use Rattle.npf_traffic.specs.declared.packet.Packet.{Packet}
-use Rattle.npf_pieces.specs.declared.datagram_at.DatagramAt.{DatagramAt}
-use Rattle.npf_pieces.specs.declared.arrived.Arrived.{Arrived}
-use Rattle.npf_pieces.specs.Datagram.{IsDatagram}
-use Rattle.npf_pieces.specs.Datagrams.{AddsDatagram, last_place}
+use Rattle.npf_pieces.specs.{declared.{datagram_at.DatagramAt.DatagramAt, arrived.Arrived.Arrived}, Datagram.IsDatagram, Datagrams.{AddsDatagram, last_place}}
 use Rattle.npf_pieces.specs.DatagramAt.{PutTogether, becomes, cut_at, with_datagrams, with_packet}
 
 pub cut_at_push : (ds : List DatagramAt) (d : DatagramAt) (bytes more : List ℕ) → sum_by (λ d. d.len) ds ≡ length bytes → d.len ≡ length more
@@ -73,7 +68,8 @@ took old cur more at n is count within =
 
 -- a datagram that is written behind the others
 pub adds_so : (packets : List Packet) (set : List Arrived) (ds kept all : List DatagramAt) (d : DatagramAt) (bytes cur more whole : List ℕ) (at : ℕ)
-    → all ≡ kept ++ d ∷ [] → kept ≡ ds → whole ≡ take at cur ++ (more ++ post_of at (length cur - at) cur) → sum_by (λ d. d.len) ds ≡ length bytes → take at cur ≡ bytes → d.len ≡ length more → d.place ≡ last_place set → IsDatagram packets set more
+    → all ≡ kept ++ d ∷ [] → kept ≡ ds → whole ≡ take at cur ++ (more ++ post_of at (length cur - at) cur) → sum_by (λ d. d.len) ds ≡ length bytes →
+    take at cur ≡ bytes → d.len ≡ length more → d.place ≡ last_place set → IsDatagram packets set more
     → AddsDatagram packets set (cut_at ds bytes) (cut_at all whole)
 adds_so packets set ds kept all d bytes cur more whole at pushed same written sized begins long place is =
     let none : post_of at (length cur - at) cur ≡ [] = drop_all (length cur - at) (drop at cur) (omega (arith, length-drop at cur)) in

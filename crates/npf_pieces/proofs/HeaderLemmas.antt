@@ -1,8 +1,6 @@
 -- What is written into a header, and what stays.
-use Rattle.std.proofs.Common.{◌≡◌, ◌≢◌, ℕ, ◌+◌, ◌<◌, ◌≤◌, ⊎_elim, List, get_or, set, arith, get_or-set_other}
-use Rattle.std.specs.List.{SameBelow, SameFrom}
-use Rattle.std.specs.Prelude.{slice_index}
-use Rattle.std.proofs.lemmas.Bool.{cases_lt}
+use Rattle.std.{proofs.Common.{◌≡◌, ◌≢◌, ℕ, ◌+◌, ◌<◌, ◌≤◌, ⊎_elim, List, get_or, set, arith, get_or-set_other}, specs.List.{SameBelow, SameFrom}}
+use Rattle.std.{specs.Prelude.slice_index, proofs.lemmas.Bool.cases_lt}
 use Rattle.npf_fields.specs.Field.{number16}
 
 pub number16_below : (old new : List ℕ) (n at : ℕ) → SameBelow old new n → at + 2 ≤ n → number16 new at ≡ number16 old at

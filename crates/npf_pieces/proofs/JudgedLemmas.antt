@@ -1,17 +1,9 @@
 -- How far the pieces are judged follows each step.
-use Rattle.std.proofs.Common.{◌≡◌, ℕ, ◌+◌, ◌-◌, ◌<◌, ◌≤◌, ◌∙◌, true, false, suc, refl, sym, ap, List, [], ◌∷◌, ◌++◌, Some, None, length, take, drop, get_or, append-nil, append_assoc, length-drop, arith}
-use Rattle.std.specs.Prelude.{map, slice_range}
-use Rattle.std.proofs.Math.Seq.{drop-cons, drop-length}
-use Rattle.std.proofs.lemmas.List.{get_or-drop, map_push, take_more}
-use Rattle.std.proofs.lemmas.Grind.{common_steps}
-use Rattle.npf_pieces.specs.declared.arrived.Arrived.{Arrived}
-use Rattle.npf_pieces.specs.declared.arrived.Ending.{Ending}
-use Rattle.npf_pieces.specs.declared.arrived.Ending.TheVariants.{Unfinished}
-use Rattle.npf_pieces.specs.declared.arrived.SetAt.{SetAt}
-use Rattle.npf_pieces.specs.declared.open_set.OpenSet.{OpenSet}
-use Rattle.npf_pieces.specs.Judged.{IsJudged, pieces_of}
-use Rattle.npf_pieces.specs.OpenSet.{KnowsSet}
-use Rattle.std.specs.Prelude.{All}
+use Rattle.std.proofs.Common.{◌≡◌, ℕ, ◌+◌, ◌-◌, ◌<◌, ◌≤◌, ◌∙◌, true, false, suc, refl, sym, ap, List, [], ◌∷◌, ◌++◌, Some, None, length}
+use Rattle.std.{proofs.Common.{take, drop, get_or, append-nil, append_assoc, length-drop, arith}, specs.Prelude.{map, slice_range}}
+use Rattle.std.{proofs.{Math.Seq.{drop-cons, drop-length}, lemmas.{List.{get_or-drop, map_push, take_more}, Grind.common_steps}}, specs.Prelude.All}
+use Rattle.npf_pieces.specs.declared.{arrived.{Arrived.Arrived, Ending.{Ending, TheVariants.Unfinished}, SetAt.SetAt}, overlap.OpenSet.OpenSet}
+use Rattle.npf_pieces.specs.{Judged.{IsJudged, pieces_of}, Overlap.KnowsSet}
 use Rattle.std.proofs.lemmas.List.Elements.{All-push}
 use Rattle.npf_pieces.specs.Sets.{Set, StandsIn, ended_by, ending_with, is_late, set_at, sets_from, unfinished}
 

@@ -1,20 +1,12 @@
 -- What is known of an open set follows a piece that is added.
-use Rattle.std.proofs.Common.{◌≡◌, ℕ, ◌+◌, ◌-◌, ◌*◌, ◌/◌, ◌<◌, ◌≤◌, ◌∙◌, ◌&&◌, ◌||◌, Bool, true, false, refl, sym, ap, max, nat_eq, nat_le, nat_lt, if◌then◌else◌, List, [], ◌∷◌, ◌++◌, Option, Some, None, arith}
-use Rattle.std.specs.Prelude.{slice_index}
-use Rattle.std.specs.List.{list_any}
-use Rattle.std.specs.Option.{option_or}
-use Rattle.std.proofs.lemmas.Bool.Decides.{nat_tests}
-use Rattle.std.proofs.Common.{replicate}
-use Rattle.std.proofs.lemmas.List.{get_or-replicate}
-use Rattle.std.proofs.lemmas.List.Elements.{All-nil, All-push}
-use Rattle.npf_pieces.specs.declared.arrived.Arrived.{Arrived}
-use Rattle.npf_pieces.specs.declared.arrived.Ending.TheVariants.{Complete, Refused}
-use Rattle.npf_pieces.specs.declared.open_set.OpenSet.{OpenSet}
-use Rattle.npf_pieces.specs.OpenSet.{KnowsSet, IsTaken, beginning_header, is_filled}
-use Rattle.npf_pieces.specs.Piece.{IsGood, IsPlacedPiece, end_of}
-use Rattle.npf_pieces.specs.Sets.{ending_of, has, has_byte, is_last, overlaps, passes_last, reach, shares_byte}
-use Rattle.npf_pieces.proofs.CountLemmas.{count_within}
-use Rattle.npf_pieces.proofs.SetLemmas.{all_by_count, any_push, covered_push, first_push, header_push, not_shared, left_false, right_false, passes_push, reach_push, reach_within, too_long, unit_byte, unit_had, unit_shared}
+use Rattle.std.proofs.Common.{◌≡◌, ℕ, ◌+◌, ◌-◌, ◌*◌, ◌/◌, ◌<◌, ◌≤◌, ◌∙◌, ◌&&◌, ◌||◌, Bool, true, false, refl, sym, ap, max, nat_eq, nat_le}
+use Rattle.std.{proofs.Common.{nat_lt, if◌then◌else◌, List, [], ◌∷◌, ◌++◌, Option, Some, None, arith}, specs.{Prelude.slice_index, List.list_any}}
+use Rattle.std.{specs.Option.option_or, proofs.{lemmas.{Bool.Decides.nat_tests, List.{get_or-replicate, Elements.{All-nil, All-push}}}, Common.replicate}}
+use Rattle.npf_pieces.specs.declared.{arrived.{Arrived.Arrived, Ending.TheVariants.{Complete, Refused}}, overlap.OpenSet.OpenSet}
+use Rattle.npf_pieces.specs.{Overlap.{KnowsSet, IsTaken, beginning_header, is_filled}, Piece.{IsGood, IsPlacedPiece, end_of}}
+use Rattle.npf_pieces.{specs.Sets.{ending_of, has, has_byte, is_last, overlaps, passes_last, reach, shares_byte}, proofs.CountLemmas.count_within}
+use Rattle.npf_pieces.proofs.SetLemmas.{all_by_count, any_push, covered_push, first_push, header_push, not_shared, left_false, right_false, passes_push}
+use Rattle.npf_pieces.proofs.SetLemmas.{reach_push, reach_within, too_long, unit_byte, unit_had, unit_shared}
 
 -- a piece that `piece_of` finds in a short packet
 pub taken_of : (a : Arrived) (size : ℕ) → size ≤ 262144 → IsGood a.piece → IsPlacedPiece size a.piece → IsTaken a

@@ -1,8 +1,6 @@
 -- A fragment that isn't bad is a good piece.
-use Rattle.std.proofs.Common.{◌≡◌, ◌≤◌, ◌%◌, ◌⊎◌, true, false, arith}
-use Rattle.std.proofs.lemmas.Bool.Decides.{nat_tests}
-use Rattle.npf_pieces.specs.declared.piece.Piece.{Piece}
-use Rattle.npf_pieces.specs.Piece.{BeginsUnit, IsGood, end_of, is_all, is_bad, length_of}
+use Rattle.std.proofs.{Common.{◌≡◌, ◌≤◌, ◌%◌, ◌⊎◌, true, false, arith}, lemmas.Bool.Decides.nat_tests}
+use Rattle.npf_pieces.specs.{declared.piece.Piece.Piece, Piece.{BeginsUnit, IsGood, end_of, is_all, is_bad, length_of}}
 
 ends_whole : (piece : Piece) → is_bad piece ≡ false → (piece.last ≡ true) ⊎ (length_of piece % 8 ≡ 0)
 ends_whole piece h = grind (arith, nat_tests)

@@ -1,15 +1,9 @@
 -- What is known of a set that a piece joins.
-use Rattle.std.proofs.Common.{◌≡◌, ℕ, ◌+◌, ◌-◌, ◌*◌, ◌/◌, ◌%◌, ◌<◌, ◌≤◌, ◌==◌, ◌⊎◌, ◌∙◌, ◌&&◌, ◌||◌, Bool, true, false, zero, suc, inl, inr, refl, ap, max, nat_eq, nat_le, nat_lt, if◌then◌else◌, List, [], ◌∷◌, ◌++◌, Some, arith}
-use Rattle.std.specs.Prelude.{All}
-use Rattle.std.specs.List.{list_any}
-use Rattle.std.specs.Option.{option_or}
-use Rattle.std.proofs.Math.Bool.{or-false}
-use Rattle.std.proofs.lemmas.Bool.Decides.{nat_tests}
-use Rattle.std.proofs.lemmas.List.Folds.{list_any-append}
+use Rattle.std.proofs.Common.{◌≡◌, ℕ, ◌+◌, ◌-◌, ◌*◌, ◌/◌, ◌%◌, ◌<◌, ◌≤◌, ◌==◌, ◌⊎◌, ◌∙◌, ◌&&◌, ◌||◌, Bool, true, false, zero, suc, inl, inr, refl, ap}
+use Rattle.std.{proofs.Common.{max, nat_eq, nat_le, nat_lt, if◌then◌else◌, List, [], ◌∷◌, ◌++◌, Some, arith}, specs.{Prelude.All, List.list_any}}
+use Rattle.std.{specs.Option.option_or, proofs.{Math.Bool.or-false, lemmas.{Bool.Decides.nat_tests, List.Folds.list_any-append}}}
 use Rattle.std.proofs.lemmas.List.Elements.{All-head, All-tail}
-use Rattle.npf_pieces.specs.declared.arrived.Arrived.{Arrived}
-use Rattle.npf_pieces.specs.OpenSet.{IsTaken, count_below, beginning_header, greatest_header}
-use Rattle.npf_pieces.specs.Piece.{end_of}
+use Rattle.npf_pieces.specs.{declared.arrived.Arrived.Arrived, Overlap.{IsTaken, count_below, beginning_header, greatest_header}, Piece.end_of}
 use Rattle.npf_pieces.specs.Sets.{first_time, has, has_all_below, has_byte, header_counted, is_last, is_too_long, passes_last, reach, shares_byte}
 use Rattle.npf_pieces.proofs.CountLemmas.{count_beyond, count_either, count_range, count_within, one_more}
 

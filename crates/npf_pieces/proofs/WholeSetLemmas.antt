@@ -1,20 +1,12 @@
 -- The sets that end complete are whole.
-use Rattle.std.proofs.Common.{◌≡◌, ℕ, ◌+◌, ◌<◌, ◌≤◌, ◌⊎◌, ◌∙◌, ◌&&◌, ◌||◌, Bool, true, false, zero, suc, inl, inr, refl, sym, ap, subst, ⊎_elim, ◌==◌, nat_le, nat_lt, if◌then◌else◌, Option, Some, None, List, [], ◌∷◌, ◌++◌, length, get_or, arith}
-use Rattle.std.specs.Prelude.{All, AllPairs, Contains}
-use Rattle.std.specs.List.{list_any}
-use Rattle.std.proofs.lemmas.Bool.{cases_lt}
-use Rattle.std.proofs.lemmas.Bool.Decides.{nat_tests}
-use Rattle.std.proofs.lemmas.List.{get_or_append_left, get_or_push, length_push}
-use Rattle.std.proofs.lemmas.List.Elements.{All-nil, All-cons, All-append, All-head, All-tail, All-push}
-use Rattle.std.proofs.lemmas.List.Folds.{Any-from_list_any, list_any_at}
-use Rattle.npf_pieces.specs.declared.arrived.Arrived.{Arrived}
-use Rattle.npf_pieces.specs.declared.arrived.Ending.{Ending}
-use Rattle.npf_pieces.specs.declared.arrived.Ending.TheVariants.{Complete, Refused, Unfinished}
-use Rattle.npf_pieces.specs.Datagram.{CompleteIsWhole, IsWholeSet, WholeIfComplete}
-use Rattle.npf_pieces.specs.OpenSet.{IsTaken}
-use Rattle.npf_pieces.specs.Piece.{end_of}
-use Rattle.npf_pieces.specs.Sets.{Set, ended_by, ending_with, has, has_all_below, has_byte, header_counted, is_last, is_late, is_too_long, is_whole, overlaps, passes_last, reach, sets_from, shares_byte, unfinished}
-use Rattle.npf_pieces.proofs.DataLemmas.{ends_within_reach}
+use Rattle.std.proofs.Common.{◌≡◌, ℕ, ◌+◌, ◌<◌, ◌≤◌, ◌⊎◌, ◌∙◌, ◌&&◌, ◌||◌, Bool, true, false, zero, suc, inl, inr, refl, sym, ap, subst, ⊎_elim, ◌==◌, nat_le}
+use Rattle.std.{proofs.Common.{nat_lt, if◌then◌else◌, Option, Some, None, List, [], ◌∷◌, ◌++◌, length, get_or, arith}, specs.Prelude.{All, AllPairs, Contains}}
+use Rattle.std.{specs.List.list_any, proofs.lemmas.{Bool.{cases_lt, Decides.nat_tests}, List.{get_or_append_left, get_or_push, length_push}}}
+use Rattle.std.proofs.lemmas.List.{Elements.{All-nil, All-cons, All-append, All-head, All-tail, All-push}, Folds.{Any-from_list_any, list_any_at}}
+use Rattle.npf_pieces.specs.declared.arrived.{Arrived.Arrived, Ending.{Ending, TheVariants.{Complete, Refused, Unfinished}}}
+use Rattle.npf_pieces.specs.{Datagram.{CompleteIsWhole, IsWholeSet, WholeIfComplete}, Overlap.IsTaken, Piece.end_of}
+use Rattle.npf_pieces.specs.Sets.{Set, ended_by, ending_with, has, has_all_below, has_byte, header_counted, is_last, is_late, is_too_long}
+use Rattle.npf_pieces.{specs.Sets.{is_whole, overlaps, passes_last, reach, sets_from, shares_byte, unfinished}, proofs.DataLemmas.ends_within_reach}
 use Rattle.npf_pieces.proofs.SetLemmas.{left_false, right_false}
 
 -- no two share a byte
@@ -140,7 +132,8 @@ long_at : (set : List Arrived) (r : ℕ) (at : ℕ) (d : Arrived) → at < lengt
     → list_any (λ f. (f.piece.from == 0) && nat_lt 65535 (header_counted f.piece + r)) set ≡ false
     → header_counted (get_or set at d).piece + r ≤ 65535
 long_at [] r at d lt begins h = absurd (omega arith)
-long_at (f ∷ set) r zero d lt begins h = one f r begins (left_false ((f.piece.from == 0) && nat_lt 65535 (header_counted f.piece + r)) (list_any (λ f. (f.piece.from == 0) && nat_lt 65535 (header_counted f.piece + r)) set) h)
+long_at (f ∷ set) r zero d lt begins h =
+    one f r begins (left_false ((f.piece.from == 0) && nat_lt 65535 (header_counted f.piece + r)) (list_any (λ f. (f.piece.from == 0) && nat_lt 65535 (header_counted f.piece + r)) set) h)
   where
     one : (f : Arrived) (r : ℕ) → f.piece.from ≡ 0 → ((f.piece.from == 0) && nat_lt 65535 (header_counted f.piece + r)) ≡ false → header_counted f.piece + r ≤ 65535
     one f r begins h = grind (arith, nat_tests)

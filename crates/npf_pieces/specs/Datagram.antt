@@ -12,7 +12,7 @@ use Rattle.npf_pieces.specs.declared.arrived.Arrived.{Arrived}
 use Rattle.npf_pieces.specs.declared.arrived.Ending.TheVariants.{Complete}
 use Rattle.npf_pieces.specs.declared.piece.Piece.{Piece}
 use Rattle.npf_pieces.specs.declared.piece.Seen.{Seen}
-use Rattle.npf_pieces.specs.OpenSet.{IsTaken}
+use Rattle.npf_pieces.specs.Overlap.{IsTaken}
 use Rattle.npf_pieces.specs.Piece.{IsGood, IsPlacedPiece, SeenAs, end_of}
 use Rattle.npf_pieces.specs.Sets.{Set, header_counted, is_too_long, is_whole, reach, sets_from, shares_byte}
 

@@ -2,9 +2,9 @@
 use Rattle.std.specs.Prelude.{◌≡◌, ℕ, ◌≤◌, ◌<◌, List, [], ◌++◌, All, length, map, slice_range}
 use Rattle.npf_pieces.specs.declared.arrived.Arrived.{Arrived}
 use Rattle.npf_pieces.specs.declared.arrived.SetAt.{SetAt}
-use Rattle.npf_pieces.specs.declared.open_set.OpenSet.{OpenSet}
+use Rattle.npf_pieces.specs.declared.overlap.OpenSet.{OpenSet}
 use Rattle.npf_pieces.specs.declared.sets.SetFinder.{SetFinder}
-use Rattle.npf_pieces.specs.OpenSet.{KnowsSet}
+use Rattle.npf_pieces.specs.Overlap.{KnowsSet}
 use Rattle.npf_pieces.specs.Sets.{Set, StandsIn, set_at, sets_from}
 
 -- how many pieces a finder of sets has judged

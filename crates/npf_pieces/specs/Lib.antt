@@ -4,6 +4,6 @@ pub mod Datagrams
 pub mod Ipv4
 pub mod Ipv6
 pub mod Judged
-pub mod OpenSet
+pub mod Overlap
 pub mod Piece
 pub mod Sets

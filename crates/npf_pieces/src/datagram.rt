@@ -3,7 +3,7 @@ ghost use Rattle.std.specs.Prelude.{◌≡◌, ◌+◌, ◌-◌, ◌≤◌, fals
 ghost use Rattle.npf_types.specs.declared.limits.TheConstants.{MAX_PACKET_BYTES};
 ghost use Rattle.npf_pieces.specs.Datagram.{HasPacketBytes, HasDataAt, IsDatagram, IsWholeSet, KeepsOthers, StandsAmong};
 ghost use Rattle.npf_pieces.specs.Datagrams.{last_place};
-ghost use Rattle.npf_pieces.specs.OpenSet.{IsTaken};
+ghost use Rattle.npf_pieces.specs.Overlap.{IsTaken};
 ghost use Rattle.npf_pieces.specs.Piece.{end_of};
 ghost use Rattle.npf_pieces.specs.Sets.{reach, shares_byte};
 

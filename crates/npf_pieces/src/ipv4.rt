@@ -1,6 +1,6 @@
 // Fragments of IPv4 (RFC 791 section 3.1).
 ghost use Rattle.std.specs.Prelude.{◌≡◌, length, false};
-ghost use Rattle.npf_packet.specs.Decoding.{packet_at};
+ghost use Rattle.npf_packet.specs.Decoder.{packet_at};
 ghost use Rattle.npf_packet.specs.FragmentAt.{IsPlacedFragment};
 ghost use Rattle.npf_pieces.specs.Ipv4.{piece_v4};
 ghost use Rattle.npf_pieces.specs.Piece.{BeginsUnit, IsPlacedPiece};

@@ -1,6 +1,6 @@
 // Fragments of IPv6 (RFC 8200 section 4.5).
 ghost use Rattle.std.specs.Prelude.{◌≡◌, length, true};
-ghost use Rattle.npf_packet.specs.Decoding.{packet_at};
+ghost use Rattle.npf_packet.specs.Decoder.{packet_at};
 ghost use Rattle.npf_packet.specs.FragmentAt.{IsPlacedFragment};
 ghost use Rattle.npf_pieces.specs.Ipv6.{piece_v6};
 ghost use Rattle.npf_pieces.specs.Piece.{BeginsUnit, IsPlacedPiece};

@@ -20,7 +20,7 @@ mod ipv4;
 mod ipv6;
 mod laws;
 mod measure;
-mod open_set;
+mod overlap;
 mod piece;
 mod sets;
 

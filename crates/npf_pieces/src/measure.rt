@@ -1,7 +1,7 @@
 // How much of a datagram a piece has, in bytes and in units of 8 bytes, and how long a set waits.
 ghost use Rattle.std.specs.Prelude.{◌≡◌, ◌+◌, ◌/◌, ◌≤◌};
 ghost use Rattle.npf_pieces.specs.Piece.{IsPlacedPiece, end_of};
-ghost use Rattle.npf_pieces.specs.OpenSet.{beginning_header};
+ghost use Rattle.npf_pieces.specs.Overlap.{beginning_header};
 ghost use Rattle.npf_pieces.specs.Sets.{has_waited, header_counted};
 
 use crate::piece::Piece;

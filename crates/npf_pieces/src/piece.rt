@@ -1,5 +1,6 @@
+// Fragments of IPv4 and IPv6 packets (RFC 791, RFC 8200).
 ghost use Rattle.std.specs.Prelude.{◌≡◌, ◌+◌, ◌-◌, ◌≤◌, length};
-ghost use Rattle.npf_packet.specs.Decoding.{packet_at};
+ghost use Rattle.npf_packet.specs.Decoder.{packet_at};
 ghost use Rattle.npf_packet.specs.FragmentAt.{IsPlacedFragment};
 ghost use Rattle.npf_traffic.specs.Packet.{IsShortPacket};
 ghost use Rattle.npf_pieces.specs.Piece.{IfPiece, BeginsUnit, IsGood, IsPlacedPiece, SeenAs, is_bad, piece_at};

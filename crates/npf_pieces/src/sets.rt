@@ -3,11 +3,11 @@ ghost use Rattle.std.specs.Prelude.{◌≡◌, ◌≤◌, ◌+◌, ◌<◌, fals
 ghost use Rattle.std.specs.Prelude.{slice_index_or};
 ghost use Rattle.npf_pieces.specs.declared.arrived.Arrived.{Arrived};
 ghost use Rattle.npf_pieces.specs.Judged.{EndsJudged, KeepsJudged, pieces_of};
-ghost use Rattle.npf_pieces.specs.OpenSet.{KnowsSet, IsTaken};
+ghost use Rattle.npf_pieces.specs.Overlap.{KnowsSet, IsTaken};
 ghost use Rattle.npf_pieces.specs.Sets.{StandsIn, is_late, set_at, sets_from};
 
 use crate::arrived::{Arrived, Ending, SetAt};
-use crate::open_set::OpenSet;
+use crate::overlap::OpenSet;
 use npf_types::NoMemory;
 use std::alloc::Global;
 

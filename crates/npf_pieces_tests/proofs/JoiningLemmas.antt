@@ -1,13 +1,8 @@
 -- The sets that end complete are whole, and the packets that their datagrams become are there.
-use Rattle.std.proofs.Common.{◌≡◌, ◌<◌, true, sym, subst, List, [], ◌∷◌, All, length, map}
-use Rattle.std.proofs.lemmas.List.Elements.{All-cons, All-head, All-nil, All-tail}
+use Rattle.std.proofs.{Common.{◌≡◌, ◌<◌, true, sym, subst, List, [], ◌∷◌, All, length, map}, lemmas.List.Elements.{All-cons, All-head, All-nil, All-tail}}
 use Rattle.npf_traffic.specs.declared.packet.Packet.{Packet}
-use Rattle.npf_pieces.specs.declared.arrived.Arrived.{Arrived}
-use Rattle.npf_pieces.specs.declared.arrived.SetAt.{SetAt}
-use Rattle.npf_pieces.specs.Datagram.{CompleteIsWhole, StandsAmong, WholeIfComplete}
-use Rattle.npf_pieces.specs.Datagrams.{last_place}
-use Rattle.npf_pieces.specs.OpenSet.{IsTaken}
-use Rattle.npf_pieces.specs.Sets.{is_whole, set_at, sets_from}
+use Rattle.npf_pieces.specs.{declared.arrived.{Arrived.Arrived, SetAt.SetAt}, Datagram.{CompleteIsWhole, StandsAmong, WholeIfComplete}, Datagrams.last_place}
+use Rattle.npf_pieces.specs.{Overlap.IsTaken, Sets.{is_whole, set_at, sets_from}}
 
 last_below : (packets : List Packet) (a : Arrived) (set : List Arrived) → All (StandsAmong packets) (a ∷ set) → last_place (a ∷ set) < length packets
 last_below packets a [] all = (All-head (StandsAmong packets) a [] all).here

@@ -4,7 +4,7 @@ ghost use Rattle.npf_types.specs.declared.limits.TheConstants.{MAX_PACKET_BYTES}
 ghost use Rattle.npf_traffic.specs.Packet.{IsShortPacket};
 ghost use Rattle.npf_pieces.specs.Datagram.{StandsAmong, WholeIfComplete};
 ghost use Rattle.npf_pieces.specs.Datagrams.{laid_out};
-ghost use Rattle.npf_pieces.specs.OpenSet.{IsTaken};
+ghost use Rattle.npf_pieces.specs.Overlap.{IsTaken};
 ghost use Rattle.npf_pieces.specs.Sets.{set_at};
 
 use npf_pieces::{

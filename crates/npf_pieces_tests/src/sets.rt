@@ -1,5 +1,5 @@
 // The sets that pieces make as they come.
-ghost use Rattle.npf_pieces.specs.OpenSet.{IsTaken};
+ghost use Rattle.npf_pieces.specs.Overlap.{IsTaken};
 
 use crate::pieces::{HEADER, seen};
 use npf_pieces::{Arrived, Ending, Seen, SetAt, sets_of};

@@ -1,36 +1,19 @@
 -- Sweeps of a pool's words.
-use Rattle.std.proofs.Common.{◌≡◌, ◌≢◌, ℕ, ◌+◌, ◌-◌, ◌*◌, ◌/◌, ◌%◌, ◌^◌, ◌<◌, ◌≤◌, cond, eqb, eq-eqb, ne_eqb, min, Some, List, [], ◌∷◌, slice_index, refl, sym, ap, ◌∙◌, subst, ⊎_elim, arith, append-nil, length, Option, None, IfNone}
-use Rattle.std.specs.Int.{bit_at}
-use Rattle.std.proofs.lemmas.Bool.{cases_eq, cases_lt}
-use Rattle.std.proofs.lemmas.Nat.Bits.{bit_at_mask_inside}
+use Rattle.std.proofs.Common.{◌≡◌, ◌≢◌, ℕ, ◌+◌, ◌-◌, ◌*◌, ◌/◌, ◌%◌, ◌^◌, ◌<◌, ◌≤◌, cond, eqb, eq-eqb, ne_eqb, min, Some, List, [], ◌∷◌, slice_index}
+use Rattle.std.{proofs.Common.{refl, sym, ap, ◌∙◌, subst, ⊎_elim, arith, append-nil, length, Option, None, IfNone}, specs.Int.bit_at}
+use Rattle.std.proofs.lemmas.{Bool.{cases_eq, cases_lt}, Nat.Bits.bit_at_mask_inside}
 use Rattle.atomic_table.specs.Table.{Me}
 use Rattle.npf_types.specs.declared.key.Key.{Key}
-use Rattle.npf_core.specs.declared.act.Act.TheVariants.{Claim}
-use Rattle.npf_core.specs.declared.entry.Entry.{Entry}
-use Rattle.npf_core.specs.declared.reply.Reply.TheVariants.{ToClaim}
-use Rattle.npf_core.specs.declared.stage.Stage.{Stage}
-use Rattle.npf_core.specs.declared.stage.Stage.TheVariants.{Vacant, Building, Live, Dead}
-use Rattle.npf_core.specs.History.{IsPrefix, state_of}
-use Rattle.npf_core.specs.Machine.{IsClaimed}
-use Rattle.npf_core.specs.Meaning.{Meaning}
+use Rattle.npf_core.specs.declared.{act.Act.TheVariants.Claim, entry.Entry.Entry, reply.Reply.TheVariants.ToClaim, stage.Stage.Stage}
+use Rattle.npf_core.specs.{declared.stage.Stage.TheVariants.{Vacant, Building, Live, Dead}, History.{IsPrefix, state_of}, Machine.IsClaimed, Meaning.Meaning}
 use Rattle.npf_core.proofs.HistoryLemmas.{IsPrefix-self, IsPrefix-trans}
-use Rattle.npf_connections.specs.Adding.{Adds, EndsWith}
-use Rattle.npf_connections.specs.Beginning.{IsClaimedBetween, IsFullBetween}
-use Rattle.npf_connections.specs.Entries.{claim_entries}
-use Rattle.npf_connections.specs.Pass.{Pass}
+use Rattle.npf_connections.specs.{Adding.{Adds, EndsWith}, Beginning.{IsClaimedBetween, IsFullBetween}, Entries.claim_entries, Pass.Pass}
 use Rattle.npf_connections.proofs.AddLemmas.{adds_more}
-use Rattle.npf_cells_words.specs.declared.layout.Layout.{Layout}
-use Rattle.npf_cells_words.specs.declared.layout.Pool.{Pool}
-use Rattle.npf_cells_words.specs.declared.layout.Pool.TheVariants.{Slots, Nodes}
-use Rattle.npf_cells_words.specs.Layout.{pool_at, pool_places, pool_words}
+use Rattle.npf_cells_words.specs.{declared.layout.{Layout.Layout, Pool.{Pool, TheVariants.{Slots, Nodes}}}, Layout.{pool_at, pool_places, pool_words}}
 use Rattle.npf_cells_lives.specs.Pools.{claim_bit}
-use Rattle.npf_cells_rule.specs.declared.view.CellView.{CellView}
-use Rattle.npf_cells_rule.specs.Passes.{cell_pass}
-use Rattle.npf_cells_rule.specs.Stood.{StoodSo}
-use Rattle.npf_cells_rule.specs.Views.{with_pools}
-use Rattle.npf_cells_takes.specs.PoolKinds.{NeedsNode, row_after, sweeping}
-use Rattle.npf_cells_takes.specs.SlotKinds.{claiming_slot, seeing_slots, HasClaimed, HasSeenSlots}
-use Rattle.npf_pool.specs.Take.{searching, having_swept, StoodFull, HasSeenMore}
+use Rattle.npf_cells_rule.specs.{declared.view.CellView.CellView, Passes.cell_pass, Stood.StoodSo, Views.with_pools}
+use Rattle.npf_cells_takes.specs.{PoolKinds.{NeedsNode, row_after, sweeping}, SlotKinds.{claiming_slot, seeing_slots, HasClaimed, HasSeenSlots}}
+use Rattle.npf_pool.specs.Takes.{searching, having_swept, StoodFull, HasSeenMore}
 
 -- a full word goes on with the row, any other breaks it off
 row_grows : (row word : ℕ) → (1 ≤ word → row ≡ word) → row_after row word (2 ^ 64 - 1) ≡ word + 1
@@ -53,7 +36,8 @@ words_within layout Slots word bit h low = omega (arith, h, low)
 words_within layout Nodes word bit h low = omega (arith, h, low)
 
 -- a bit that is clear is that of a place
-pub free_within : {S A R : Type 0} (m : Meaning S A R) (digest : Key → ℕ) (layout : Layout) (pool : Pool) (view : CellView S A R) (word found bit : ℕ) → StoodSo m digest layout view (pool_at layout pool + word) found →
+pub free_within : {S A R : Type 0} (m : Meaning S A R) (digest : Key → ℕ) (layout : Layout) (pool : Pool) (view : CellView S A R) (word found bit : ℕ) →
+    StoodSo m digest layout view (pool_at layout pool + word) found →
     word < pool_words (pool_places layout pool) → bit < 64 → bit_at found bit ≡ 0 → 64 * word + bit < pool_places layout pool
 free_within m digest layout pool view word found bit stood h low clear = ⊎_elim (λ within. within) past (cases_lt (64 * word + bit) (pool_places layout pool))
   where
@@ -63,7 +47,8 @@ free_within m digest layout pool view word found bit stood h low clear = ⊎_eli
         let at : (64 * word + bit) / 64 ≡ word = omega (arith, low) in
         let in' : (64 * word + bit) % 64 ≡ bit = omega (arith, low) in
         let same : bit_at (slice_index stood.state.words (pool_at layout pool + word)) bit ≡ bit_at found bit = ap (λ n. bit_at n bit) stood.there in
-        let moved : bit_at (slice_index stood.state.words (pool_at layout pool + (64 * word + bit) / 64)) ((64 * word + bit) % 64) ≡ bit_at (slice_index stood.state.words (pool_at layout pool + word)) bit
+        let moved : bit_at (slice_index stood.state.words (pool_at layout pool + (64 * word + bit) / 64))
+        ((64 * word + bit) % 64) ≡ bit_at (slice_index stood.state.words (pool_at layout pool + word)) bit
         = (λ i. bit_at (slice_index stood.state.words (pool_at layout pool + at i)) (in' i)) in
         let none : 0 ≡ 1 = sym clear ∙ (sym same ∙ (sym moved ∙ one)) in
         absurd (omega (arith, none))
@@ -111,7 +96,8 @@ module _ {S A R F : Type 0} (m : Meaning S A R) where
 
   pub sees_then : (old now next : Me F (CellView S A R)) → HasSeenMore m old now → HasSeenMore m now next → HasSeenMore m old next
   sees_then old now next so more = record {
-    adds = adds_more (cell_pass old.0) (cell_pass now.0) next.0.seats.history [] [] (ap (λ (y : Me F (CellView S A R)). y.0.seats.number) so.is) (ap (λ (y : Me F (CellView S A R)). y.0.seats.joined) so.is) so.adds more.adds;
+    adds = adds_more (cell_pass old.0) (cell_pass now.0) next.0.seats.history [] [] (ap (λ (y : Me F (CellView S A R)). y.0.seats.number) so.is)
+        (ap (λ (y : Me F (CellView S A R)). y.0.seats.joined) so.is) so.adds more.adds;
     legal = λ pass. more.legal (so.legal pass);
     is = more.is ∙ ap (λ (y : Me F (CellView S A R)). (seeing_slots y.0 next.0.pools.found next.0.seats.history, y.1)) so.is;
   }
@@ -138,7 +124,12 @@ module _ {S A R F : Type 0} (m : Meaning S A R) where
     claimed = λ slot h low. ⊎_elim
         (λ (below : slot < 64 * word).
         let was = so.claimed slot h below in
-        record { point = was.point; begins = was.begins; goes_on = IsPrefix-trans was.point now.0.seats.history next.0.seats.history was.goes_on (goes_on_from (cell_pass now.0) next.0.seats.history seen.adds); claimed = was.claimed })
+        record {
+          point = was.point;
+          begins = was.begins;
+          goes_on = IsPrefix-trans was.point now.0.seats.history next.0.seats.history was.goes_on (goes_on_from (cell_pass now.0) next.0.seats.history seen.adds);
+          claimed = was.claimed;
+        })
         (λ (past : 64 * word ≤ slot).
         let here : slot / 64 ≡ word = omega (arith, past, low) in
         let bit : bit_at found (slot % 64) ≡ 1 = ap (λ n. bit_at n (slot % 64)) full ∙ bit_at_mask_inside 0 64 (slot % 64) (omega arith) (omega arith) in
@@ -159,19 +150,26 @@ module _ {S A R F : Type 0} (m : Meaning S A R) where
   claimed_since old now next so full slot h =
       let same : now.0.seats.about ≡ old.0.seats.about = ap (λ (y : Me F (CellView S A R)). y.0.seats.about) so.is in
       let was = full slot (omega (arith, h, same)) in
-      record { point = was.point; begins = IsPrefix-trans old.0.seats.history now.0.seats.history was.point (goes_on_from (cell_pass old.0) now.0.seats.history so.adds) was.begins; goes_on = was.goes_on; claimed = was.claimed }
+      record {
+        point = was.point;
+        begins = IsPrefix-trans old.0.seats.history now.0.seats.history was.point (goes_on_from (cell_pass old.0) now.0.seats.history so.adds) was.begins;
+        goes_on = was.goes_on;
+        claimed = was.claimed;
+      }
 
   -- a claim behind loads and claims that lost
   pub claims_then : (n slot : ℕ) (old now next : Me F (CellView S A R)) → HasSeenMore m old now → HasClaimed m n slot now next → HasClaimed m n slot old next
   claims_then n slot old now next so has =
       let number : now.0.seats.number ≡ old.0.seats.number = ap (λ (y : Me F (CellView S A R)). y.0.seats.number) so.is in
       let joined : now.0.seats.joined ≡ old.0.seats.joined = ap (λ (y : Me F (CellView S A R)). y.0.seats.joined) so.is in
-      let entries : claim_entries (cell_pass now.0) n (Some has.id) ≡ claim_entries (cell_pass old.0) n (Some has.id) = ap (λ (p : ℕ). record { seat = p; act = Claim n has.id.slot; reply = ToClaim has.id } ∷ []) number in
+      let entries : claim_entries (cell_pass now.0) n (Some has.id) ≡ claim_entries (cell_pass old.0) n (Some has.id) =
+      ap (λ (p : ℕ). record { seat = p; act = Claim n has.id.slot; reply = ToClaim has.id } ∷ []) number in
       record {
         id = has.id;
         slot_is = has.slot_is;
         adds = record {
-          adds = adds_more (cell_pass old.0) (cell_pass now.0) next.0.seats.history [] (claim_entries (cell_pass old.0) n (Some has.id)) number joined so.adds (subst (Adds (cell_pass now.0) next.0.seats.history) entries has.adds.adds);
+          adds = adds_more (cell_pass old.0) (cell_pass now.0) next.0.seats.history [] (claim_entries (cell_pass old.0) n (Some has.id)) number joined so.adds
+              (subst (Adds (cell_pass now.0) next.0.seats.history) entries has.adds.adds);
           ends = subst (EndsWith next.0.seats.history) entries has.adds.ends;
         };
         legal = has.legal;
@@ -240,4 +238,5 @@ module _ {S A R F : Type 0} (m : Meaning S A R) (digest : Key → ℕ) (layout :
 
   -- what was found after a search stands for what was known before it
   pub before_search : (old me : Me F (CellView S A R)) (word : ℕ) → me ≡ with_pools old (searching old.0.pools me.0.pools) → StoodFull m digest layout me.0 word → StoodFull m digest layout old.0 word
-  before_search old me word is full = let known = subst (λ (y : Me F (CellView S A R)). StoodFull m digest layout y.0 word) is full in record { side = known.side; row = known.row; stood = known.stood }
+  before_search old me word is full = let known = subst (λ (y : Me F (CellView S A R)). StoodFull m digest layout y.0 word) is full in
+      record { side = known.side; row = known.row; stood = known.stood }

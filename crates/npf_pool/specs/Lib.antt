@@ -1,1 +1,1 @@
-pub mod Take
+pub mod Takes

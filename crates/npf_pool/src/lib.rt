@@ -5,6 +5,6 @@
 // that found all bits set.
 #![tactic(auto)]
 
-mod taking;
+mod takes;
 
-pub use taking::take;
+pub use takes::take;

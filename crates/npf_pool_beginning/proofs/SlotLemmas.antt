@@ -1,29 +1,17 @@
 -- Connections in slots that a pass claimed, and their incarnations.
 use Rattle.std.proofs.Common.{◌≡◌, ℕ, ◌+◌, ◌-◌, ◌^◌, ◌<◌, ◌≤◌, [], ◌∷◌, ◌++◌, Bool, true, false, true≢false, cond, eqb, eq-eqb, List, refl, sym, ap, ◌∙◌, subst, arith}
-use Rattle.std.specs.List.{Contains}
-use Rattle.std.proofs.lemmas.List.Elements.{All-contains, Contains-append_left, Contains-push, filter_passes}
+use Rattle.std.{specs.List.Contains, proofs.lemmas.List.Elements.{All-contains, Contains-append_left, Contains-push, filter_passes}}
 use Rattle.atomic_table.specs.Table.{Me}
 use Rattle.npf_types.specs.declared.key.Way.{Way}
-use Rattle.npf_core.specs.declared.act.Act.TheVariants.{Claim}
-use Rattle.npf_core.specs.declared.conn_id.ConnId.{ConnId}
-use Rattle.npf_core.specs.declared.entry.Entry.{Entry}
-use Rattle.npf_core.specs.declared.reply.Reply.TheVariants.{ToClaim}
-use Rattle.npf_core.specs.History.{Legal, state_of}
-use Rattle.npf_core.specs.Machine.{HoldsNone}
-use Rattle.npf_core.specs.Meaning.{Meaning}
-use Rattle.npf_connections.specs.Entries.{entry_of}
-use Rattle.npf_connections.specs.Pass.{IsPass}
-use Rattle.npf_connections.proofs.StayLemmas.{claimed_holds_none}
-use Rattle.npf_cells_words.specs.declared.layout.Layout.{Layout}
-use Rattle.npf_cells_words.specs.declared.layout.Pool.TheVariants.{Slots}
-use Rattle.npf_cells_rule.specs.declared.view.CellView.{CellView}
+use Rattle.npf_core.specs.declared.{act.Act.TheVariants.Claim, conn_id.ConnId.ConnId, entry.Entry.Entry, reply.Reply.TheVariants.ToClaim}
+use Rattle.npf_core.specs.{History.{Legal, state_of}, Machine.HoldsNone, Meaning.Meaning}
+use Rattle.npf_connections.{specs.{Entries.entry_of, Pass.IsPass}, proofs.StayLemmas.claimed_holds_none}
+use Rattle.npf_cells_words.specs.declared.layout.{Layout.Layout, Pool.TheVariants.Slots}
+use Rattle.npf_cells_rule.specs.{declared.view.CellView.CellView, Passes.cell_pass, Views.with_pools}
 use Rattle.npf_cells_lives.specs.Conns.{IsBuiltIn}
 use Rattle.npf_cells_holds.specs.HoldKinds.{MayHoldSo}
-use Rattle.npf_cells_rule.specs.Passes.{cell_pass}
 use Rattle.npf_seats.specs.Sums.{others_than}
-use Rattle.npf_cells_rule.specs.Views.{with_pools}
-use Rattle.npf_cells_takes.specs.PrivateKinds.{ShowsInc, MayStoreInSlot, storing}
-use Rattle.npf_cells_takes.specs.SlotKinds.{HasClaimed}
+use Rattle.npf_cells_takes.specs.{PrivateKinds.{ShowsInc, MayStoreInSlot, storing}, SlotKinds.HasClaimed}
 use Rattle.npf_pool_beginning.specs.Begins.{HasBegun}
 
 -- what was left out isn't among the others
@@ -36,7 +24,8 @@ none_left n xs c =
 module _ {S A R F : Type 0} (m : Meaning S A R) (n slot : ℕ) (old now : Me F (CellView S A R)) (has : HasClaimed m n slot old now) where
   -- who claimed a slot is building in it
   builds : Contains now.0.pools.builds has.id
-  builds = subst (λ ids. Contains ids has.id) (sym (ap (λ (y : Me F (CellView S A R)). y.0.pools.builds) has.is)) (Contains-append_left (has.id ∷ []) old.0.pools.builds has.id (Contains-push [] has.id))
+  builds = subst (λ ids. Contains ids has.id) (sym (ap (λ (y : Me F (CellView S A R)). y.0.pools.builds) has.is))
+      (Contains-append_left (has.id ∷ []) old.0.pools.builds has.id (Contains-push [] has.id))
 
   pub claimed_builds : IsBuiltIn now.0.pools.builds slot
   claimed_builds = record { id = has.id; built = builds; there = has.slot_is }
@@ -49,7 +38,8 @@ module _ {S A R F : Type 0} (m : Meaning S A R) (n slot : ℕ) (old now : Me F (
   bare : (way : Way) → HoldsNone (state_of m now.0.seats.history) has.id way
   bare way =
       let end = has.adds.ends [] (entry_of (cell_pass old.0) (Claim n has.id.slot) (ToClaim has.id)) refl in
-      let legal : Legal m now.0.seats.about (end.0 ++ entry_of (cell_pass old.0) (Claim n has.id.slot) (ToClaim has.id) ∷ []) = subst (λ (h : List (Entry S A R)). Legal m now.0.seats.about h) end.1 has.legal.legal in
+      let legal : Legal m now.0.seats.about (end.0 ++ entry_of (cell_pass old.0) (Claim n has.id.slot) (ToClaim has.id) ∷ []) =
+      subst (λ (h : List (Entry S A R)). Legal m now.0.seats.about h) end.1 has.legal.legal in
       subst (λ (h : List (Entry S A R)). HoldsNone (state_of m h) has.id way) (sym end.1) (claimed_holds_none m now.0.seats.about end.0 _ has.id way legal refl)
 
 module _ {S A R F : Type 0} (m : Meaning S A R) (n slot before : ℕ) (old now : Me F (CellView S A R)) (has : HasClaimed m n slot old now) (shows : ShowsInc now.0.pools slot before) where

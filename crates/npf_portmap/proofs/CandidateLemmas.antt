@@ -1,9 +1,7 @@
 -- How often a port stands among consecutive ones, and what is left of these once the first is
 -- taken.
 use Rattle.std.proofs.Common.{◌≡◌, ◌≤◌, ◌<◌, ◌==◌, ◌&&◌, ◌+◌, ◌-◌, ℕ, zero, suc, Bool, drop, if◌then◌else◌, nat_le, nat_lt, refl, arith}
-use Rattle.std.specs.Prelude.{count_by}
-use Rattle.std.specs.List.{range_with_len}
-use Rattle.std.proofs.lemmas.Grind.{common_steps}
+use Rattle.std.{specs.{Prelude.count_by, List.range_with_len}, proofs.lemmas.Grind.common_steps}
 use Rattle.npf_portmap.specs.Laws.{EachPortOnce}
 
 pub left_of_run : (first end : ℕ) → first < end → range_with_len (first + 1) (end - (first + 1)) ≡ drop 1 (range_with_len first (end - first))

@@ -1,3 +1,4 @@
+// The ports of a range, from a first one on, each once.
 ghost use Rattle.std.specs.Prelude.{◌≡◌, ◌++◌, ℕ, List, slice_get, drop};
 ghost use Rattle.npf_portmap.specs.Candidate.{candidates};
 

@@ -4,8 +4,8 @@
 // port is free is for the caller to find out.
 //
 // The contract: contracts see a `PortDraw` as the list of the ports that are left. `candidates`
-// makes the list (specs/Candidate), `next` takes its front, and each port of the range stands in it
-// once and no other does.
+// makes the list (specs/Candidate) and `next` takes its front. Where the first candidate lies in the
+// range, each port of the range stands in the list once and no other does.
 #![tactic(auto)]
 
 mod draw;

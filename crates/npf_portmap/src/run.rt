@@ -1,3 +1,4 @@
+// Numbers from one to another, in order.
 ghost use Rattle.std.specs.Prelude.{◌≡◌, ◌≤◌, ◌-◌, ℕ, List, slice_get, drop};
 ghost use Rattle.std.specs.List.{range_with_len};
 

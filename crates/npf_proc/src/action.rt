@@ -1,3 +1,4 @@
+// The action that a procedure asks for.
 ghost use Rattle.std.specs.Prelude.{◌≡◌};
 ghost use Rattle.npf_proc.specs.Action.{procedure_action};
 

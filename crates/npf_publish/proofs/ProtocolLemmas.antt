@@ -4,8 +4,7 @@ use mathlib.Core.Option.{some}
 use lib.ListN.{get_elem?}
 use Rattle.left_right.specs.Register.{Admits, TurnsAt, Forks, Merges}
 use Rattle.atomic_table.proofs.Lists.{at_set, at_snoc}
-use Rattle.npf_publish.specs.declared.protocol.Published.{Published}
-use Rattle.npf_publish.specs.declared.protocol.SeatView.{SeatView}
+use Rattle.npf_publish.specs.declared.protocol.{Published.Published, SeatView.SeatView}
 use Rattle.npf_publish.specs.Protocol.{IsKnown, NeverFalls, SeesNumber, SeesFirst, renumbered, unseated}
 
 -- what may be shown next
@@ -52,10 +51,12 @@ forks seat view shown views rule at =
     let known = rule.known seat view at in
     seated shown (set views seat view) view (changed shown shown views seat view (stays shown views rule) rule known) known
 
-pub merges : (seat : ℕ) (view : SeatView) (other : ℕ) (told : SeatView) → Merges NeverFalls seat view other told (record { seen = max view.seen told.seen; last = told.last; looks = view.looks }) unseated
+pub merges : (seat : ℕ) (view : SeatView) (other : ℕ) (told : SeatView) →
+    Merges NeverFalls seat view other told (record { seen = max view.seen told.seen; last = told.last; looks = view.looks }) unseated
 merges seat view other told shown views rule at apart there =
     let both : SeatView = record { seen = max view.seen told.seen; last = told.last; looks = view.looks } in
-    let known : IsKnown shown told = ⊎_elim (λ (t : (other ≡ seat) × (both ≡ told)). absurd (apart t.0)) (λ (t : (other ≢ seat) × (get_elem? views other ≡ some told)). rule.known other told t.1) (at_set views seat other both told there) in
+    let known : IsKnown shown told = ⊎_elim (λ (t : (other ≡ seat) × (both ≡ told)). absurd (apart t.0))
+    (λ (t : (other ≢ seat) × (get_elem? views other ≡ some told)). rule.known other told t.1) (at_set views seat other both told there) in
     let own = (rule.known seat view at).seen in
     let heard = known.seen in
     let same = stays shown views rule in
@@ -88,7 +89,8 @@ first_look seat view shown next numbers none is =
     ))
 
 -- the publisher's step to a number
-pub next_look : (seat : ℕ) (view : SeatView) (shown next : Published) (numbers : List ℕ) (number : ℕ) → numbers ≡ number ∷ [] → shown.number ≤ number → number ≤ shown.last → next ≡ fold renumbered shown numbers → TurnsAt NeverFalls seat view shown next SeesNumber
+pub next_look : (seat : ℕ) (view : SeatView) (shown next : Published) (numbers : List ℕ) (number : ℕ) → numbers ≡ number ∷ [] → shown.number ≤ number →
+    number ≤ shown.last → next ≡ fold renumbered shown numbers → TurnsAt NeverFalls seat view shown next SeesNumber
 next_look seat view shown next numbers number one up within is =
     let same : next ≡ renumbered shown number = subst (λ (ns : List ℕ). next ≡ fold renumbered shown ns) one is in
     subst (λ (y : Published). TurnsAt NeverFalls seat view shown y SeesNumber) (sym same) (looks seat view shown (renumbered shown number) (record { up = up; same = refl; within = within }))

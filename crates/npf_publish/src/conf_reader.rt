@@ -8,7 +8,7 @@ ghost use Rattle.left_right.specs.Sides.{view};
 ghost use Rattle.npf_publish.specs.NumberRange.{IsInRange};
 
 use crate::number_range::NumberRange;
-use crate::protocol::{Look, Published, Rule, SeatView};
+use crate::protocol::{LookStep, PublishRule, Published, SeatView};
 use crate::told::Told;
 use core::mem::replace_with;
 use left_right::reader::Reader;
@@ -17,7 +17,7 @@ use std::sync::Wait;
 /// A reader of the published number, for one thread.
 #[derive(Drop)]
 pub struct ConfReader {
-    pub(crate) reader: Reader<Published, SeatView, Rule>,
+    pub(crate) reader: Reader<Published, SeatView, PublishRule>,
     // The last number that it was shown.
     pub(crate) seen: u64,
     // The greatest number that it was told, or the first one.
@@ -72,7 +72,7 @@ impl ConfReader {
             told,
             range,
         } = self;
-        let (reader, number) = match reader.enter_as::<Look>() {
+        let (reader, number) = match reader.enter_as::<LookStep>() {
             Ok(reading) => {
                 let number = reading.get().number;
                 (reading.leave(), Some(number))

@@ -37,9 +37,9 @@ pub struct SeatView {
     pub looks: u64,
 }
 
-pub struct Rule;
+pub struct PublishRule;
 
-impl Protocol<Published, SeatView> for Rule {
+impl Protocol<Published, SeatView> for PublishRule {
     ghost holds = { NeverFalls };
 
     ghost first = { unseated };
@@ -53,9 +53,9 @@ impl Outcome<Published, SeatView> for FirstLook {
 }
 
 /// A read, or a step of the publisher.
-pub struct Look;
+pub struct LookStep;
 
-impl Outcome<Published, SeatView> for Look {
+impl Outcome<Published, SeatView> for LookStep {
     ghost then = { SeesNumber };
 }
 

@@ -10,7 +10,7 @@ ghost use Rattle.npf_publish.specs.NumberRange.{IsInRange};
 
 use crate::conf_reader::ConfReader;
 use crate::number_range::NumberRange;
-use crate::protocol::{Combined, Copied, FirstLook, Look, Published, Rule, SeatView};
+use crate::protocol::{Combined, Copied, FirstLook, LookStep, PublishRule, Published, SeatView};
 use crate::told::Told;
 use core::mem::replace_with;
 use left_right::writer::Writer;
@@ -20,7 +20,7 @@ use std::sync::Wait;
 
 /// The one that publishes. It isn't dropped but closed, since its readers may have to let go of what they read.
 pub struct Publisher {
-    writer: Writer<Published, u64, SeatView, Rule>,
+    writer: Writer<Published, u64, SeatView, PublishRule>,
     number: u64,
     range: NumberRange,
     ghost shows: { (writer.desk.shown.value.number ≡ number) × (writer.desk.shown.value.last ≡ range.last) },
@@ -140,7 +140,7 @@ impl Publisher {
             };
             return (same, Err(NoMemory));
         }
-        let (writer, _shown) = writer.publish_as::<Look, R>(rt);
+        let (writer, _shown) = writer.publish_as::<LookStep, R>(rt);
         let publisher = Publisher {
             writer,
             number: next,

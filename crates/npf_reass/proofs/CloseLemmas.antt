@@ -1,27 +1,14 @@
 -- Who owns all places has seen every offer, and finds each class's offers in its slot.
-use Rattle.std.proofs.Common.{◌≡◌, ◌≢◌, ℕ, zero, suc, ◌+◌, ◌<◌, Bool, true, false, get_or, set, take, List, [], ◌∷◌, ◌++◌, map, length, None, refl, sym, ap, ◌∙◌, subst, ⊎_elim, inl, inr, arith, append-nil}
-use Rattle.std.specs.Prelude.{slice_index}
-use Rattle.std.specs.List.{Contains}
-use Rattle.std.proofs.lemmas.Bool.{cases_eq}
-use Rattle.std.proofs.lemmas.List.Elements.{Contains-append_left, Contains-push}
-use Rattle.std.proofs.lemmas.List.{map-append}
+use Rattle.std.proofs.Common.{◌≡◌, ◌≢◌, ℕ, zero, suc, ◌+◌, ◌<◌, Bool, true, false, get_or, set, take, List, [], ◌∷◌, ◌++◌, map, length}
+use Rattle.std.{proofs.Common.{None, refl, sym, ap, ◌∙◌, subst, ⊎_elim, inl, inr, arith, append-nil}, specs.{Prelude.slice_index, List.Contains}}
+use Rattle.std.proofs.lemmas.{Bool.cases_eq, List.{Elements.{Contains-append_left, Contains-push}, map-append}}
 use mathlib.Core.Option.{some, some-injective, some-ne-none}
 use lib.ListN.{get_elem?}
-use Rattle.atomic_table.specs.Table.{Final, Seen, State}
-use Rattle.atomic_table.proofs.Lists.{at_map}
-use Rattle.npf_seats.specs.declared.side.SeatSide.{SeatSide}
-use Rattle.npf_seats.specs.Seats.{AnswersFor, FitsSeats, HasSeat, by_seat}
-use Rattle.npf_seats.proofs.PrefixLemmas.{none_in_prefix, rest_none, seen_entry}
-use Rattle.npf_seats.proofs.SeatLemmas.{only_seat}
-use Rattle.npf_seats.proofs.SumLemmas.{two_of_sum}
-use Rattle.npf_reass.specs.declared.offer.Gathered.{Gathered}
-use Rattle.npf_reass.specs.declared.offer.Offer.{Offer}
-use Rattle.npf_reass.specs.declared.offer.ReassSize.{ReassSize}
-use Rattle.npf_reass.specs.declared.view.ReassView.{ReassView}
-use Rattle.npf_reass.specs.Class.{of_class, offer_seat}
-use Rattle.npf_reass.specs.Gathering.{HasClassHolder, IsClassHome, IsGathering, reass_seat}
-use Rattle.npf_reass.specs.Passes.{view_sight}
-use Rattle.npf_reass.specs.Sight.{IsOwnNumber}
+use Rattle.atomic_table.{specs.Table.{Final, Seen, State}, proofs.Lists.at_map}
+use Rattle.npf_seats.specs.{declared.side.SeatSide.SeatSide, Seats.{AnswersFor, FitsSeats, HasSeat, by_seat}}
+use Rattle.npf_seats.proofs.{PrefixLemmas.{none_in_prefix, rest_none, seen_entry}, SeatLemmas.only_seat, SumLemmas.two_of_sum}
+use Rattle.npf_reass.specs.{declared.{offer.{Gathered.Gathered, Offer.Offer, ReassSize.ReassSize}, view.ReassView.ReassView}, Class.{of_class, offer_seat}}
+use Rattle.npf_reass.specs.{Gathering.{HasClassHolder, IsClassHome, IsGathering, reass_seat}, Passes.view_sight, Sight.IsOwnNumber}
 use Rattle.npf_reass.proofs.TurnsLemmas.{no_turn, turn_there}
 
 pub set_false : (xs : List Bool) (i : ℕ) → get_or (set xs i false) i false ≡ false

@@ -1,29 +1,16 @@
 -- The end of a turn keeps the rule.
-use Rattle.std.proofs.Common.{◌≡◌, ◌≢◌, ℕ, Bool, true, false, ◌==◌, cond, List, [], ◌∷◌, ◌++◌, map, set, length, Option, Some, None, refl, sym, ap, ◌∙◌, subst, ⊎_elim, inl, inr, arith, append-nil, append_assoc, length-set}
-use Rattle.std.specs.Prelude.{filter, slice_index}
-use Rattle.std.proofs.lemmas.Bool.{cases_eq}
-use Rattle.std.proofs.lemmas.Bool.Decides.{Decides-eqb}
-use Rattle.std.proofs.lemmas.List.{get_or-set_same, get_or-set_other, map-append, map-set}
+use Rattle.std.proofs.Common.{◌≡◌, ◌≢◌, ℕ, Bool, true, false, ◌==◌, cond, List, [], ◌∷◌, ◌++◌, map, set, length, Option, Some, None, refl, sym, ap}
+use Rattle.std.{proofs.Common.{◌∙◌, subst, ⊎_elim, inl, inr, arith, append-nil, append_assoc, length-set}, specs.Prelude.{filter, slice_index}}
+use Rattle.std.proofs.lemmas.{Bool.{cases_eq, false_from_ne_true, Decides.Decides-eqb}, List.{get_or-set_same, get_or-set_other, map-append, map-set}}
 use Rattle.std.proofs.lemmas.List.Elements.{filter-append}
 use mathlib.Core.Option.{some}
 use lib.ListN.{get_elem?}
-use Rattle.atomic_table.specs.Table.{State, Me, Step, stepped, Allows, gives, rest}
-use Rattle.atomic_table.proofs.Lists.{at_map, at_set, set_else, set_here}
+use Rattle.atomic_table.{specs.Table.{State, Me, Step, stepped, Allows, gives, rest}, proofs.Lists.{at_map, at_set, set_else, set_here}}
 use Rattle.npf_pieces.specs.declared.piece.Piece.{Piece}
-use Rattle.npf_seats.specs.Seats.{Seats}
-use Rattle.npf_seats.proofs.PrefixLemmas.{rest_none}
-use Rattle.npf_seats.proofs.SeatLemmas.{seats-adds}
-use Rattle.npf_seats.proofs.SumLemmas.{side_same}
-use Rattle.npf_reass.specs.declared.offer.Gathered.{Gathered}
-use Rattle.npf_reass.specs.declared.offer.Offer.{Offer}
-use Rattle.npf_reass.specs.declared.offer.ReassSize.{ReassSize}
-use Rattle.npf_reass.specs.declared.view.ReassView.{ReassView}
-use Rattle.npf_reass.specs.Class.{class_of, of_class, offer_seat, offered}
-use Rattle.npf_reass.specs.Gathering.{HasClassHolder, HasClassTurn, IsGathering, reass_seat}
-use Rattle.npf_reass.specs.Passes.{view_sight}
-use Rattle.npf_reass.specs.Sight.{AddsOffer}
-use Rattle.npf_reass.specs.Turn.{EndsClassTurn, HasTakenClass, IsOfClass, MayEndClass, added}
-use Rattle.npf_reass.proofs.TakeLemmas.{is_false}
+use Rattle.npf_seats.{specs.Seats.Seats, proofs.{PrefixLemmas.rest_none, SeatLemmas.seats-adds, SumLemmas.side_same}}
+use Rattle.npf_reass.specs.declared.{offer.{Gathered.Gathered, Offer.Offer, ReassSize.ReassSize}, view.ReassView.ReassView}
+use Rattle.npf_reass.specs.{Class.{class_of, of_class, offer_seat, offered}, Gathering.{HasClassHolder, HasClassTurn, IsGathering, reass_seat}}
+use Rattle.npf_reass.specs.{Passes.view_sight, Sight.AddsOffer, Turn.{EndsClassTurn, HasTakenClass, IsOfClass, MayEndClass, added}}
 use Rattle.npf_reass.proofs.TurnsLemmas.{no_turn, one_turn, turn_there}
 
 -- what is offered of a class, with one more offer
@@ -42,7 +29,8 @@ class_more classes class log offer e =
 class_other : (classes class : ℕ) (log : List Offer) (offer : Offer) → class_of classes offer.piece.key ≢ class
     → of_class classes class (log ++ offer ∷ []) ≡ of_class classes class log
 class_other classes class log offer ne =
-    let apart : (class_of classes offer.piece.key == class) ≡ false = is_false (class_of classes offer.piece.key == class) (λ e. ne ((Decides-eqb (class_of classes offer.piece.key) class).0 e)) in
+    let apart : (class_of classes offer.piece.key == class) ≡ false =
+    false_from_ne_true (class_of classes offer.piece.key == class) (λ e. ne ((Decides-eqb (class_of classes offer.piece.key) class).0 e)) in
     of_class-append classes class log (offer ∷ [])
     ∙ ap (λ (b : Bool). of_class classes class log ++ map offered (cond b (offer ∷ []) [])) apart
     ∙ append-nil (of_class classes class log)
@@ -166,7 +154,8 @@ module _ (size : ReassSize) (s : State Gathered ReassView) (id : ℕ) (v : Reass
 pub end_turn : (size : ReassSize) (id n class : ℕ) (o : Option (ℕ × Piece)) (st : Step Gathered) (me : Me Gathered ReassView) → n ≡ size.classes
     → MayEndClass size.classes class o me → Allows (IsGathering size) n id me class (λ k. 0) (λ k. EndsClassTurn o st me 0)
 end_turn size id n class o st me count may =
-    subst (λ (carried : List (ℕ × Gathered)). Allows (IsGathering size) n id (me.0, carried) class (λ k. 0) (λ k. EndsClassTurn o st (me.0, carried) 0)) (sym may.has) (by_offer o may.fills may.classed)
+    subst (λ (carried : List (ℕ × Gathered)). Allows (IsGathering size) n id (me.0, carried) class (λ k. 0) (λ k. EndsClassTurn o st (me.0, carried) 0))
+    (sym may.has) (by_offer o may.fills may.classed)
   where
     by_offer : (o : Option (ℕ × Piece)) → may.slot.offers.items ≡ me.0.held ++ added o → IsOfClass size.classes class o
         → Allows (IsGathering size) n id (me.0, (class, may.slot) ∷ []) class (λ k. 0) (λ k. EndsClassTurn o st (me.0, (class, may.slot) ∷ []) 0)

@@ -1,27 +1,17 @@
 -- The base's moves keep the rule, and what they leave in the passes.
 use Rattle.std.specs.List.{Contains}
 use Rattle.std.proofs.Common.{◌≡◌, ℕ, ◌-◌, ◌≤◌, true, false, List, [], ◌∷◌, ◌++◌, map, set, length, take, drop, None, refl, sym, ap, ◌∙◌, subst, arith, length-append}
-use Rattle.std.specs.Prelude.{slice_index}
-use Rattle.std.proofs.lemmas.List.{length-drop, length-take-le, map-set, set-get_or}
+use Rattle.std.{specs.Prelude.slice_index, proofs.lemmas.List.{length-drop, length-take-le, map-set, set-get_or}}
 use Rattle.std.proofs.lemmas.List.Elements.{Contains-append_left, Contains-append_right, Contains-push}
 use mathlib.Core.Option.{some}
 use lib.ListN.{get_elem?}
-use Rattle.atomic_table.specs.Table.{State, Me, Step, stepped, Allows, Splits, Joins, keeps}
-use Rattle.atomic_table.proofs.Lists.{at_map, set_else}
-use Rattle.npf_seats.specs.declared.side.SeatSide.{SeatSide}
-use Rattle.npf_seats.specs.Moves.{given_seat, taking_seat}
-use Rattle.npf_seats.specs.Seats.{Seats}
+use Rattle.atomic_table.{specs.Table.{State, Me, Step, stepped, Allows, Splits, Joins, keeps}, proofs.Lists.{at_map, set_else}}
+use Rattle.npf_shelf.proofs.ListLemmas.{map-set_push, map-set_set}
+use Rattle.npf_seats.specs.{declared.side.SeatSide.SeatSide, Moves.{given_seat, taking_seat}, Seats.Seats}
 use Rattle.npf_seats.proofs.SeatLemmas.{unspent, seats-split, none_seen, seats-born, seats-join, long, mine_seen, told_seen, seats-read}
-use Rattle.npf_reass.specs.declared.offer.Gathered.{Gathered}
-use Rattle.npf_reass.specs.declared.offer.Offer.{Offer}
-use Rattle.npf_reass.specs.declared.offer.ReassSize.{ReassSize}
-use Rattle.npf_reass.specs.declared.view.ReassView.{ReassView}
-use Rattle.npf_reass.specs.Class.{offer_seat}
-use Rattle.npf_reass.specs.Gathering.{IsGathering, reass_seat}
-use Rattle.npf_reass.specs.Moves.{HasReadSight, IsBornPass, given_pass_view, gives_place, emptied_view, takes_pass_in}
-use Rattle.npf_reass.specs.Passes.{view_sight}
-use Rattle.npf_reass.specs.Sight.{JoinsSight, SplitsSight}
-use Rattle.npf_reass.proofs.TurnsLemmas.{merged_side, pushed_side, turns-push, turns-set}
+use Rattle.npf_reass.specs.{declared.{offer.{Gathered.Gathered, Offer.Offer, ReassSize.ReassSize}, view.ReassView.ReassView}, Class.offer_seat}
+use Rattle.npf_reass.specs.{Gathering.{IsGathering, reass_seat}, Moves.{HasReadSight, IsBornPass, given_pass_view, gives_place, emptied_view, takes_pass_in}}
+use Rattle.npf_reass.{specs.{Passes.view_sight, Sight.{JoinsSight, SplitsSight}}, proofs.TurnsLemmas.{turns-push, turns-set}}
 
 -- the sides of views of which one changed
 map_side : (views : List ReassView) (id : ℕ) (w : ReassView) → map reass_seat (set views id w) ≡ set (map reass_seat views) id w.seats
@@ -37,7 +27,7 @@ module _ (size : ReassSize) where
   splits id v lives rests places s kept at = record {
     log = kept.log;
     holder = kept.holder;
-    seats = subst (Sides kept.log) (sym (pushed_side reass_seat s.views id (gives_place v) (given_pass_view v)))
+    seats = subst (Sides kept.log) (sym (map-set_push reass_seat s.views id (gives_place v) (given_pass_view v)))
         (seats-split offer_seat size size.passes kept.log (map reass_seat s.views) id v.seats kept.seats (at_map reass_seat s.views id v at) lives places);
     wide = kept.wide;
     home = kept.home;
@@ -53,7 +43,7 @@ module _ (size : ReassSize) where
       record {
         log = kept.log;
         holder = kept.holder;
-        seats = subst (Sides kept.log) (sym (merged_side reass_seat s.views id other (takes_pass_in v w) emptied_view))
+        seats = subst (Sides kept.log) (sym (map-set_set reass_seat s.views id other (takes_pass_in v w) emptied_view))
             (seats-join offer_seat size size.passes kept.log (map reass_seat s.views) id v.seats other w.seats (record { classes = 0; passes = 0 }) kept.seats
             (at_map reass_seat s.views id v at) apart (at_map reass_seat s.views other w was) lives theirs place w-lives w-theirs);
         wide = kept.wide;

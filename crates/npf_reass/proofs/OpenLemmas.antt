@@ -1,23 +1,13 @@
 -- A new object keeps the rule.
 use Rattle.std.proofs.Common.{◌≡◌, ℕ, zero, suc, ◌<◌, true≢false, List, [], ◌∷◌, length, map, None, Some, sum_by, refl, sym, subst, inl, arith}
-use Rattle.std.specs.Prelude.{All, slice_index}
-use Rattle.std.proofs.lemmas.List.Elements.{All-head, All-tail}
-use Rattle.std.proofs.lemmas.List.Sums.{sum_by-cons}
+use Rattle.std.{specs.Prelude.{All, slice_index}, proofs.lemmas.List.{Elements.{All-head, All-tail}, Sums.sum_by-cons}}
 use mathlib.Core.Option.{some, some-injective, some-ne-none}
 use lib.ListN.{get_elem?}
 use Rattle.atomic_table.specs.Table.{opening}
-use Rattle.npf_seats.specs.declared.side.SeatSide.{SeatSide}
-use Rattle.npf_seats.specs.Seats.{FitsSeats, Seats}
-use Rattle.npf_seats.specs.Sums.{occurs}
-use Rattle.npf_seats.proofs.PrefixLemmas.{none_listed, prefix_of_none}
+use Rattle.npf_seats.{specs.{declared.side.SeatSide.SeatSide, Seats.{FitsSeats, Seats}, Sums.occurs}, proofs.PrefixLemmas.{none_listed, prefix_of_none}}
 use Rattle.npf_seats.proofs.SumLemmas.{length-numbers_below, occurs_below, occurs_beyond}
-use Rattle.npf_reass.specs.declared.offer.Gathered.{Gathered}
-use Rattle.npf_reass.specs.declared.offer.Offer.{Offer}
-use Rattle.npf_reass.specs.declared.offer.ReassSize.{ReassSize}
-use Rattle.npf_reass.specs.declared.view.ReassView.{ReassView}
-use Rattle.npf_reass.specs.Class.{offer_seat}
-use Rattle.npf_reass.specs.Gathering.{IsClassHome, IsGathering, first_reass_view}
-use Rattle.npf_reass.proofs.TurnsLemmas.{no_turn}
+use Rattle.npf_reass.specs.{declared.{offer.{Gathered.Gathered, Offer.Offer, ReassSize.ReassSize}, view.ReassView.ReassView}, Class.offer_seat}
+use Rattle.npf_reass.{specs.Gathering.{IsClassHome, IsGathering, first_reass_view}, proofs.TurnsLemmas.no_turn}
 
 -- a slot without offers is at home
 empty_home : (classes : ℕ) (homes : List Gathered) (class : ℕ) → class < length homes → All (λ (slot : Gathered). slot.offers.items ≡ []) homes

@@ -1,14 +1,10 @@
 -- A pass of the object stays one.
 use Rattle.std.proofs.Common.{◌≡◌, ℕ, ◌-◌, ◌≤◌, ◌∙◌, length, take, Option, Some, List, [], ◌∷◌, refl, arith, length-append}
 use Rattle.std.proofs.lemmas.List.{length-drop, length-take-le}
-use Rattle.atomic_table.specs.Seated.{TableId}
-use Rattle.atomic_table.specs.Table.{Me, Step}
+use Rattle.atomic_table.specs.{Seated.TableId, Table.{Me, Step}}
 use Rattle.npf_pieces.specs.declared.piece.Piece.{Piece}
-use Rattle.npf_reass.specs.declared.offer.Gathered.{Gathered}
-use Rattle.npf_reass.specs.declared.offer.ReassSize.{ReassSize}
-use Rattle.npf_reass.specs.declared.view.ReassView.{ReassView}
-use Rattle.npf_reass.specs.Moves.{HasReadSight, IsBornPass, given_pass_view, gives_place, takes_pass_in}
-use Rattle.npf_reass.specs.Passes.{IsRestingPass, IsReassSeat}
+use Rattle.npf_reass.specs.declared.{offer.{Gathered.Gathered, ReassSize.ReassSize}, view.ReassView.ReassView}
+use Rattle.npf_reass.specs.{Moves.{HasReadSight, IsBornPass, given_pass_view, gives_place, takes_pass_in}, Passes.{IsRestingPass, IsReassSeat}}
 use Rattle.npf_reass.specs.Turn.{HasEndedTurn}
 
 pub seat_on : {size : ReassSize} {table seat : TableId} (seat' : TableId) → seat' ≡ seat → IsReassSeat size table seat → IsReassSeat size table seat'

@@ -2,14 +2,9 @@
 use Rattle.std.proofs.Common.{◌≡◌, ◌≢◌, ℕ, zero, suc, ◌+◌, ◌<◌, ◌≤◌, ◌∙◌, refl, sym, ap, subst, ⊎_elim, List, [], ◌∷◌, length, map, get_or, set, arith, get_or-set_same, get_or-set_other, Global, Vec}
 use mathlib.Core.Option.{some, some-injective, some-ne-none}
 use lib.ListN.{get_elem?}
-use Rattle.std.specs.Prelude.{IsPermutation}
-use Rattle.std.proofs.lemmas.Bool.{cases_lt}
-use Rattle.std.proofs.lemmas.List.{length-map, map-set}
+use Rattle.std.{specs.Prelude.IsPermutation, proofs.lemmas.{Bool.cases_lt, List.{length-map, map-set}}}
 use Rattle.npf_pieces.specs.declared.piece.Piece.{Piece}
-use Rattle.npf_reass.specs.declared.offer.Gathered.{Gathered}
-use Rattle.npf_reass.specs.declared.offer.Offer.{Offer}
-use Rattle.npf_reass.specs.Listing.{IsByNumber, ListsClasses, SortsEach}
-use Rattle.npf_reass.proofs.CloseLemmas.{HasOffers}
+use Rattle.npf_reass.{specs.{declared.offer.{Gathered.Gathered, Offer.Offer}, Listing.{IsByNumber, ListsClasses, SortsEach}}, proofs.CloseLemmas.HasOffers}
 
 abbrev pub Offers : Type 0
 Offers = List (ℕ × Piece)

@@ -1,28 +1,16 @@
 -- A try to take the turn of a class keeps the rule.
-use Rattle.std.proofs.Common.{◌≡◌, ◌≢◌, ℕ, ◌<◌, ◌≤◌, Bool, true, false, ◌==◌, eqb, if◌then◌else◌, List, [], set, length, Some, None, refl, sym, ap, ◌∙◌, subst, ⊎_elim, inl, inr, arith, length-set}
-use Rattle.std.specs.Prelude.{slice_index}
-use Rattle.std.proofs.lemmas.Bool.{cases_eq}
-use Rattle.std.proofs.lemmas.Bool.Decides.{Decides-eqb}
+use Rattle.std.proofs.Common.{◌≡◌, ◌≢◌, ℕ, ◌<◌, ◌≤◌, true, false, ◌==◌, eqb, if◌then◌else◌, List, [], set, length, Some, None, refl, sym, ap, ◌∙◌, subst, ⊎_elim, inl, inr, arith, length-set}
+use Rattle.std.{specs.Prelude.slice_index, proofs.lemmas.Bool.{cases_eq, false_from_ne_true, Decides.Decides-eqb}}
 use Rattle.std.proofs.lemmas.List.{get_or-set_same, get_or-set_other, set-get_or}
 use mathlib.Core.Option.{some, none}
 use lib.ListN.{get_elem?}
 use prog.Atomic.{either}
 use Rattle.atomic_table.specs.Table.{State, Me, Act, step, stepped, Allows, carried_after, Valid, keeps, takes}
 use Rattle.atomic_table.proofs.Lists.{at_set, set_again, set_else, exchanged}
-use Rattle.npf_seats.specs.Seats.{Seats}
-use Rattle.npf_seats.proofs.SumLemmas.{set_there, side_same}
-use Rattle.npf_reass.specs.declared.offer.Gathered.{Gathered}
-use Rattle.npf_reass.specs.declared.offer.ReassSize.{ReassSize}
-use Rattle.npf_reass.specs.declared.view.ReassView.{ReassView}
-use Rattle.npf_reass.specs.Class.{offer_seat}
-use Rattle.npf_reass.specs.Gathering.{HasClassHolder, HasClassTurn, IsClassHome, IsGathering, reass_seat}
-use Rattle.npf_reass.specs.Passes.{IsRestingPass}
-use Rattle.npf_reass.specs.Turn.{TakesTurn}
+use Rattle.npf_seats.{specs.Seats.Seats, proofs.SumLemmas.{set_there, side_same}}
+use Rattle.npf_reass.specs.{declared.{offer.{Gathered.Gathered, ReassSize.ReassSize}, view.ReassView.ReassView}, Class.offer_seat}
+use Rattle.npf_reass.specs.{Gathering.{HasClassHolder, HasClassTurn, IsClassHome, IsGathering, reass_seat}, Passes.IsRestingPass, Turn.TakesTurn}
 use Rattle.npf_reass.proofs.TurnsLemmas.{no_turn, one_turn, turn_there}
-
-pub is_false : (test : Bool) → ¬ (test ≡ true) → test ≡ false
-is_false true h = absurd (h refl)
-is_false false h = refl
 
 module _ (size : ReassSize) where
   -- the same step in which nothing changes
@@ -54,7 +42,7 @@ module _ (size : ReassSize) where
     holder_here = let here : (class == class) ≡ true = (Decides-eqb class class).1 refl in rw here refl
 
     holder_other : (k : ℕ) → k ≢ class → holder k ≡ kept.holder k
-    holder_other k ne = let other : (k == class) ≡ false = is_false (k == class) (λ e. ne ((Decides-eqb k class).0 e)) in rw other refl
+    holder_other k ne = let other : (k == class) ≡ false = false_from_ne_true (k == class) (λ e. ne ((Decides-eqb k class).0 e)) in rw other refl
 
     word_here : slice_index words class ≡ 1
     word_here = get_or-set_same s.words class 1 0 (omega (arith, kept.wide, inside))

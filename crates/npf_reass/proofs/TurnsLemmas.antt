@@ -1,20 +1,10 @@
 -- The part of the rule on turns stays where a pass without a turn changes or comes.
-use Rattle.std.proofs.Common.{◌≡◌, ◌≢◌, ℕ, List, [], ◌∷◌, ◌++◌, map, set, Option, Some, None, sym, ap, ◌∙◌, ⊎_elim, inl, inr}
-use Rattle.std.specs.Prelude.{slice_index}
-use Rattle.std.proofs.lemmas.List.{map-append, map-set}
+use Rattle.std.{proofs.Common.{◌≡◌, ◌≢◌, ℕ, List, [], ◌∷◌, ◌++◌, set, Option, Some, None, sym, ap, ◌∙◌, ⊎_elim, inl, inr}, specs.Prelude.slice_index}
 use mathlib.Core.Option.{some}
 use lib.ListN.{get_elem?}
 use Rattle.atomic_table.proofs.Lists.{at_set, at_snoc, at_longer, set_else}
 use Rattle.npf_seats.proofs.SumLemmas.{one_there}
-use Rattle.npf_reass.specs.declared.offer.Offer.{Offer}
-use Rattle.npf_reass.specs.declared.view.ReassView.{ReassView}
-use Rattle.npf_reass.specs.Gathering.{HasClassHolder, ClassTurns}
-
-pub pushed_side : {X Y : Type 0} (f : X → Y) (xs : List X) (i : ℕ) (x y : X) → map f (set xs i x ++ y ∷ []) ≡ set (map f xs) i (f x) ++ f y ∷ []
-pushed_side f xs i x y = map-append f (set xs i x) (y ∷ []) ∙ ap (λ z. z ++ f y ∷ []) (map-set f xs i x)
-
-pub merged_side : {X Y : Type 0} (f : X → Y) (xs : List X) (i j : ℕ) (x y : X) → map f (set (set xs i x) j y) ≡ set (set (map f xs) i (f x)) j (f y)
-merged_side f xs i j x y = map-set f (set xs i x) j y ∙ ap (λ z. set z j (f y)) (map-set f xs i x)
+use Rattle.npf_reass.specs.{declared.{offer.Offer.Offer, view.ReassView.ReassView}, Gathering.{HasClassHolder, ClassTurns}}
 
 pub no_turn : {o : Option ℕ} {class : ℕ} → o ≡ None → o ≡ Some class → ⊥
 no_turn e t = cc

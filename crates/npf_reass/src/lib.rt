@@ -12,8 +12,8 @@
 #![tactic(auto)]
 
 mod class;
+mod moves;
 mod offer;
-mod passing;
 mod reass;
 mod rule;
 mod turn;

@@ -1,10 +1,11 @@
+// Fragments are gathered by passes that share the sets.
 ghost use Rattle.std.specs.Prelude.{◌≡◌, ◌≤◌, ◌+◌, [], All, IfOk, length, map, vec_capacity};
 ghost use Rattle.core.specs.Mem.Slots.{IsFull, slots_items, slots_len};
 ghost use Rattle.npf_reass.specs.Listing.{SortsEach};
 
 use crate::class::class_of;
+use crate::moves::{GivesPlace, PlaceBorn, ReadsSets, TakesPlaceIn};
 use crate::offer::{Gathered, ReassSize};
-use crate::passing::{GetsBorn, Gives, Reads, TakesIn};
 use crate::rule::GatheringRule;
 use crate::turn::{FREE, end, take};
 use crate::view::ReassView;
@@ -61,8 +62,8 @@ impl Reass {
         ensures given { IsReassPass self.now result }
         ensures splits { SplitsSight (sight pass.old) (sight pass.new) (sight result) }
     {
-        let mut seat = self.table.shared.split_seat::<Gives>(&mut pass.seat);
-        self.table.shared.load::<GetsBorn>(&mut seat, 0);
+        let mut seat = self.table.shared.split_seat::<GivesPlace>(&mut pass.seat);
+        self.table.shared.load::<PlaceBorn>(&mut seat, 0);
         ReassPass { seat }
     }
 
@@ -74,8 +75,10 @@ impl Reass {
         ensures joins { JoinsSight (sight pass.old) (sight other) (sight pass.new) }
     {
         let ReassPass { seat } = other;
-        self.table.shared.join_seat::<TakesIn>(&mut pass.seat, seat);
-        self.table.shared.load::<Reads>(&mut pass.seat, 0);
+        self.table
+            .shared
+            .join_seat::<TakesPlaceIn>(&mut pass.seat, seat);
+        self.table.shared.load::<ReadsSets>(&mut pass.seat, 0);
     }
 
     /// Offers the piece that the packet `n` is.

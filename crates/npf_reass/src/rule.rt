@@ -1,3 +1,4 @@
+// The rule of the sets.
 use crate::offer::{Gathered, ReassSize};
 use crate::view::ReassView;
 use atomic_table::{Play, TableRule};
@@ -14,9 +15,9 @@ impl TableRule<Gathered, ReassView, ReassSize> for GatheringRule {
 }
 
 /// A try to take the turn of a class.
-pub(crate) struct TakesTurn;
+pub(crate) struct TakesClassTurn;
 
-impl Play<Gathered, ReassView> for TakesTurn {
+impl Play<Gathered, ReassView> for TakesClassTurn {
     ghost use Rattle.npf_reass.specs.Turn.{TakesTurn};
 
     ghost then = { TakesTurn };

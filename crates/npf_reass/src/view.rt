@@ -1,3 +1,4 @@
+// What a pass knows.
 use crate::offer::{Offer, ReassSize};
 use npf_pieces::Piece;
 use npf_seats::SeatSide;

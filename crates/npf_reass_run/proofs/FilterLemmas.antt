@@ -1,7 +1,5 @@
 -- What filters keep of lists that are mapped, or filtered by one of two tests.
-use Rattle.std.proofs.Common.{◌≡◌, ◌∙◌, ◌&&◌, ◌||◌, Bool, cond, true, false, refl, sym, ap}
-use Rattle.std.proofs.Common.{List, [], ◌∷◌, length, map, arith}
-use Rattle.std.specs.Prelude.{filter}
+use Rattle.std.{proofs.Common.{◌≡◌, ◌∙◌, ◌&&◌, ◌||◌, Bool, cond, true, false, refl, sym, ap, List, [], ◌∷◌, length, map, arith}, specs.Prelude.filter}
 
 -- a filter behind a map
 module _ {X Y : Type 0} (f : X → Y) where

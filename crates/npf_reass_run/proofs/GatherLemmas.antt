@@ -1,30 +1,19 @@
 -- The list of a class, once all is offered, has the class's pieces in the order of their packets.
-use Rattle.std.proofs.Common.{◌≡◌, ℕ, ◌-◌, ◌<◌, ◌≤◌, ◌==◌, ◌∙◌, Bool}
-use Rattle.std.proofs.Common.{⊎_elim, zero, suc, refl, sym, ap, subst, arith, Global, Vec}
-use Rattle.std.proofs.Common.{List, [], ◌∷◌, length, map, take, get_or, slice_range}
-use Rattle.std.specs.Prelude.{All, Contains, IsPermutation, filter}
-use Rattle.std.specs.List.{AllZip}
-use Rattle.std.proofs.lemmas.List.{length-map, take_all}
-use Rattle.std.proofs.lemmas.List.Elements.{All-contains_itself, All-filter, All-get_or, All-head, All-map, All-tail, All-weaker}
+use Rattle.std.proofs.Common.{◌≡◌, ℕ, ◌-◌, ◌<◌, ◌≤◌, ◌==◌, ◌∙◌, Bool, ⊎_elim, zero, suc, refl, sym, ap, subst, arith, Global, Vec}
+use Rattle.std.{proofs.Common.{List, [], ◌∷◌, length, map, take, get_or, slice_range}, specs.{Prelude.{All, Contains, IsPermutation, filter}, List.AllZip}}
+use Rattle.std.proofs.lemmas.List.{length-map, take_all, Elements.{All-contains_itself, All-filter, All-get_or, All-head, All-map, All-tail, All-weaker}}
 use Rattle.std.proofs.lemmas.List.Sorted.{IsNonDecreasingBy-from_sort}
+use Rattle.npf_shelf.proofs.ListLemmas.{Contains-first, Contains-later}
 use Rattle.npf_traffic.specs.declared.packet.Packet.{Packet}
-use Rattle.npf_pieces.specs.declared.arrived.Arrived.{Arrived}
-use Rattle.npf_pieces.specs.declared.piece.Piece.{Piece}
-use Rattle.npf_pieces.specs.declared.piece.Seen.{Seen}
-use Rattle.npf_reass_sets.specs.declared.class.ClassSets.{ClassSets}
-use Rattle.npf_reass_sets.specs.Among.{arrived_from}
-use Rattle.npf_reass_sets.proofs.FilterLemmas.{few_same, filter_every, filters_swap, head, tail}
+use Rattle.npf_pieces.specs.declared.{arrived.Arrived.Arrived, piece.{Piece.Piece, Seen.Seen}}
+use Rattle.npf_reass_sets.{specs.{declared.class.ClassSets.ClassSets, Among.arrived_from}, proofs.FilterLemmas.{few_same, filter_every, filters_swap}}
 use Rattle.npf_reass_sets.proofs.RiseLemmas.{AreAbove, Rise, dont_fall, one_at_most, one_order, rise_filter}
 use Rattle.npf_reass_whole.proofs.AmongLemmas.{all_zip_at, all_zip_long, at_place}
-use Rattle.npf_reass.specs.declared.offer.Offer.{Offer}
-use Rattle.npf_reass.specs.Class.{class_of, of_class, offered}
-use Rattle.npf_reass.specs.Listing.{IsByNumber, ListsClasses}
+use Rattle.npf_reass.specs.{declared.offer.Offer.Offer, Class.{class_of, of_class, offered}, Listing.{IsByNumber, ListsClasses}}
 use Rattle.npf_reass.specs.Sight.{IsOwnNumber, ReassSight}
 use Rattle.npf_reass_run.specs.Gathering.{GathersPieces, IsArrivedOffer, IsOfferAmong, class_pieces}
-use Rattle.npf_reass_run.specs.Offering.{HasOffered, is_number_among, of_place, own_pieces, placed}
-use Rattle.npf_reass_run.proofs.FilterLemmas.{filter_map_same}
-use Rattle.npf_reass_run.proofs.ListLemmas.{IsClassOf, OfferList, some_of}
-use Rattle.npf_reass_run.proofs.OfferLemmas.{listed_is}
+use Rattle.npf_reass_run.{specs.Offer.{HasOffered, is_number_among, of_place, own_pieces, placed}, proofs.FilterLemmas.filter_map_same}
+use Rattle.npf_reass_run.proofs.{ListLemmas.{IsClassOf, OfferList, some_of}, OfferLemmas.listed_is}
 
 abbrev Offers : Type 0
 Offers = List (ℕ × Piece)
@@ -94,8 +83,8 @@ module _ (packets : List Packet) (sight : ReassSight) (has : HasOffered 0 packet
   own_number : (x : Offer) → Contains sight.history x → Contains numbers x.seat
   own_number x c = ⊎_elim
       (λ (e : x.seat ≡ sight.number).
-      subst (λ (n : ℕ). Contains numbers n) (sym e) (head sight.number sight.joined))
-      (λ (k : Contains sight.joined x.seat). tail sight.number x.seat sight.joined k)
+      subst (λ (n : ℕ). Contains numbers n) (sym e) (Contains-first sight.number sight.joined))
+      (λ (k : Contains sight.joined x.seat). Contains-later sight.number x.seat sight.joined k)
       (alone x c)
 
   every : own_pieces sight ≡ map offered sight.history

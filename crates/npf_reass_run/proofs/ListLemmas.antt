@@ -1,12 +1,8 @@
 -- The classes of which the lists of offers are gone through.
-use Rattle.std.proofs.Common.{◌≡◌, ℕ, ◌<◌, ◌∙◌, refl, sym, ap, subst, append-nil, append_assoc, arith}
-use Rattle.std.proofs.Common.{List, [], ◌∷◌, ◌++◌, length, reverse, Global, Vec}
-use Rattle.std.specs.List.{AllZip}
-use Rattle.std.proofs.lemmas.List.{reverse-append}
-use Rattle.std.proofs.lemmas.Slice.Zip.{all_zipped_more}
+use Rattle.std.proofs.Common.{◌≡◌, ℕ, ◌<◌, ◌∙◌, refl, sym, ap, subst, append-nil, append_assoc, arith, List, [], ◌∷◌, ◌++◌, length, reverse, Global, Vec}
+use Rattle.std.{specs.List.AllZip, proofs.lemmas.{List.reverse-append, Slice.Zip.all_zipped_more}}
 use Rattle.npf_traffic.specs.declared.packet.Packet.{Packet}
-use Rattle.npf_pieces.specs.declared.arrived.Arrived.{Arrived}
-use Rattle.npf_pieces.specs.declared.piece.Piece.{Piece}
+use Rattle.npf_pieces.specs.declared.{arrived.Arrived.Arrived, piece.Piece.Piece}
 use Rattle.npf_reass_sets.specs.declared.class.ClassSets.{ClassSets}
 use Rattle.npf_reass_run.specs.Gathering.{HasListed, IsArrivedOffer}
 

@@ -1,41 +1,28 @@
 -- What a pass has offered goes on by its own offers and by those of the passes that it takes in.
 use Rattle.std.proofs.Common.{◌≡◌, ◌≢◌, ◌⊎◌, ℕ, ◌+◌, ◌-◌, ◌<◌, ◌≤◌, ◌==◌, ◌∙◌, ◌||◌, Bool, true, false}
 use Rattle.std.proofs.Common.{inl, inr, ⊎_elim, suc, refl, sym, ap, subst, append-nil, append_assoc, arith}
-use Rattle.std.proofs.Common.{List, [], ◌∷◌, ◌++◌, length, map, take, drop, get_or, slice_range}
-use Rattle.std.proofs.Math.Seq.{take-add}
-use Rattle.std.proofs.Common.{Ok, Err, Result, OnOk, is_err}
-use Rattle.std.specs.Prelude.{Contains, filter}
-use Rattle.std.specs.List.{AllZip, list_any}
-use Rattle.std.specs.Result.{result_and}
+use Rattle.std.proofs.{Common.{List, [], ◌∷◌, ◌++◌, length, map, take, drop, get_or, slice_range, Ok, Err, Result, OnOk, is_err}, Math.Seq.take-add}
+use Rattle.std.specs.{Prelude.{Contains, filter}, List.{AllZip, list_any}, Result.result_and}
 use Rattle.std.proofs.lemmas.Bool.{cases_lt, eq-eqb, eqb-true, false_from_ne_true, ne_eqb}
-use Rattle.std.proofs.lemmas.List.{drop-drop, get_or-drop, length-drop, length-take, map-append, take_more}
-use Rattle.std.proofs.lemmas.List.Elements.{filter-append}
+use Rattle.std.proofs.lemmas.List.{drop-drop, get_or-drop, length-drop, length-take, map-append, take_more, Elements.filter-append}
 use Rattle.std.proofs.lemmas.List.Folds.{list_any-append, list_any_at}
 use mathlib.Core.Bool.{or_assoc, or_comm}
+use Rattle.npf_shelf.proofs.ListLemmas.{Contains-cons_cases, Contains-first, Contains-later}
 use Rattle.npf_core.specs.History.{IsPrefix}
-use Rattle.npf_seats.specs.Seats.{by_seat}
-use Rattle.npf_seats.proofs.PrefixLemmas.{none_listed, rest_none, seen_entry}
+use Rattle.npf_seats.{specs.Seats.by_seat, proofs.PrefixLemmas.{none_listed, rest_none, seen_entry}}
 use Rattle.npf_traffic.specs.declared.packet.Packet.{Packet}
-use Rattle.npf_pieces.specs.declared.arrived.Arrived.{Arrived}
-use Rattle.npf_pieces.specs.declared.piece.Piece.{Piece}
-use Rattle.npf_pieces.specs.declared.piece.Seen.{Seen}
-use Rattle.npf_reass_sets.specs.Among.{arrived_at, arrived_from}
-use Rattle.npf_reass_whole.specs.Run.{IsSeenAs}
-use Rattle.npf_reass_whole.proofs.AmongLemmas.{all_zip_long}
-use Rattle.npf_reass_sets.proofs.FilterLemmas.{filter_kept, filter_left, filter_none, head, parts, tail}
-use Rattle.npf_reass.specs.declared.offer.Offer.{Offer}
-use Rattle.npf_reass.specs.Class.{offer_seat, offered}
-use Rattle.npf_reass.specs.Sight.{AddsOffer, JoinsSight, ReassSight, SplitsSight}
-use Rattle.npf_reass_run.specs.Offering.{HasOffered, OffersPacket}
-use Rattle.npf_reass_run.specs.Offering.{is_number_among, of_place, own_pieces, placed}
-use Rattle.npf_reass_run.proofs.FilterLemmas.{either_kept}
+use Rattle.npf_pieces.specs.declared.{arrived.Arrived.Arrived, piece.{Piece.Piece, Seen.Seen}}
+use Rattle.npf_reass_sets.{specs.Among.{arrived_at, arrived_from}, proofs.FilterLemmas.{filter_kept, filter_left, filter_none}}
+use Rattle.npf_reass_whole.{specs.Run.IsSeenAs, proofs.AmongLemmas.all_zip_long}
+use Rattle.npf_reass.specs.{declared.offer.Offer.Offer, Class.{offer_seat, offered}, Sight.{AddsOffer, JoinsSight, ReassSight, SplitsSight}}
+use Rattle.npf_reass_run.{specs.Offer.{HasOffered, OffersPacket, is_number_among, of_place, own_pieces, placed}, proofs.FilterLemmas.either_kept}
 
 listed_more : (m n : ℕ) (numbers : List ℕ) (b : Bool) → (m == n) ≡ b
     → (b || is_number_among numbers n) ≡ true → (is_number_among numbers n ≡ true → Contains numbers n)
     → Contains (m ∷ numbers) n
 listed_more m n numbers true e h more =
-    subst (λ (k : ℕ). Contains (m ∷ numbers) k) (eqb-true m n e) (head m numbers)
-listed_more m n numbers false e h more = tail m n numbers (more h)
+    subst (λ (k : ℕ). Contains (m ∷ numbers) k) (eqb-true m n e) (Contains-first m numbers)
+listed_more m n numbers false e h more = Contains-later m n numbers (more h)
 
 is_listed : (numbers : List ℕ) (n : ℕ) → is_number_among numbers n ≡ true → Contains numbers n
 is_listed [] n h = cc
@@ -76,7 +63,7 @@ of_either : (P : ℕ → Type 0) (own : ℕ) (joined : List ℕ) → P own
     → ((n : ℕ) → Contains joined n → P n) → (n : ℕ) → Contains (own ∷ joined) n → P n
 of_either P own joined mine others n c =
     ⊎_elim (λ (e : own ≡ n). subst P e mine) (λ (k : Contains joined n). others n k)
-    (parts own n joined c)
+    (Contains-cons_cases own n joined c)
 
 pub adds_own : (old new : ReassSight) (n : ℕ) (piece : Piece) → AddsOffer old new n piece
     → own_pieces new ≡ own_pieces old ++ (n, piece) ∷ []
@@ -86,7 +73,7 @@ adds_own old new n piece adds =
     let own = filter (of_one numbers) old.history in
     let mine : filter (of_one numbers) (offer ∷ []) ≡ offer ∷ [] =
     filter_kept (of_one numbers) offer []
-    (listed_is numbers old.number (head old.number old.joined)) in
+    (listed_is numbers old.number (Contains-first old.number old.joined)) in
     let none = of_either (λ (k : ℕ). by_seat offer_seat k adds.others ≡ [])
     old.number old.joined adds.own adds.listed in
     let last : filter (of_one numbers) (adds.others ++ offer ∷ []) ≡ offer ∷ [] =

@@ -1,22 +1,12 @@
 -- A piece is in one of the sets of its key alone: they are parts of its pieces, whose places rise.
 use Rattle.std.proofs.Common.{if◌then◌else◌, ◌≡◌, ℕ, ◌<◌, ◌∙◌, ⊎_elim, Bool, true, false, refl, sym, ap, subst}
-use Rattle.std.proofs.Common.{nat_eq, Option, Some, None, List, [], ◌∷◌, ◌++◌, map, append_assoc, append-nil, arith}
-use Rattle.std.specs.Prelude.{Contains}
-use Rattle.std.specs.Cmp.Lexicographic.{pointwise}
-use Rattle.std.proofs.lemmas.List.Elements.{Contains-append_left, Contains-append_right, filter_agree, filter_passes}
-use Rattle.npf_pieces.specs.declared.arrived.Arrived.{Arrived}
-use Rattle.npf_pieces.specs.declared.arrived.Ending.{Ending}
-use Rattle.npf_pieces.specs.declared.piece.FragKey.{FragKey}
-use Rattle.npf_pieces.specs.declared.piece.Piece.{Piece}
+use Rattle.std.{proofs.Common.{nat_eq, Option, Some, None, List, [], ◌∷◌, ◌++◌, map, append_assoc, append-nil, arith}, specs.Prelude.Contains}
+use Rattle.std.{specs.Cmp.Lexicographic.pointwise, proofs.lemmas.List.Elements.{Contains-append_left, Contains-append_right, filter_agree, filter_passes}}
+use Rattle.npf_shelf.proofs.ListLemmas.{Contains-cons_cases}
+use Rattle.npf_pieces.specs.declared.{arrived.{Arrived.Arrived, Ending.Ending}, piece.{FragKey.FragKey, Piece.Piece}}
 use Rattle.npf_pieces.specs.Sets.{Set, ended_by, ending_with, is_late, sets_from, unfinished}
-use Rattle.npf_reass_sets.specs.Among.{arrived_from}
-use Rattle.npf_reass_sets.specs.Key.{is_frag_key, key_numbers, of_key}
-use Rattle.npf_reass_sets.proofs.FilterLemmas.{parts}
-use Rattle.npf_reass_sets.proofs.RiseLemmas.{AreAbove, Rise, rise_filter}
-use Rattle.npf_reass_run.specs.Laws.{OneSet}
-use Rattle.npf_reass_run.specs.Offering.{placed}
-use Rattle.npf_reass_run.proofs.FilterLemmas.{filter_map_same}
-use Rattle.npf_reass_run.proofs.GatherLemmas.{number_of, rise_from}
+use Rattle.npf_reass_sets.{specs.{Among.arrived_from, Key.{is_frag_key, key_numbers, of_key}}, proofs.RiseLemmas.{AreAbove, Rise, rise_filter}}
+use Rattle.npf_reass_run.{specs.{Laws.OneSet, Offer.placed}, proofs.{FilterLemmas.filter_map_same, GatherLemmas.{number_of, rise_from}}}
 use Rattle.npf_reass_run.proofs.ShareLemmas.{same_numbers}
 
 -- the sets' pieces, one set after the other
@@ -67,7 +57,7 @@ above_all low [] a above c = absurd (omega (arith, c.1))
 above_all low (x ∷ xs) a above c = ⊎_elim
     (λ (e : x ≡ a). subst (λ (y : Arrived). low < y.place) e above.0)
     (λ (k : Contains xs a). above_all low xs a above.1 k)
-    (parts x a xs c)
+    (Contains-cons_cases x a xs c)
 
 rise_apart : (xs ys : List Arrived) (a b : Arrived) → Rise number_of (map placed (xs ++ ys))
     → Contains xs a → Contains ys b → a.place < b.place
@@ -77,7 +67,7 @@ rise_apart (x ∷ xs) ys a b rise c d =
     ⊎_elim
     (λ (e : x ≡ a). subst (λ (y : Arrived). y.place < b.place) e above)
     (λ (k : Contains xs a). rise_apart xs ys a b rise.1 k d)
-    (parts x a xs c)
+    (Contains-cons_cases x a xs c)
 
 rise_behind : (xs ys : List Arrived) → Rise number_of (map placed (xs ++ ys)) → Rise number_of (map placed ys)
 rise_behind [] ys rise = rise
@@ -91,7 +81,7 @@ in_pieces (s ∷ sets) set a among has = ⊎_elim
     (subst (λ (t : Set). Contains t.pieces a) (sym e) has))
     (λ (k : Contains sets set). Contains-append_right s.pieces (all_pieces sets) a
     (in_pieces sets set a k has))
-    (parts s set sets among)
+    (Contains-cons_cases s set sets among)
 
 -- a piece of the first set isn't in one of the others
 in_first : (s : Set) (sets : List Set) (set other : Set) (a : Arrived)
@@ -113,12 +103,12 @@ one_of (s ∷ sets) set other a rise among also has too =
     (λ (e : s ≡ set). ⊎_elim
     (λ (f : s ≡ other). sym e ∙ f)
     (λ (k : Contains sets other). absurd (in_first s sets set other a rise e k has too))
-    (parts s other sets also))
+    (Contains-cons_cases s other sets also))
     (λ (j : Contains sets set). ⊎_elim
     (λ (f : s ≡ other). absurd (in_first s sets other set a rise f j too has))
     (λ (k : Contains sets other). one_of sets set other a behind j k has too)
-    (parts s other sets also))
-    (parts s set sets among)
+    (Contains-cons_cases s other sets also))
+    (Contains-cons_cases s set sets among)
 
 -- a piece of a set is of the set's key
 of_its_key : (key : FragKey) (arrived : List Arrived) (set : Set) (a : Arrived)

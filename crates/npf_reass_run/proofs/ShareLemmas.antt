@@ -1,34 +1,18 @@
 -- The classes that were decided tell the sets of all pieces.
 use Rattle.std.proofs.Common.{◌≡◌, ℕ, ◌-◌, ◌<◌, ◌≤◌, ◌==◌, ◌∙◌, ◌%◌, Bool, cond, zero, true, false, suc, refl, sym, ap, subst, nat_eq, List, [], ◌∷◌, length, get_or, arith}
-use Rattle.std.specs.Prelude.{All, Contains, bit_xor, filter}
-use Rattle.std.specs.Cmp.Lexicographic.{pointwise}
-use Rattle.std.proofs.lemmas.Bool.{and_parts, eqb-true, eq-eqb}
+use Rattle.std.{specs.{Prelude.{All, Contains, bit_xor, filter}, Cmp.Lexicographic.pointwise}, proofs.lemmas.Bool.{and_parts, eqb-true, eq-eqb}}
 use Rattle.std.proofs.lemmas.List.Elements.{All-cons, All-contains, All-filter, All-get_or, All-head, All-nil, filter_passes, All-weaker, All-contains_itself, Contains-get_or}
-use Rattle.std.proofs.lemmas.List.Kept.{AllPairs-cons, AllPairs-filter}
-use Rattle.std.proofs.lemmas.List.Sorted.{All-permutation}
-use Rattle.npf_types.specs.declared.address.Addr.{Addr}
-use Rattle.npf_types.specs.declared.address.Addr.TheVariants.{V4, V6}
-use Rattle.npf_traffic.specs.declared.packet.Packet.{Packet}
-use Rattle.npf_traffic.specs.Packet.{IsShortPacket}
-use Rattle.npf_pieces.specs.declared.arrived.Arrived.{Arrived}
-use Rattle.npf_pieces.specs.declared.piece.FragKey.{FragKey}
-use Rattle.npf_pieces.specs.declared.piece.Seen.{Seen}
-use Rattle.npf_pieces.specs.OpenSet.{IsTaken}
-use Rattle.npf_pieces.specs.Sets.{Set, sets_from}
-use Rattle.npf_reass_sets.specs.declared.class.ClassSets.{ClassSets}
-use Rattle.npf_reass_sets.specs.Among.{IsSetAmong, arrived_from}
-use Rattle.npf_reass_sets.specs.Class.{DecidesClass, IsInSet, class_sets}
-use Rattle.npf_reass_sets.specs.Order.{AreByPlace}
-use Rattle.npf_reass_sets.specs.Key.{key_address, is_frag_key, key_numbers, of_key, key_version}
-use Rattle.npf_reass_whole.specs.Run.{DecidesRun, IsClassAmong, IsSeenAs, all_sets}
-use Rattle.npf_reass_whole.proofs.AmongLemmas.{all_zip_at, at_place}
+use Rattle.std.proofs.lemmas.{List.{Kept.{AllPairs-cons, AllPairs-filter}, Sorted.All-permutation}, Nat.mod_below}
+use Rattle.npf_types.specs.declared.address.Addr.{Addr, TheVariants.{V4, V6}}
+use Rattle.npf_traffic.specs.{declared.packet.Packet.Packet, Packet.IsShortPacket}
+use Rattle.npf_pieces.specs.{declared.{arrived.Arrived.Arrived, piece.{FragKey.FragKey, Seen.Seen}}, Overlap.IsTaken, Sets.{Set, sets_from}}
+use Rattle.npf_reass_sets.specs.{declared.class.ClassSets.ClassSets, Among.{IsSetAmong, arrived_from}, Class.{DecidesClass, IsInSet, class_sets}}
+use Rattle.npf_reass_sets.{specs.{Order.AreByPlace, Key.{key_address, is_frag_key, key_numbers, of_key, key_version}}, proofs.CoverLemmas.{in_left, in_right}}
+use Rattle.npf_reass_whole.{specs.Run.{DecidesRun, IsClassAmong, IsSeenAs, all_sets}, proofs.AmongLemmas.{all_zip_at, at_place}}
 use Rattle.npf_pieces.proofs.OpenSetLemmas.{taken_of}
-use Rattle.npf_reass_sets.proofs.CoverLemmas.{in_left, in_right}
 use Rattle.npf_reass.specs.Class.{class_of, folded_halves}
-use Rattle.npf_reass_run.specs.Gathering.{GathersPieces, class_pieces}
+use Rattle.npf_reass_run.{specs.Gathering.{GathersPieces, class_pieces}, proofs.ListLemmas.some_of}
 use Rattle.npf_reass_sets.proofs.FilterLemmas.{contains_filter}
-use Rattle.npf_reass_run.proofs.ListLemmas.{some_of}
-use Rattle.std.proofs.lemmas.Nat.{mod_below}
 
 -- pieces of one key are of one class
 pub same_numbers : (xs ys : List ℕ) → pointwise nat_eq xs ys ≡ true → xs ≡ ys

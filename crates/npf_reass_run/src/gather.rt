@@ -6,7 +6,7 @@ ghost use Rattle.npf_pieces.specs.Piece.{SeenAs};
 ghost use Rattle.npf_traffic.specs.Packet.{IsShortPacket};
 ghost use Rattle.npf_reass_run.specs.Gathering.{GathersPieces, HasListed, IsArrivedOffer, IsOfferAmong};
 
-use crate::offering::offer_all;
+use crate::offer::offer_all;
 use crate::scan::Lent;
 use npf_pieces::{Arrived, Piece, Seen, piece_of};
 use npf_reass::Reass;

@@ -6,16 +6,16 @@
 // classes.
 //
 // The contract: `reassemble` gives the packets of `Whole`, whatever the number of workers and the
-// order in which they offer. A law says that a piece is in one set alone. Without fragments it takes
-// no memory and starts no thread.
+// order in which they offer. A law says that a piece is in one set alone. No clause says what the body
+// does besides: without fragments it takes no memory and starts no thread.
 #![tactic(auto)]
 
 mod gather;
 mod laws;
-mod offering;
+mod offer;
 mod run;
 mod scan;
-mod sharing;
+mod share;
 
 pub use laws::one_set;
 pub use run::reassemble;

@@ -4,7 +4,7 @@ ghost use Rattle.npf_traffic.specs.Packet.{IsShortPacket};
 ghost use Rattle.npf_reass_whole.specs.Whole.{Whole};
 
 use crate::gather::{gather, has_fragment};
-use crate::sharing::decide_all;
+use crate::share::decide_all;
 use npf_pieces::DatagramBytes;
 use npf_reass_whole::{no_fragments_stay, put_together};
 use npf_traffic::Packet;
@@ -17,7 +17,7 @@ use std::thread::Threads;
 const CLASSES: u32 = 1024;
 
 /// The packets of a run where its fragments are put together, by so many workers. Datagrams stand in the keeper, in place of what
-/// was there. Without fragments it takes no memory and starts no thread.
+/// was there. Without fragments the body takes no memory and starts no thread, which no clause says.
 pub fn reassemble<'a, R: Threads + Wait + Sync>(
     rt: &R,
     alloc: Global,

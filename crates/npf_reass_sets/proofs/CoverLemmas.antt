@@ -1,15 +1,10 @@
 -- Each piece of a key is in one of the key's sets.
 use Rattle.std.proofs.Common.{if◌then◌else◌, ⊎_elim, true, false, Bool, sym, subst, List, [], ◌∷◌, ◌++◌, Option, Some, None, append_assoc, append-nil, arith}
-use Rattle.std.specs.Prelude.{Contains}
-use Rattle.std.proofs.lemmas.List.Elements.{Contains-append_cases, Contains-append_left, Contains-append_right, Contains-push}
-use Rattle.npf_pieces.specs.declared.arrived.Arrived.{Arrived}
-use Rattle.npf_pieces.specs.declared.arrived.Ending.{Ending}
-use Rattle.npf_pieces.specs.declared.arrived.Ending.TheVariants.{Unfinished}
+use Rattle.std.{specs.Prelude.Contains, proofs.lemmas.List.Elements.{Contains-append_cases, Contains-append_left, Contains-append_right}}
+use Rattle.npf_shelf.proofs.ListLemmas.{Contains-first}
+use Rattle.npf_pieces.specs.declared.arrived.{Arrived.Arrived, Ending.{Ending, TheVariants.Unfinished}}
 use Rattle.npf_pieces.specs.Sets.{Set, ended_by, ending_with, is_late, sets_from, unfinished}
 use Rattle.npf_reass_sets.specs.Class.{IsInSet}
-
-contains_head : {X : Type 0} (x : X) (xs : List X) → Contains (x ∷ xs) x
-contains_head x xs = Contains-append_left (x ∷ []) xs x (Contains-push [] x)
 
 pub in_left : (xs ys : List Set) (a : Arrived) → IsInSet xs a → IsInSet (xs ++ ys) a
 in_left xs ys a h = record { set = h.set; among = Contains-append_left xs ys h.set h.among; has = h.has }
@@ -18,7 +13,7 @@ pub in_right : (xs ys : List Set) (a : Arrived) → IsInSet ys a → IsInSet (xs
 in_right xs ys a h = record { set = h.set; among = Contains-append_right xs ys h.set h.among; has = h.has }
 
 in_first : (set : Set) (sets : List Set) (a : Arrived) → Contains set.pieces a → IsInSet (set ∷ sets) a
-in_first set sets a h = record { set = set; among = contains_head set sets; has = h }
+in_first set sets a h = record { set = set; among = Contains-first set sets; has = h }
 
 in_unfinished : (begun : List Arrived) (a : Arrived) → Contains begun a → IsInSet (unfinished begun) a
 in_unfinished [] a h = absurd (omega (arith, h.1))

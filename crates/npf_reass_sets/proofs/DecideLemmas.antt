@@ -1,22 +1,11 @@
 -- How far the sets of a class are found follows each key, and what is found of all is what is decided.
 use Rattle.std.proofs.Common.{◌≡◌, ℕ, ◌+◌, ◌-◌, ◌<◌, ◌≤◌, ◌∙◌, refl, sym, ap, subst, ⊎_elim, List, [], ◌∷◌, ◌++◌, length, drop, get_or, length-drop, arith}
-use Rattle.std.specs.Prelude.{All, Contains, map, slice_range}
-use Rattle.std.specs.List.Sorted.{IsPermutation}
-use Rattle.std.proofs.lemmas.Bool.{cases_lt}
-use Rattle.std.proofs.lemmas.List.{get_or-drop, get_or-take, get_or_default, length-take}
-use Rattle.std.proofs.lemmas.List.Elements.{All-append, All-nil, Contains-get_or}
+use Rattle.std.{specs.{Prelude.{All, Contains, map, slice_range}, List.Sorted.IsPermutation}, proofs.lemmas.Bool.cases_lt}
+use Rattle.std.proofs.lemmas.List.{get_or-drop, get_or-take, get_or_default, length-take, Elements.{All-append, All-nil, Contains-get_or}}
 use Rattle.std.proofs.lemmas.List.Sorted.{Contains-permutation}
-use Rattle.npf_pieces.specs.declared.arrived.Arrived.{Arrived}
-use Rattle.npf_pieces.specs.declared.arrived.SetAt.{SetAt}
-use Rattle.npf_pieces.specs.Sets.{Set, StandsIn, set_at, sets_from}
-use Rattle.npf_reass_sets.specs.declared.class.ClassSets.{ClassSets}
-use Rattle.npf_reass_sets.specs.Among.{IsSetAmong}
-use Rattle.npf_reass_sets.specs.Class.{DecidesClass, IsInSet, IsRunOfKey, class_sets}
-use Rattle.npf_reass_sets.specs.Found.{HasFound}
-use Rattle.npf_reass_sets.specs.Key.{of_key}
-use Rattle.npf_reass_sets.specs.Order.{SortsByKey}
-use Rattle.npf_reass_sets.proofs.CoverLemmas.{all_in_sets, in_left, in_right}
-use Rattle.npf_reass_sets.proofs.RunLemmas.{run_is_key, splits_behind}
+use Rattle.npf_pieces.specs.{declared.arrived.{Arrived.Arrived, SetAt.SetAt}, Sets.{Set, StandsIn, set_at, sets_from}}
+use Rattle.npf_reass_sets.specs.{declared.class.ClassSets.ClassSets, Among.IsSetAmong, Class.{DecidesClass, IsInSet, IsRunOfKey, class_sets}, Found.HasFound}
+use Rattle.npf_reass_sets.{specs.{Key.of_key, Order.SortsByKey}, proofs.{CoverLemmas.{all_in_sets, in_left, in_right}, RunLemmas.{run_is_key, splits_behind}}}
 
 some : (xs : List Arrived) → 0 < length xs → Arrived
 some [] h = absurd (omega (arith, h))

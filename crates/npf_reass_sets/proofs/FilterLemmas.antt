@@ -1,25 +1,9 @@
 -- What is in a list, and what filters keep: of a list and its permutation, and one behind the other.
-use Rattle.std.proofs.Common.{◌≡◌, ℕ, ◌<◌, ◌≤◌, ◌∙◌, ◌⊎◌, Bool, cond, true, false, ⊎_elim, inl, inr, zero, suc, refl, sym, ap}
-use Rattle.std.proofs.Common.{subst, List, [], ◌∷◌, length, get_or, arith}
-use Rattle.std.specs.Prelude.{All, Contains, IsPermutation, filter}
-use Rattle.std.proofs.lemmas.Bool.{cond-true, cond-false}
-use Rattle.std.proofs.lemmas.List.{nil_from_length}
-use Rattle.std.proofs.lemmas.List.Elements.{All-contains_itself, All-filter, All-head, filter_passes}
-use Rattle.std.proofs.lemmas.List.Sorted.{Contains-permutation, sum_by-IsPermutation}
+use Rattle.std.proofs.Common.{◌≡◌, ◌≤◌, ◌∙◌, ◌⊎◌, Bool, cond, true, false, ⊎_elim, refl, sym, ap, subst, List, [], ◌∷◌, length, arith}
+use Rattle.std.{specs.Prelude.{All, Contains, IsPermutation, filter}, proofs.lemmas.{Bool.{cond-true, cond-false}, List.nil_from_length}}
+use Rattle.std.proofs.lemmas.List.{Elements.{All-contains_itself, All-filter, All-head, filter_passes}, Sorted.{Contains-permutation, sum_by-IsPermutation}}
 use Rattle.std.proofs.lemmas.List.Sums.{length-filter}
-
-pub head : {W : Type 0} (w : W) (ws : List W) → Contains (w ∷ ws) w
-head w ws = (zero, omega arith, refl)
-
-pub tail : {W : Type 0} (v w : W) (ws : List W) → Contains ws w → Contains (v ∷ ws) w
-tail v w ws h = (suc h.0, omega (arith, h.1), h.2)
-
-parts_at : {W : Type 0} (v w : W) (ws : List W) (k : ℕ) → k < length (v ∷ ws) → get_or (v ∷ ws) k w ≡ w → (v ≡ w) ⊎ Contains ws w
-parts_at v w ws zero h e = inl e
-parts_at v w ws (suc k) h e = inr (k, omega (arith, h), e)
-
-pub parts : {W : Type 0} (v w : W) (ws : List W) → Contains (v ∷ ws) w → (v ≡ w) ⊎ Contains ws w
-parts v w ws c = parts_at v w ws c.0 c.1 c.2
+use Rattle.npf_shelf.proofs.ListLemmas.{Contains-cons_cases, Contains-first, Contains-later}
 
 module _ {X : Type 0} (p : X → Bool) where
   pub filter_kept : (x : X) (xs : List X) → p x ≡ true → filter p (x ∷ xs) ≡ x ∷ filter p xs
@@ -31,16 +15,16 @@ module _ {X : Type 0} (p : X → Bool) where
   pub filter_none : (xs : List X) → ((x : X) → Contains xs x → p x ≡ false) → filter p xs ≡ []
   filter_none [] none = refl
   filter_none (x ∷ xs) none =
-      filter_left x xs (none x (head x xs)) ∙ filter_none xs (λ y c. none y (tail x y xs c))
+      filter_left x xs (none x (Contains-first x xs)) ∙ filter_none xs (λ y c. none y (Contains-later x y xs c))
 
   pub filter_every : (xs : List X) → ((x : X) → Contains xs x → p x ≡ true) → filter p xs ≡ xs
   filter_every [] all = refl
   filter_every (x ∷ xs) all =
-      filter_kept x xs (all x (head x xs))
-      ∙ ap (λ (ys : List X). x ∷ ys) (filter_every xs (λ y c. all y (tail x y xs c)))
+      filter_kept x xs (all x (Contains-first x xs))
+      ∙ ap (λ (ys : List X). x ∷ ys) (filter_every xs (λ y c. all y (Contains-later x y xs c)))
 
   kept_behind : (b : Bool) (x a : X) (ys : List X) → Contains ys a → Contains (cond b (x ∷ ys) ys) a
-  kept_behind true x a ys c = tail x a ys c
+  kept_behind true x a ys c = Contains-later x a ys c
   kept_behind false x a ys c = c
 
   pub contains_filter : (xs : List X) (a : X) → Contains xs a → p a ≡ true
@@ -48,17 +32,17 @@ module _ {X : Type 0} (p : X → Bool) where
   contains_filter [] a c h = absurd (omega (arith, c.1))
   contains_filter (x ∷ xs) a c h = ⊎_elim
       (λ (k : x ≡ a).
-      let first = subst (λ (y : X). Contains (x ∷ filter p xs) y) k (head x (filter p xs)) in
+      let first = subst (λ (y : X). Contains (x ∷ filter p xs) y) k (Contains-first x (filter p xs)) in
       subst (λ (ys : List X). Contains ys a) (sym (filter_kept x xs (ap p k ∙ h))) first)
       (λ (k : Contains xs a). kept_behind (p x) x a (filter p xs) (contains_filter xs a k h))
-      (parts x a xs c)
+      (Contains-cons_cases x a xs c)
 
   one_item : (ys : List X) (a : X) → length ys ≡ 1 → Contains ys a → ys ≡ a ∷ []
   one_item [] a long c = absurd (omega (arith, long))
   one_item (y ∷ []) a long c = ⊎_elim
       (λ (k : y ≡ a). ap (λ (z : X). z ∷ []) k)
       (λ (k : Contains [] a). absurd (omega (arith, k.1)))
-      (parts y a [] c)
+      (Contains-cons_cases y a [] c)
   one_item (y ∷ z ∷ ys) a long c = absurd (omega (arith, long))
 
   among : (xs : List X) (x : X) → Contains (filter p xs) x → Contains xs x
@@ -79,7 +63,7 @@ module _ {X : Type 0} (p : X → Bool) where
   few_kept xs ys same (x ∷ []) is few =
       let all = subst (All (λ (y : X). p y ≡ true)) is (filter_passes p xs) in
       let passes = All-head (λ (y : X). p y ≡ true) x [] all in
-      let here = subst (λ (l : List X). Contains l x) (sym is) (head x []) in
+      let here = subst (λ (l : List X). Contains l x) (sym is) (Contains-first x []) in
       let there = Contains-permutation xs ys x same (among xs x here) in
       one_item (filter p ys) x (as_many xs ys same ∙ ap length is)
       (contains_filter ys x there passes)

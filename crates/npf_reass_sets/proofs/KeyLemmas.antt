@@ -1,15 +1,9 @@
 -- The order of keys, and their sameness.
-use Rattle.std.proofs.Common.{◌≡◌, ℕ, ◌∙◌, true, false, refl, ap, nat_eq, List, arith}
-use Rattle.std.specs.Cmp.Lexicographic.{pointwise, slice_cmp}
-use Rattle.std.specs.Ordering.{is_eq, is_gt, is_lt, nat_cmp, ordering_reverse}
-use Rattle.std.specs.declared.cmp.Ordering.{Ordering}
-use Rattle.std.specs.declared.cmp.Ordering.TheVariants.{Less, Equal, Greater}
-use Rattle.std.proofs.lemmas.Bool.Decides.{nat_tests}
-use Rattle.std.proofs.lemmas.Cmp.{nat_list_cmp_total, same_from_slice_cmp}
+use Rattle.std.{proofs.Common.{◌≡◌, ℕ, ◌∙◌, true, false, refl, ap, nat_eq, List, arith}, specs.Cmp.Lexicographic.{pointwise, slice_cmp}}
+use Rattle.std.specs.{Ordering.{is_eq, is_gt, is_lt, nat_cmp, ordering_reverse}, declared.cmp.Ordering.{Ordering, TheVariants.{Less, Equal, Greater}}}
+use Rattle.std.proofs.lemmas.{Bool.Decides.nat_tests, Cmp.{nat_list_cmp_total, same_from_slice_cmp}}
 use Rattle.npf_pieces.specs.declared.arrived.Arrived.{Arrived}
-use Rattle.npf_reass_sets.specs.Class.{same_key}
-use Rattle.npf_reass_sets.specs.Key.{key_numbers}
-use Rattle.npf_reass_sets.specs.Order.{is_key_below}
+use Rattle.npf_reass_sets.specs.{Class.same_key, Key.key_numbers, Order.is_key_below}
 
 -- how the keys of two pieces stand
 abbrev pub key_cmp : Arrived → Arrived → Ordering

@@ -1,10 +1,7 @@
 -- Lists whose numbers rise: of the elements that they have there is one order.
 use Rattle.std.proofs.Common.{◌≡◌, ◌≢◌, ◌⊎◌, ℕ, ◌<◌, ◌≤◌, ◌==◌, ◌∙◌, Bool, cond, true, false}
-use Rattle.std.proofs.Common.{inl, inr, ⊎_elim, suc, refl, sym, ap, arith, List, [], ◌∷◌, length, get_or}
-use Rattle.std.specs.Prelude.{⊤, AllPairs, filter}
-use Rattle.std.specs.List.Sorted.{IsNonDecreasingBy}
-use Rattle.std.proofs.lemmas.Bool.{cases_eq, cases_order, eq-eqb, eqb-true, ne_eqb}
-use Rattle.std.proofs.lemmas.List.Sorted.{IsNonDecreasingBy-drop}
+use Rattle.std.{proofs.Common.{inl, inr, ⊎_elim, suc, refl, sym, ap, arith, List, [], ◌∷◌, length, get_or}, specs.Prelude.{⊤, AllPairs, filter}}
+use Rattle.std.{specs.List.Sorted.IsNonDecreasingBy, proofs.lemmas.{Bool.{cases_eq, cases_order, eq-eqb, eqb-true, ne_eqb}, List.Sorted.IsNonDecreasingBy-drop}}
 use Rattle.npf_reass_sets.proofs.FilterLemmas.{filter_kept, filter_left}
 
 heads : {X : Type 0} (a b : X) (us vs : List X) → a ∷ us ≡ b ∷ vs → a ≡ b

@@ -1,19 +1,11 @@
 -- Pieces in the order of their keys: those of one key are one run.
 use Rattle.std.proofs.Common.{◌≡◌, ℕ, ◌+◌, ◌-◌, ◌<◌, ◌≤◌, ◌∙◌, Bool, true, false, ⊎_elim, refl, sym, ap, List, [], ◌∷◌, ◌++◌, length, take, drop, get_or, append-nil, length-drop, arith}
-use Rattle.std.specs.Prelude.{All, filter, slice_range}
-use Rattle.std.specs.Ordering.{is_eq, is_gt}
-use Rattle.std.specs.Cmp.{Equal-is}
-use Rattle.std.specs.declared.cmp.Ordering.TheVariants.{Equal}
-use Rattle.std.proofs.lemmas.Bool.{cases_lt}
-use Rattle.std.proofs.lemmas.Cmp.{nat_list_cmp_total, tied_back, tied_itself, upto}
+use Rattle.std.specs.{Prelude.{All, filter, slice_range}, Ordering.{is_eq, is_gt}, Cmp.Equal-is, declared.cmp.Ordering.TheVariants.Equal}
+use Rattle.std.proofs.lemmas.{Bool.cases_lt, Cmp.{nat_list_cmp_total, tied_back, tied_itself, upto}}
 use Rattle.std.proofs.lemmas.List.{drop-drop, get_or-drop, get_or-take, get_or_default, length-take, take-append-drop}
-use Rattle.std.proofs.lemmas.List.Elements.{All-head, All-tail, filter-append}
-use Rattle.std.proofs.lemmas.List.Sorted.{ranks_by, sorted_far}
+use Rattle.std.{proofs.lemmas.List.{Elements.{All-head, All-tail, filter-append}, Sorted.{ranks_by, sorted_far}}, specs.List.Sorted.IsSortedBy}
 use Rattle.npf_pieces.specs.declared.arrived.Arrived.{Arrived}
-use Rattle.npf_reass_sets.specs.Class.{IsRunOfKey, SplitsKeys, same_key}
-use Rattle.npf_reass_sets.specs.Key.{key_numbers, of_key}
-use Rattle.npf_reass_sets.specs.Order.{is_key_below}
-use Rattle.std.specs.List.Sorted.{IsSortedBy}
+use Rattle.npf_reass_sets.specs.{Class.{IsRunOfKey, SplitsKeys, same_key}, Key.{key_numbers, of_key}, Order.is_key_below}
 use Rattle.npf_reass_sets.proofs.KeyLemmas.{above_is_below, between, key_cmp, same_is_equal}
 
 -- what is known of same keys

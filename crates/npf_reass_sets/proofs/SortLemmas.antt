@@ -1,27 +1,15 @@
 -- Pieces that are sorted by their keys and, where these are the same, by their places: those of one key are in the order in which
 -- they came, if the places tell it.
-use Rattle.std.proofs.Common.{◌≡◌, ℕ, ◌+◌, ◌<◌, ◌≤◌, ◌==◌, ◌∙◌, ⊎_elim, Bool, cond, true, false, refl, sym, ap, List, length, get_or, arith}
-use Rattle.std.specs.Prelude.{IsPermutation, filter}
-use Rattle.std.specs.Cmp.{IsTotalOrder}
-use Rattle.std.specs.Cmp.Lexicographic.{slice_cmp}
-use Rattle.std.specs.List.Sorted.{IsNonDecreasingBy, IsSortedBy, IsSortedByKey}
-use Rattle.std.specs.Ordering.{is_lt, nat_cmp, ordering_then}
-use Rattle.std.specs.declared.cmp.Ordering.{Ordering}
-use Rattle.std.specs.declared.cmp.Ordering.TheVariants.{Less, Equal, Greater}
-use Rattle.std.proofs.lemmas.Bool.{cases_lt, lt-ltb}
-use Rattle.std.proofs.lemmas.Cmp.{nat_cmp_total, nat_list_cmp_total, on_total, then_total}
-use Rattle.std.proofs.lemmas.List.Elements.{All-get_or, filter_passes}
-use Rattle.std.proofs.lemmas.List.Kept.{IsSortedBy-filter}
-use Rattle.std.proofs.lemmas.List.Sorted.{IsNonDecreasingBy-from_all_adjacent, ranks_by}
-use Rattle.npf_pieces.specs.declared.arrived.Arrived.{Arrived}
-use Rattle.npf_pieces.specs.declared.piece.FragKey.{FragKey}
-use Rattle.npf_reass_sets.specs.Class.{same_key}
-use Rattle.npf_reass_sets.specs.Key.{key_numbers, of_key}
-use Rattle.npf_reass_sets.specs.Order.{AreByPlace, SortsByKey, is_key_below}
-use Rattle.npf_reass_sets.proofs.FilterLemmas.{few_same, filters_swap}
-use Rattle.npf_reass_sets.proofs.KeyLemmas.{key_cmp}
-use Rattle.npf_reass_sets.proofs.RiseLemmas.{dont_fall, one_at_most, one_order, rise_filter, rise_from_pairs}
-use Rattle.npf_reass_sets.proofs.RunLemmas.{equal_of, same_on}
+use Rattle.std.proofs.Common.{◌≡◌, ℕ, ◌+◌, ◌<◌, ◌≤◌, ◌==◌, ◌∙◌, ⊎_elim, Bool, true, false, refl, sym, ap, List, length, get_or, arith}
+use Rattle.std.specs.{Prelude.{IsPermutation, filter}, Cmp.{IsTotalOrder, Lexicographic.slice_cmp}, List.Sorted.{IsNonDecreasingBy, IsSortedBy, IsSortedByKey}}
+use Rattle.std.specs.{Ordering.{is_lt, nat_cmp, ordering_then}, declared.cmp.Ordering.{Ordering, TheVariants.{Less, Equal, Greater}}}
+use Rattle.std.proofs.lemmas.{Bool.cases_lt, Cmp.{nat_cmp_total, nat_list_cmp_total, on_total, then_total}, List.Elements.{All-get_or, filter_passes}}
+use Rattle.std.proofs.lemmas.List.{Kept.IsSortedBy-filter, Sorted.{IsNonDecreasingBy-from_all_adjacent, ranks_by}}
+use Rattle.npf_shelf.proofs.BoolLemmas.{is_lt-nat_cmp}
+use Rattle.npf_pieces.specs.declared.{arrived.Arrived.Arrived, piece.FragKey.FragKey}
+use Rattle.npf_reass_sets.specs.{Class.same_key, Key.{key_numbers, of_key}, Order.{AreByPlace, SortsByKey, is_key_below}}
+use Rattle.npf_reass_sets.proofs.{FilterLemmas.{few_same, filters_swap}, KeyLemmas.key_cmp}
+use Rattle.npf_reass_sets.proofs.{RiseLemmas.{dont_fall, one_at_most, one_order, rise_filter, rise_from_pairs}, RunLemmas.{equal_of, same_on}}
 
 -- the numbers by which pieces are sorted, and their order
 abbrev pub sort_numbers : Arrived → List ℕ × ℕ
@@ -45,12 +33,9 @@ not_second Less p e h = absurd (grind (arith, e))
 not_second Equal p e h = h
 not_second Greater p e h = absurd (grind (arith, e))
 
-less_is : (m n : ℕ) → m < n → is_lt (nat_cmp m n) ≡ true
-less_is m n less = ap (λ (test : Bool). is_lt (cond test Less (cond (m == n) Equal Greater))) (lt-ltb m n less)
-
 not_less : (m n : ℕ) → is_lt (nat_cmp m n) ≡ false → n ≤ m
 not_less m n h =
-    ⊎_elim (λ (less : m < n). absurd (grind (arith, sym (less_is m n less) ∙ h)))
+    ⊎_elim (λ (less : m < n). absurd (grind (arith, sym (is_lt-nat_cmp m n less) ∙ h)))
     (λ (most : n ≤ m). most)
     (cases_lt m n)
 

@@ -1,7 +1,7 @@
 // The decision of a class: the sets of its pieces, key by key.
 ghost use Rattle.std.specs.Prelude.{◌≡◌, ◌<◌, true, [], List, All, IfOk, OnOk, IsPermutation, length, map, slice_index_or};
 ghost use Rattle.npf_pieces.specs.declared.arrived.Arrived.{Arrived};
-ghost use Rattle.npf_pieces.specs.OpenSet.{IsTaken};
+ghost use Rattle.npf_pieces.specs.Overlap.{IsTaken};
 ghost use Rattle.npf_pieces.specs.Sets.{StandsIn, set_at};
 ghost use Rattle.npf_reass_sets.specs.Class.{DecidesClass, IsRunOfKey, same_key};
 ghost use Rattle.npf_reass_sets.specs.Found.{HasFound};

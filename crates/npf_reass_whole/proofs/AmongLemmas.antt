@@ -1,14 +1,10 @@
 -- The pieces among packets, by their places.
 use Rattle.std.proofs.Common.{◌≡◌, ℕ, ◌+◌, ◌-◌, ◌<◌, ◌≤◌, ◌∙◌, ⊎_elim, zero, suc, refl, sym, ap, subst, List, [], ◌∷◌, length, get_or, arith}
-use Rattle.std.specs.Prelude.{Contains}
-use Rattle.std.specs.List.{AllZip}
-use Rattle.std.proofs.lemmas.List.Elements.{Contains-append_cases, Contains-append_left, Contains-append_right}
+use Rattle.std.{specs.{Prelude.Contains, List.AllZip}, proofs.lemmas.List.Elements.{Contains-append_cases, Contains-append_left, Contains-append_right}}
+use Rattle.npf_shelf.proofs.ListLemmas.{Contains-first}
 use Rattle.npf_traffic.specs.declared.packet.Packet.{Packet}
-use Rattle.npf_pieces.specs.declared.arrived.Arrived.{Arrived}
-use Rattle.npf_pieces.specs.declared.piece.Piece.{Piece}
-use Rattle.npf_pieces.specs.declared.piece.Seen.{Seen}
+use Rattle.npf_pieces.specs.declared.{arrived.Arrived.Arrived, piece.{Piece.Piece, Seen.Seen}}
 use Rattle.npf_reass_sets.specs.Among.{arrived_at, arrived_from}
-use Rattle.npf_reass_sets.proofs.FilterLemmas.{head}
 
 -- what holds of two lists side by side
 pub all_zip_at : {A B : Type 0} (R : A → B → Type 0) (xs : List A) (ys : List B) (i : ℕ) (d : A) (e : B) → AllZip R xs ys → i < length xs
@@ -75,7 +71,7 @@ piece_among first (p ∷ packets) (s ∷ seens) zero d e piece h k is =
     let at : Arrived = record { place = first; time = p.time; piece = piece } in
     let same : at ≡ this = ap (λ (n : ℕ). let x : Arrived = record { place = n; time = p.time; piece = piece } in x) (omega arith) in
     Contains-append_left (arrived_at first p.time s) (arrived_from (suc first) packets seens) this
-    (subst (λ (x : Seen). Contains (arrived_at first p.time x) this) (sym is) (subst (λ (x : Arrived). Contains (at ∷ []) x) same (head at [])))
+    (subst (λ (x : Seen). Contains (arrived_at first p.time x) this) (sym is) (subst (λ (x : Arrived). Contains (at ∷ []) x) same (Contains-first at [])))
 piece_among first (p ∷ packets) (s ∷ seens) (suc i) d e piece h k is =
     let this : Arrived = record { place = suc first + i; time = (get_or packets i d).time; piece = piece } in
     let that : Arrived = record { place = first + suc i; time = (get_or packets i d).time; piece = piece } in

@@ -1,10 +1,8 @@
 -- Fragments that are held as bad, packet by packet.
-use Rattle.std.proofs.Common.{◌≡◌, ◌≢◌, ℕ, ◌+◌, ◌<◌, ◌≤◌, ◌∙◌, ⊎_elim, sym, subst, List, length, get_or, set, arith, get_or-set_other}
-use Rattle.std.proofs.lemmas.Bool.{cases_lt}
+use Rattle.std.proofs.{Common.{◌≡◌, ◌≢◌, ℕ, ◌+◌, ◌<◌, ◌≤◌, ◌∙◌, ⊎_elim, sym, subst, List, length, get_or, set, arith, get_or-set_other}, lemmas.Bool.cases_lt}
 use Rattle.std.proofs.lemmas.List.{get_or-set_same, get_or_default}
 use Rattle.npf_traffic.specs.declared.packet.Packet.{Packet}
-use Rattle.npf_pieces.specs.declared.piece.Seen.{Seen}
-use Rattle.npf_pieces.specs.Piece.{OneSeeing, SeenAs}
+use Rattle.npf_pieces.specs.{declared.piece.Seen.Seen, Piece.{OneSeeing, SeenAs}}
 use Rattle.npf_reass_whole.specs.Run.{HeldIfBad}
 
 pub held_if_bad : OneSeeing → (packet new : Packet) (r : Seen) → SeenAs packet r → HeldIfBad packet new r

@@ -1,23 +1,13 @@
 -- What became of each packet, from what was held and what was put in its place.
 use Rattle.std.proofs.Common.{◌≡◌, ◌≢◌, ℕ, ◌+◌, ◌-◌, ◌<◌, ◌≤◌, ◌∙◌, Bool, true, false, ⊎_elim, zero, suc, refl, sym, ap, subst, List, [], ◌∷◌, length, get_or, arith}
-use Rattle.std.specs.Prelude.{All, Contains}
-use Rattle.std.specs.List.{AllZip}
-use Rattle.std.proofs.lemmas.List.Elements.{All-contains}
+use Rattle.std.{specs.{Prelude.{All, Contains, Some, slice_get}, List.AllZip}, proofs.lemmas.List.Elements.All-contains}
+use Rattle.std.proofs.lemmas.Option.{get_or_from_slice_get, slice_get_within}
 use Rattle.npf_traffic.specs.declared.packet.Packet.{Packet}
-use Rattle.npf_pieces.specs.declared.arrived.Arrived.{Arrived}
-use Rattle.npf_pieces.specs.declared.arrived.Ending.{Ending}
-use Rattle.npf_pieces.specs.declared.arrived.Ending.TheVariants.{Unfinished, Refused, Complete}
-use Rattle.npf_pieces.specs.declared.piece.Piece.{Piece}
-use Rattle.npf_pieces.specs.declared.piece.Seen.{Seen}
-use Rattle.npf_pieces.specs.DatagramAt.{PutTogether, becomes, with_datagrams}
-use Rattle.npf_pieces.specs.Datagrams.{last_place}
-use Rattle.npf_pieces.specs.Piece.{SeenAs}
-use Rattle.npf_pieces.specs.Sets.{Set}
-use Rattle.npf_reass_sets.specs.Among.{IsSetAmong, arrived_from}
-use Rattle.npf_reass_sets.specs.Class.{IsInSet}
+use Rattle.npf_pieces.specs.declared.{arrived.{Arrived.Arrived, Ending.{Ending, TheVariants.{Unfinished, Refused, Complete}}}, piece.{Piece.Piece, Seen.Seen}}
+use Rattle.npf_pieces.specs.{DatagramAt.{PutTogether, becomes, with_datagrams}, Datagrams.last_place, Piece.SeenAs, Sets.Set}
+use Rattle.npf_reass_sets.specs.{Among.{IsSetAmong, arrived_from}, Class.IsInSet}
 use Rattle.npf_reass_whole.specs.Fate.{FollowsEnding, FollowsSet, HasFate, held_as}
-use Rattle.npf_reass_whole.specs.Run.{HasDatagramIfComplete, HeldIfBad, HoldsBad, IsDatagramAmong, LaysOut, why_held, with_sets_held}
-use Rattle.npf_reass_whole.specs.Whole.{Whole}
+use Rattle.npf_reass_whole.specs.{Run.{HasDatagramIfComplete, HeldIfBad, HoldsBad, IsDatagramAmong, LaysOut, why_held, with_sets_held}, Whole.Whole}
 use Rattle.npf_reass_whole.proofs.AmongLemmas.{all_zip_at, all_zip_long, at_place, piece_among}
 use Rattle.npf_reass_whole.proofs.HoldLemmas.{IsHeldBy, IsHeldByNone, IsPutBy, IsPutByNone, held_or_not, length-datagrams, length-sets_held, put_or_not}
 
@@ -199,10 +189,19 @@ module _ (packets bad : List Packet) (seens : List Seen) (sets : List Set) (ds :
     fate : HasFate packets arrived place old (get_or whole place d) (get_or seens place e)
     fate = fate_of (get_or seens place e) refl
 
+  -- the same of the items that stand there
+  told : (place : ℕ) (old new : Packet) (seen : Seen) → slice_get packets place ≡ Some old → slice_get whole place ≡ Some new →
+      slice_get seens place ≡ Some seen → HasFate packets arrived place old new seen
+  told place old new seen was is sees_so =
+      let stands = fate place old seen (slice_get_within packets place old was) in
+      subst (HasFate packets arrived place old new) (get_or_from_slice_get seens place seen seen sees_so)
+      (subst (λ n. HasFate packets arrived place old n (get_or seens place seen)) (get_or_from_slice_get whole place new old is)
+      (subst (λ o. HasFate packets arrived place o (get_or whole place old) (get_or seens place seen)) (get_or_from_slice_get packets place old old was) stands))
+
   pub is_whole : Whole packets whole
   is_whole = record {
     seens = seens;
     sees = sees;
     count = length-datagrams ds held ∙ length-sets_held sets bad ∙ holds.count;
-    each = λ place d e here. fate place d e here;
+    each = told;
   }

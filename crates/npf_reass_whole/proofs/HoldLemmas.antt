@@ -1,20 +1,13 @@
 -- Packets that are held, step by step, and which were held in the end.
 use Rattle.std.proofs.Common.{◌≡◌, ◌≢◌, ℕ, ◌+◌, ◌<◌, ◌∙◌, ◌⊎◌, ⊎_elim, inl, inr, refl, sym, ap, List, [], ◌∷◌, ◌++◌, length, drop, get_or, set, arith}
-use Rattle.std.specs.Prelude.{All, Contains, map, slice_range}
-use Rattle.std.proofs.lemmas.List.{drop_more}
+use Rattle.std.{specs.Prelude.{All, Contains, map, slice_range}, proofs.lemmas.List.drop_more}
 use Rattle.std.proofs.lemmas.List.Elements.{Contains-append_cases, Contains-append_left, Contains-append_right}
-use Rattle.npf_traffic.specs.declared.packet.FragWhy.{FragWhy}
-use Rattle.npf_traffic.specs.declared.packet.Packet.{Packet}
-use Rattle.npf_pieces.specs.declared.arrived.Arrived.{Arrived}
-use Rattle.npf_pieces.specs.DatagramAt.{PutTogether, becomes, with_datagrams, with_packet}
-use Rattle.npf_pieces.specs.declared.arrived.SetAt.{SetAt}
-use Rattle.npf_pieces.specs.Sets.{Set, set_at}
-use Rattle.npf_pieces.proofs.DatagramsLemmas.{with_packet-set}
-use Rattle.npf_reass_sets.specs.declared.class.ClassSets.{ClassSets}
-use Rattle.npf_reass_sets.specs.Class.{class_sets}
-use Rattle.npf_reass_whole.specs.Fate.{held_as}
-use Rattle.npf_reass_whole.specs.Run.{all_sets, why_held, with_held, with_sets_held}
-use Rattle.npf_reass_sets.proofs.FilterLemmas.{head, parts, tail}
+use Rattle.npf_shelf.proofs.ListLemmas.{Contains-cons_cases, Contains-first, Contains-later}
+use Rattle.npf_traffic.specs.declared.packet.{FragWhy.FragWhy, Packet.Packet}
+use Rattle.npf_pieces.specs.{declared.arrived.{Arrived.Arrived, SetAt.SetAt}, DatagramAt.{PutTogether, becomes, with_datagrams, with_packet}}
+use Rattle.npf_pieces.{specs.Sets.{Set, set_at}, proofs.DatagramsLemmas.with_packet-set}
+use Rattle.npf_reass_sets.specs.{declared.class.ClassSets.ClassSets, Class.class_sets}
+use Rattle.npf_reass_whole.specs.{Fate.held_as, Run.{all_sets, why_held, with_held, with_sets_held}}
 use Rattle.npf_reass_whole.proofs.WriteLemmas.{IsUnwritten, IsWritten, length-with_packet, written, written_or_not}
 
 -- what is left to be held, one step on
@@ -108,18 +101,18 @@ record IsMarkOf (why : FragWhy) (pieces : List Arrived) (m : Mark) : Type 0 wher
 mark_from : (why : FragWhy) (pieces : List Arrived) (m : Mark) → Contains (marks_of why pieces) m → IsMarkOf why pieces m
 mark_from why [] m c = absurd (omega (arith, c.1))
 mark_from why (a ∷ pieces) m c = ⊎_elim
-    (λ e. record { a = a; among = head a pieces; at = ap mark_place e; by = ap (λ (x : Mark). x.why) (sym e) })
+    (λ e. record { a = a; among = Contains-first a pieces; at = ap mark_place e; by = ap (λ (x : Mark). x.why) (sym e) })
     (λ (c : Contains (marks_of why pieces) m).
     let x = mark_from why pieces m c in
-    record { a = x.a; among = tail a x.a pieces x.among; at = x.at; by = x.by })
-    (parts (record { place = a.place; why = why }) m (marks_of why pieces) c)
+    record { a = x.a; among = Contains-later a x.a pieces x.among; at = x.at; by = x.by })
+    (Contains-cons_cases (record { place = a.place; why = why }) m (marks_of why pieces) c)
 
 mark_to : (why : FragWhy) (pieces : List Arrived) (a : Arrived) → Contains pieces a → Contains (marks_of why pieces) (record { place = a.place; why = why })
 mark_to why [] a c = absurd (omega (arith, c.1))
 mark_to why (b ∷ pieces) a c = ⊎_elim
-    (λ (e : b ≡ a). rw (← e) (head (record { place = b.place; why = why }) (marks_of why pieces)))
-    (λ (c : Contains pieces a). tail (record { place = b.place; why = why }) (record { place = a.place; why = why }) (marks_of why pieces) (mark_to why pieces a c))
-    (parts b a pieces c)
+    (λ (e : b ≡ a). rw (← e) (Contains-first (record { place = b.place; why = why }) (marks_of why pieces)))
+    (λ (c : Contains pieces a). Contains-later (record { place = b.place; why = why }) (record { place = a.place; why = why }) (marks_of why pieces) (mark_to why pieces a c))
+    (Contains-cons_cases b a pieces c)
 
 -- the packet of a place is held with the set that has its piece
 pub record IsHeldBy (sets : List Set) (place : ℕ) (old new : Packet) : Type 0 where
@@ -144,10 +137,10 @@ set_mark_from : (sets : List Set) (m : Mark) → Contains (all_marks sets) m →
 set_mark_from [] m c = absurd (omega (arith, c.1))
 set_mark_from (set ∷ sets) m c = ⊎_elim
     (λ (c : Contains (marks_of (why_held set.ending) set.pieces) m).
-    record { set = set; among = head set sets; is = mark_from (why_held set.ending) set.pieces m c })
+    record { set = set; among = Contains-first set sets; is = mark_from (why_held set.ending) set.pieces m c })
     (λ (c : Contains (all_marks sets) m).
     let x = set_mark_from sets m c in
-    record { set = x.set; among = tail set x.set sets x.among; is = x.is })
+    record { set = x.set; among = Contains-later set x.set sets x.among; is = x.is })
     (Contains-append_cases (marks_of (why_held set.ending) set.pieces) (all_marks sets) m c)
 
 set_mark_to : (sets : List Set) (set : Set) (a : Arrived) → Contains sets set → Contains set.pieces a
@@ -159,7 +152,7 @@ set_mark_to (first ∷ sets) set a c h =
     (λ (e : first ≡ set). Contains-append_left (marks_of (why_held first.ending) first.pieces) (all_marks sets) m
     (rw e (mark_to (why_held set.ending) set.pieces a h)))
     (λ (c : Contains sets set). Contains-append_right (marks_of (why_held first.ending) first.pieces) (all_marks sets) m (set_mark_to sets set a c h))
-    (parts first set sets c)
+    (Contains-cons_cases first set sets c)
 
 pub held_or_not : (sets : List Set) (packets : List Packet) (place : ℕ) (d : Packet) → place < length packets
     → IsHeldBy sets place (get_or packets place d) (get_or (with_sets_held sets packets) place d)

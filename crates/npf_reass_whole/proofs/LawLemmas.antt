@@ -1,20 +1,11 @@
 -- What holds of every run whose fragments are put together.
-use Rattle.std.proofs.Common.{◌≡◌, ℕ, ◌<◌, ⊎_elim, zero, suc, refl, List, [], ◌∷◌, length, get_or, arith}
-use Rattle.std.specs.Prelude.{All}
-use Rattle.std.specs.List.{AllZip}
-use Rattle.std.proofs.lemmas.Bool.{cases_eq}
-use Rattle.std.proofs.lemmas.List.Elements.{All-head, All-tail}
+use Rattle.std.{proofs.Common.{◌≡◌, ℕ, ⊎_elim, subst, zero, suc, refl, List, [], ◌∷◌, length, get_or, arith}, specs.Prelude.{All, Some, slice_get}}
+use Rattle.std.{specs.List.AllZip, proofs.lemmas.{Bool.cases_eq, Option.{slice_get-get_or, slice_get_within}, List.Elements.{All-head, All-tail}}}
 use Rattle.npf_traffic.specs.declared.packet.Packet.{Packet}
-use Rattle.npf_pieces.specs.declared.arrived.Arrived.{Arrived}
-use Rattle.npf_pieces.specs.declared.arrived.Ending.{Ending}
-use Rattle.npf_pieces.specs.declared.arrived.Ending.TheVariants.{Unfinished, Refused, Complete}
-use Rattle.npf_pieces.specs.declared.piece.Seen.{Seen}
-use Rattle.npf_pieces.specs.Datagrams.{last_place}
-use Rattle.npf_pieces.specs.Piece.{SeenAs}
-use Rattle.npf_pieces.specs.Sets.{Set}
+use Rattle.npf_pieces.specs.declared.{arrived.{Arrived.Arrived, Ending.{Ending, TheVariants.{Unfinished, Refused, Complete}}}, piece.Seen.Seen}
+use Rattle.npf_pieces.specs.{Datagrams.last_place, Piece.SeenAs, Sets.Set}
 use Rattle.npf_reass_sets.specs.Among.{arrived_from}
-use Rattle.npf_reass_whole.specs.Fate.{FollowsEnding, HasFate}
-use Rattle.npf_reass_whole.specs.Whole.{CrossesAlike, NoFragmentsStay, WholeKeeps}
+use Rattle.npf_reass_whole.{specs.{Fate.{FollowsEnding, HasFate}, Whole.{CrossesAlike, NoFragmentsStay, WholeKeeps}}, proofs.AmongLemmas.all_zip_long}
 
 abbrev no_seens : List Packet → List Seen
 no_seens [] = []
@@ -25,17 +16,19 @@ none_seen [] all = search
 none_seen (p ∷ packets) all =
     (All-head (λ packet. SeenAs packet Seen.NoFragment) p packets all, none_seen packets (All-tail (λ packet. SeenAs packet Seen.NoFragment) p packets all))
 
-seen_none : (packets : List Packet) (place : ℕ) (seen : Seen) → place < length packets → get_or (no_seens packets) place seen ≡ Seen.NoFragment
-seen_none [] place seen h = absurd (omega (arith, h))
-seen_none (p ∷ packets) zero seen h = refl
-seen_none (p ∷ packets) (suc place) seen h = seen_none packets place seen (omega (arith, h))
+seen_none : (packets : List Packet) (place : ℕ) (seen : Seen) → slice_get (no_seens packets) place ≡ Some seen → Seen.NoFragment ≡ seen
+seen_none [] place seen is = absurd cc
+seen_none (p ∷ packets) zero seen is = cc
+seen_none (p ∷ packets) (suc place) seen is = seen_none packets place seen is
 
 pub none_stay : NoFragmentsStay
 none_stay packets all = record {
   seens = no_seens packets;
   sees = none_seen packets all;
   count = refl;
-  each = λ place packet seen h. rw (seen_none packets place seen h) refl;
+  each = λ place old new seen was is sees_so.
+      let same : new ≡ old = cc in
+      subst (HasFate packets (arrived_from 0 packets (no_seens packets)) place old new) (seen_none packets place seen sees_so) same;
 }
 
 alike : (old new kept : Packet) → new ≡ kept → kept.time ≡ old.time → kept.ifid ≡ old.ifid → kept.dir ≡ old.dir → CrossesAlike old new
@@ -55,6 +48,9 @@ keeps packets arrived place old new Seen.Bad h = alike old new _ h refl refl ref
 keeps packets arrived place old new (Seen.Piece piece) h = by_ending packets h.set place old new h.set.ending h.follows
 
 pub whole_alike : WholeKeeps
-whole_alike packets whole h place packet here =
-    keeps packets (arrived_from 0 packets h.seens) place (get_or packets place packet) (get_or whole place packet) (get_or h.seens place Seen.NoFragment)
-    (h.each place packet Seen.NoFragment here)
+whole_alike packets whole h place old new was is =
+    let seen = get_or h.seens place Seen.NoFragment in
+    let within = all_zip_long SeenAs packets h.seens h.sees in
+    let here = slice_get_within packets place old was in
+    keeps packets (arrived_from 0 packets h.seens) place old new seen
+    (h.each place old new seen was is (slice_get-get_or h.seens place Seen.NoFragment (omega (arith, here, within))))

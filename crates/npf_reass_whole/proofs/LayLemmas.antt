@@ -1,20 +1,13 @@
 -- Datagrams of sets, put together set by set and class by class.
 use Rattle.std.proofs.Common.{◌≡◌, ◌≢◌, ◌∙◌, refl, sym, ap, subst, ℕ, ◌+◌, ◌<◌, List, [], ◌∷◌, ◌++◌, length, take, get_or, append-nil, append_assoc, zero, suc, arith}
-use Rattle.std.specs.Prelude.{All, map}
-use Rattle.std.proofs.lemmas.List.{map-append, take_more}
+use Rattle.std.{specs.Prelude.{All, map}, proofs.lemmas.List.{map-append, take_more}}
 use Rattle.std.proofs.lemmas.List.Elements.{All-append, All-cons, All-head, All-nil, All-tail, All-weaker, Contains-append_left, Contains-append_right}
+use Rattle.npf_shelf.proofs.ListLemmas.{Contains-first}
 use Rattle.npf_traffic.specs.declared.packet.Packet.{Packet}
-use Rattle.npf_pieces.specs.declared.arrived.Ending.TheVariants.{Complete}
-use Rattle.npf_pieces.specs.Datagram.{IsDatagram}
-use Rattle.npf_pieces.specs.DatagramAt.{PutTogether}
-use Rattle.npf_pieces.specs.Datagrams.{AddsDatagram, last_place}
-use Rattle.npf_pieces.specs.declared.arrived.Arrived.{Arrived}
-use Rattle.npf_pieces.specs.declared.arrived.SetAt.{SetAt}
-use Rattle.npf_pieces.specs.Sets.{Set, set_at}
-use Rattle.npf_reass_sets.specs.declared.class.ClassSets.{ClassSets}
-use Rattle.npf_reass_sets.specs.Class.{class_sets}
+use Rattle.npf_pieces.specs.{declared.arrived.Ending.TheVariants.Complete, Datagram.IsDatagram, DatagramAt.PutTogether, Datagrams.{AddsDatagram, last_place}}
+use Rattle.npf_pieces.specs.{declared.arrived.{Arrived.Arrived, SetAt.SetAt}, Sets.{Set, set_at}}
+use Rattle.npf_reass_sets.specs.{declared.class.ClassSets.ClassSets, Class.class_sets}
 use Rattle.npf_reass_whole.specs.Run.{AddsDatagrams, HasDatagram, HasDatagramIfComplete, IsDatagramAmong, LaysOut, all_sets}
-use Rattle.npf_reass_sets.proofs.FilterLemmas.{head}
 
 pub all_sets_append : (xs ys : List ClassSets) → all_sets (xs ++ ys) ≡ all_sets xs ++ all_sets ys
 all_sets_append [] ys = refl
@@ -49,8 +42,8 @@ module _ (packets : List Packet) where
       → LaysOut packets (set ∷ []) (record { place = last_place set.pieces; bytes = bytes } ∷ [])
   lays_one set bytes complete is =
       let x : PutTogether = record { place = last_place set.pieces; bytes = bytes } in
-      let among : IsDatagramAmong packets (set ∷ []) x = record { set = set; among = head set []; complete = complete; place = refl; is = is } in
-      let has : HasDatagram (x ∷ []) set = record { datagram = x; among = head x []; place = refl } in
+      let among : IsDatagramAmong packets (set ∷ []) x = record { set = set; among = Contains-first set []; complete = complete; place = refl; is = is } in
+      let has : HasDatagram (x ∷ []) set = record { datagram = x; among = Contains-first x []; place = refl } in
       record {
         each = All-cons (IsDatagramAmong packets (set ∷ [])) x [] among (All-nil (IsDatagramAmong packets (set ∷ [])));
         all = All-cons (HasDatagramIfComplete (x ∷ [])) set [] (λ e. has) (All-nil (HasDatagramIfComplete (x ∷ [])));

@@ -1,29 +1,14 @@
 -- What the sets of a run say of its packets: their datagrams can be laid out, and each piece is the packet of its place.
 use Rattle.std.proofs.Common.{◌≡◌, ℕ, ◌-◌, ◌<◌, ◌≤◌, ◌∙◌, true, sym, ap, subst, List, [], ◌∷◌, ◌++◌, length, drop, take, get_or, append-nil, arith}
-use Rattle.std.specs.Prelude.{All, Contains}
-use Rattle.std.specs.List.{AllZip}
-use Rattle.std.proofs.lemmas.List.{drop_all, take_all}
+use Rattle.std.{specs.{Prelude.{All, Contains}, List.AllZip}, proofs.lemmas.List.{drop_all, take_all}}
 use Rattle.std.proofs.lemmas.List.Elements.{All-append, All-contains, All-contains_itself, All-drop, All-filter, All-get_or, All-head, All-map, All-nil, All-tail, All-take, All-weaker}
-use Rattle.npf_traffic.specs.declared.packet.Packet.{Packet}
-use Rattle.npf_traffic.specs.Packet.{IsShortPacket}
-use Rattle.npf_pieces.specs.declared.arrived.Arrived.{Arrived}
-use Rattle.npf_pieces.specs.declared.arrived.Ending.TheVariants.{Complete}
-use Rattle.npf_pieces.specs.declared.piece.Seen.{Seen}
-use Rattle.npf_pieces.specs.Datagram.{CompleteIsWhole, StandsAmong, WholeIfComplete}
-use Rattle.npf_pieces.specs.DatagramAt.{PutTogether}
-use Rattle.npf_pieces.specs.OpenSet.{IsTaken}
-use Rattle.npf_pieces.specs.Piece.{SeenAs}
-use Rattle.npf_pieces.specs.Sets.{Set, is_whole, set_at, sets_from}
-use Rattle.npf_pieces.proofs.OpenSetLemmas.{taken_of}
-use Rattle.npf_reass_sets.specs.declared.class.ClassSets.{ClassSets}
-use Rattle.npf_reass_sets.specs.Among.{IsSetAmong, arrived_from}
-use Rattle.npf_reass_sets.specs.Class.{class_sets}
-use Rattle.npf_reass_sets.specs.Key.{is_frag_key, of_key}
+use Rattle.npf_traffic.specs.{declared.packet.Packet.Packet, Packet.IsShortPacket}
+use Rattle.npf_pieces.specs.declared.{arrived.{Arrived.Arrived, Ending.TheVariants.Complete}, piece.Seen.Seen}
+use Rattle.npf_pieces.specs.{Datagram.{CompleteIsWhole, StandsAmong, WholeIfComplete}, DatagramAt.PutTogether, Overlap.IsTaken, Piece.SeenAs}
+use Rattle.npf_pieces.{specs.{Sets.{Set, is_whole, set_at, sets_from}, DatagramAt.with_datagrams}, proofs.OpenSetLemmas.taken_of}
+use Rattle.npf_reass_sets.specs.{declared.class.ClassSets.ClassSets, Among.{IsSetAmong, arrived_from}, Class.class_sets, Key.{is_frag_key, of_key}}
 use Rattle.npf_reass_whole.specs.Run.{CanLayOut, DecidesRun, HasPlacesBelow, HoldsBad, IsClassAmong, IsDatagramAmong, IsSeenAs, LaysOut, PutsAll, all_sets, with_sets_held}
-use Rattle.npf_pieces.specs.DatagramAt.{with_datagrams}
-use Rattle.npf_reass_whole.specs.Whole.{Whole}
-use Rattle.npf_reass_whole.proofs.ShortLemmas.{all_short}
-use Rattle.npf_reass_whole.proofs.AmongLemmas.{all_zip_at, at_place}
+use Rattle.npf_reass_whole.{specs.Whole.Whole, proofs.{ShortLemmas.all_short, AmongLemmas.{all_zip_at, at_place}}}
 use Rattle.npf_reass_whole.proofs.FateLemmas.{last_among, is_whole as whole_run}
 
 some_packet : (packets : List Packet) (i : ℕ) → i < length packets → Packet

@@ -1,24 +1,11 @@
 -- The packets of a run whose fragments are put together are short.
-use Rattle.std.proofs.Common.{◌≡◌, ℕ, ◌-◌, ◌<◌, ◌≤◌, ◌∙◌, ⊎_elim, ap, List, length, length-append, drop, get_or, arith}
-use Rattle.std.specs.Prelude.{All, Contains}
-use Rattle.std.specs.List.{AllZip}
-use Rattle.std.proofs.lemmas.List.{length-take}
-use Rattle.std.proofs.lemmas.List.Elements.{All-contains, All-get_or}
-use Rattle.npf_types.specs.declared.address.Addr.{Addr}
-use Rattle.npf_types.specs.declared.address.Addr.TheVariants.{V4, V6}
-use Rattle.npf_types.specs.declared.limits.TheConstants.{MAX_PACKET_BYTES}
-use Rattle.npf_traffic.specs.declared.packet.Packet.{Packet}
-use Rattle.npf_traffic.specs.Packet.{IsShortPacket}
-use Rattle.npf_pieces.specs.declared.arrived.Arrived.{Arrived}
-use Rattle.npf_pieces.specs.declared.piece.Piece.{Piece}
-use Rattle.npf_pieces.specs.declared.piece.Seen.{Seen}
-use Rattle.npf_pieces.specs.Datagram.{IsDatagram, IsHeaderOf, IsWholeSet, WholeIfComplete}
-use Rattle.npf_pieces.specs.DatagramAt.{PutTogether, with_datagrams}
-use Rattle.npf_pieces.specs.Piece.{SeenAs}
-use Rattle.npf_pieces.specs.Sets.{Set, not_counted}
-use Rattle.npf_pieces.proofs.WholeSetLemmas.{told_within}
-use Rattle.npf_reass_whole.specs.Run.{HeldIfBad, HoldsBad, IsDatagramAmong, LaysOut, with_sets_held}
-use Rattle.npf_reass_whole.proofs.AmongLemmas.{all_zip_at}
+use Rattle.std.{proofs.Common.{◌≡◌, ℕ, ◌-◌, ◌<◌, ◌≤◌, ◌∙◌, ⊎_elim, ap, List, length, length-append, drop, get_or, arith}, specs.Prelude.{All, Contains}}
+use Rattle.std.{specs.List.AllZip, proofs.lemmas.List.{length-take, Elements.{All-contains, All-get_or}}}
+use Rattle.npf_types.specs.declared.{address.Addr.{Addr, TheVariants.{V4, V6}}, limits.TheConstants.MAX_PACKET_BYTES}
+use Rattle.npf_traffic.specs.{declared.packet.Packet.Packet, Packet.IsShortPacket}
+use Rattle.npf_pieces.specs.{declared.{arrived.Arrived.Arrived, piece.{Piece.Piece, Seen.Seen}}, Datagram.{IsDatagram, IsHeaderOf, IsWholeSet, WholeIfComplete}}
+use Rattle.npf_pieces.{specs.{DatagramAt.{PutTogether, with_datagrams}, Piece.SeenAs, Sets.{Set, not_counted}}, proofs.WholeSetLemmas.told_within}
+use Rattle.npf_reass_whole.{specs.Run.{HeldIfBad, HoldsBad, IsDatagramAmong, LaysOut, with_sets_held}, proofs.AmongLemmas.all_zip_at}
 use Rattle.npf_reass_whole.proofs.HoldLemmas.{IsHeldBy, IsHeldByNone, IsPutBy, IsPutByNone, held_or_not, length-datagrams, length-sets_held, put_or_not}
 
 small : (a : Addr) → not_counted a ≤ 40

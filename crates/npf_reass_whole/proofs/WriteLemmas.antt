@@ -1,10 +1,9 @@
 -- Packets that are changed at several places, one change after the other: the last of a place is the one that stands.
 use Rattle.std.proofs.Common.{◌≡◌, ◌≢◌, ℕ, ◌<◌, ◌∙◌, ◌⊎◌, ⊎_elim, inl, inr, zero, suc, refl, sym, ap, List, [], ◌∷◌, length, get_or, arith}
-use Rattle.std.specs.Prelude.{Contains}
-use Rattle.std.proofs.lemmas.Bool.{cases_eq}
+use Rattle.std.{specs.Prelude.Contains, proofs.lemmas.Bool.cases_eq}
+use Rattle.npf_shelf.proofs.ListLemmas.{Contains-cons_cases, Contains-first, Contains-later}
 use Rattle.npf_traffic.specs.declared.packet.Packet.{Packet}
 use Rattle.npf_pieces.specs.DatagramAt.{with_packet}
-use Rattle.npf_reass_sets.proofs.FilterLemmas.{head, parts, tail}
 
 pub length-with_packet : (change : Packet → Packet) (place : ℕ) (packets : List Packet) → length (with_packet change place packets) ≡ length packets
 length-with_packet change place [] = refl
@@ -61,12 +60,12 @@ module _ {W : Type 0} (place_of : W → ℕ) (change : W → Packet → Packet) 
 
     by_more : (new : Packet) → IsWritten ws i (get_or next i d) new ⊎ IsUnwritten ws i (get_or next i d) new
         → IsWritten (w ∷ ws) i old new ⊎ IsUnwritten (w ∷ ws) i old new
-    by_more new (inl x) = inl (record { one = x.one; among = tail w x.one ws x.among; at = x.at; is = x.is ∙ changed_twice x.one })
+    by_more new (inl x) = inl (record { one = x.one; among = Contains-later w x.one ws x.among; at = x.at; is = x.is ∙ changed_twice x.one })
     by_more new (inr x) =
-        ⊎_elim (λ (e : i ≡ place_of w). inl (record { one = w; among = head w ws; at = sym e; is = x.same ∙ at_place w packets i d h e }))
+        ⊎_elim (λ (e : i ≡ place_of w). inl (record { one = w; among = Contains-first w ws; at = sym e; is = x.same ∙ at_place w packets i d h e }))
         (λ (n : i ≢ place_of w). inr (record {
           same = x.same ∙ kept_elsewhere (change w) (place_of w) i packets d n;
-          none = λ v c. ⊎_elim (λ (e : w ≡ v). λ k. n (sym k ∙ ap place_of (sym e))) (λ (c : Contains ws v). x.none v c) (parts w v ws c);
+          none = λ v c. ⊎_elim (λ (e : w ≡ v). λ k. n (sym k ∙ ap place_of (sym e))) (λ (c : Contains ws v). x.none v c) (Contains-cons_cases w v ws c);
         }))
         (cases_eq i (place_of w))
 

@@ -1,6 +1,6 @@
 -- A run whose fragments are put together (RFC 791 section 3.2, RFC 8200 section 4.5).
 -- READ 12 of docs/READING.md
-use Rattle.std.specs.Prelude.{◌≡◌, ℕ, ◌<◌, List, All, length, slice_index_or}
+use Rattle.std.specs.Prelude.{◌≡◌, ℕ, Some, List, All, length, slice_get}
 use Rattle.std.specs.List.{AllZip}
 use Rattle.npf_traffic.specs.declared.packet.Packet.{Packet}
 use Rattle.npf_pieces.specs.declared.piece.Seen.{Seen}
@@ -13,9 +13,9 @@ pub record Whole (packets whole : List Packet) : Type 0 where
   pub seens : List Seen
   pub sees : AllZip SeenAs packets seens
   pub count : length whole ≡ length packets
-  pub each : (place : ℕ) (packet : Packet) (seen : Seen) → place < length packets
-      → HasFate packets (arrived_from 0 packets seens) place (slice_index_or packets place packet) (slice_index_or whole place packet)
-      (slice_index_or seens place seen)
+  pub each : (place : ℕ) (old new : Packet) (seen : Seen) →
+      slice_get packets place ≡ Some old → slice_get whole place ≡ Some new → slice_get seens place ≡ Some seen →
+      HasFate packets (arrived_from 0 packets seens) place old new seen
 
 -- a run without fragments stays as it is
 abbrev pub NoFragmentsStay : Type 0
@@ -29,5 +29,5 @@ pub record CrossesAlike (old new : Packet) : Type 0 where
 
 -- whatever becomes of a packet, it crosses where and when it did
 abbrev pub WholeKeeps : Type 0
-WholeKeeps = (packets whole : List Packet) → Whole packets whole → (place : ℕ) (packet : Packet) → place < length packets
-    → CrossesAlike (slice_index_or packets place packet) (slice_index_or whole place packet)
+WholeKeeps = (packets whole : List Packet) → Whole packets whole → (place : ℕ) (old new : Packet) →
+    slice_get packets place ≡ Some old → slice_get whole place ≡ Some new → CrossesAlike old new

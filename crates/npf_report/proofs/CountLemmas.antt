@@ -1,11 +1,8 @@
 -- The counts of one outcome more.
-use Rattle.std.proofs.Common.{◌≡◌, ℕ, ◌+◌, ◌<◌, List, Bool, length, get_or, take, ap, ◌∙◌, sym, count_by, cond, arith}
-use Rattle.std.proofs.lemmas.List.{length-take-le}
+use Rattle.std.proofs.{Common.{◌≡◌, ℕ, ◌+◌, ◌<◌, List, Bool, length, get_or, take, ap, ◌∙◌, sym, count_by, cond, arith}, lemmas.List.length-take-le}
 use Rattle.std.proofs.lemmas.List.Sums.{sum_by_more}
-use Rattle.npf_engine.specs.declared.outcome.Outcome.{Outcome}
-use Rattle.npf_engine.specs.Outcome.{passes}
-use Rattle.npf_report.specs.declared.totals.Counts.{Counts}
-use Rattle.npf_report.specs.TotalText.{CountsOutcomes, AddsOutcome, is_blocked, is_dropped, is_skipped, is_malformed}
+use Rattle.npf_engine.specs.{declared.outcome.Outcome.Outcome, Outcome.passes}
+use Rattle.npf_report.specs.{declared.totals.Counts.Counts, TotalText.{CountsOutcomes, AddsOutcome, is_blocked, is_dropped, is_skipped, is_malformed}}
 
 module _ (outcomes : List Outcome) (i : ℕ) (default : Outcome) (within : i < length outcomes) where
   -- a test's count of one element more

@@ -2,14 +2,10 @@
 use Rattle.std.proofs.Common.{◌≡◌, ℕ, ◌+◌, ◌*◌, ◌/◌, ◌%◌, ◌^◌, ◌<◌, ◌≤◌, true, Option, List, [], ◌∷◌, length, refl, ap, ◌∙◌, inl, arith}
 use Rattle.std.specs.Prelude.{⊤, slice_index}
 use Rattle.npf_fields.specs.Field.{number32, number64, number128}
-use Rattle.npf_types.specs.declared.address.Addr.{Addr}
-use Rattle.npf_types.specs.declared.address.Addr.TheVariants.{V4, V6}
-use Rattle.npf_types.specs.declared.change.End.{End}
+use Rattle.npf_types.specs.declared.{address.Addr.{Addr, TheVariants.{V4, V6}}, change.End.End}
 use Rattle.npf_key.specs.Translated.{address_there, fitting, shares_family}
-use Rattle.npf_rewrite.specs.declared.word.WordAt.{WordAt}
-use Rattle.npf_rewrite.specs.Address.{address_words, end_words, word_of, words_v4, words_v6}
-use Rattle.npf_rewrite.specs.TranslatedFacts.{AddressFits, EndFits}
-use Rattle.npf_rewrite.specs.Word.{byte_there}
+use Rattle.npf_rewrite.specs.{declared.word.WordAt.WordAt, Address.{address_words, end_words, word_of, words_v4, words_v6}}
+use Rattle.npf_rewrite.specs.{TranslatedFacts.{AddressFits, EndFits}, Word.byte_there}
 use Rattle.npf_rewrite.proofs.TotalLemmas.{Between, Inside, after, byte_after-elsewhere, byte_after-lower, byte_after-upper, value_at}
 use Rattle.npf_rewrite.proofs.EndLemmas.{address-has, address_size, between-from, fitted, inside-from, shifts}
 

@@ -1,12 +1,7 @@
 -- The sum of what is carried once a word of it is written, at an even place or at an odd one.
 use Rattle.std.proofs.Common.{◌≡◌, ℕ, zero, suc, ◌+◌, ◌-◌, ◌*◌, ◌<◌, ◌≤◌, ◌⊎◌, Bool, true, false, List, [], ◌∷◌, refl, ap, inl, inr, ⊎_elim, arith}
-use Rattle.std.proofs.lemmas.Bool.{cases_lt}
-use Rattle.std.proofs.lemmas.Bool.Decides.{nat_tests}
-use Rattle.std.specs.Prelude.{◌==◌, ◌/◌, ◌%◌, ◌^◌, if◌then◌else◌, slice_index}
-use Rattle.npf_rewrite.specs.declared.word.WordAt.{WordAt}
-use Rattle.npf_rewrite.specs.Normalised.{aligned, joined}
-use Rattle.npf_rewrite.specs.Verified.{HasBytes, carried_total, words_total}
-use Rattle.npf_rewrite.specs.Word.{word}
+use Rattle.std.{proofs.lemmas.Bool.{cases_lt, Decides.nat_tests}, specs.Prelude.{◌==◌, ◌/◌, ◌%◌, ◌^◌, if◌then◌else◌, slice_index}}
+use Rattle.npf_rewrite.specs.{declared.word.WordAt.WordAt, Normalised.{aligned, joined}, Verified.{HasBytes, carried_total, words_total}, Word.word}
 use Rattle.npf_rewrite.proofs.SumLemmas.{left_total, left_total-same}
 use Rattle.npf_rewrite.proofs.TotalLemmas.{AllFit, after, byte_after-elsewhere, byte_after-lower, byte_after-upper, news, olds, value_at, words_total-after, words_total-same}
 

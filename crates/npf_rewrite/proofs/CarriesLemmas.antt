@@ -1,28 +1,13 @@
 -- What a translated packet carries.
-use Rattle.std.proofs.Common.{◌≡◌, ℕ, ◌+◌, ◌≤◌, true, Option, List, Ok, Err, refl, sym, ap, ◌∙◌, subst, inl, inr, arith}
-use Rattle.std.proofs.lemmas.Bool.Decides.{nat_tests}
+use Rattle.std.proofs.{Common.{◌≡◌, ℕ, ◌+◌, ◌≤◌, true, Option, List, Ok, Err, refl, sym, ap, ◌∙◌, subst, inl, inr, arith}, lemmas.Bool.Decides.nat_tests}
 use Rattle.std.specs.Prelude.{Result, MatchResult, ◌==◌, ◌||◌, slice_index}
 use Rattle.npf_fields.specs.Field.{number16, number32}
-use Rattle.npf_types.specs.declared.address.Addr.{Addr}
-use Rattle.npf_types.specs.declared.address.Addr.TheVariants.{V4, V6}
-use Rattle.npf_types.specs.declared.change.Change.{Change}
-use Rattle.npf_types.specs.declared.change.End.{End}
-use Rattle.npf_types.specs.declared.facts.Facts.{Facts}
-use Rattle.npf_types.specs.declared.facts.L4.{L4}
-use Rattle.npf_types.specs.declared.facts.Segment.{Segment}
+use Rattle.npf_types.specs.declared.{address.Addr.{Addr, TheVariants.{V4, V6}}, change.{Change.Change, End.End}, facts.{Facts.Facts, L4.L4, Segment.Segment}}
 use Rattle.npf_types.specs.declared.facts.L4.TheVariants.{Tcp, Udp, Icmp, Icmp6, Other}
+use Rattle.npf_packet.{proofs.UpperLemmas.same_facts, specs.{declared.decoded.Decoded.TheVariants.Ip, Packet.{facts_of, with_header}, PacketField.HasProtocol}}
 use Rattle.npf_key.specs.Translated.{address_there, facts_there, fitting, named_port, port_there, shares_family}
-use Rattle.npf_packet.specs.declared.decoded.Decoded.TheVariants.{Ip}
-use Rattle.npf_packet.specs.Packet.{facts_of, with_header}
-use Rattle.npf_packet.specs.PacketField.{HasProtocol}
-use Rattle.npf_packet.specs.Place.{least_ip_header}
-use Rattle.npf_packet.specs.Tcp.{HasSegment, header_end, segment_of}
-use Rattle.npf_packet.specs.Upper.{Carries, CarriesAs, upper_of}
-use Rattle.npf_packet.proofs.HeaderLemmas.{of_ok}
-use Rattle.npf_rewrite.specs.Translated.{Translated}
-use Rattle.npf_rewrite.proofs.EndLemmas.{fitted}
-use Rattle.npf_rewrite.proofs.ChainLemmas.{options-stay}
-use Rattle.npf_rewrite.proofs.PlacedLemmas.{carried-there, made}
+use Rattle.npf_packet.{specs.{Place.least_ip_header, Tcp.{HasSegment, header_end, segment_of}, Upper.{Carries, CarriesAs, upper_of}}, proofs.HeaderLemmas.of_ok}
+use Rattle.npf_rewrite.{specs.Translated.Translated, proofs.{EndLemmas.fitted, ChainLemmas.options-stay, PlacedLemmas.{carried-there, made}}}
 use Rattle.npf_rewrite.proofs.PortLemmas.{behind-ports, destination-is, echo-is, message-same, ports, source-is}
 
 -- a family and a protocol by which what is carried is told apart
@@ -66,9 +51,6 @@ pub upper_of-there : (src : Addr) (proto : ℕ) (end : Option End)
 upper_of-there src proto end =
     fitted src (λ o. upper_of (address_there o src) proto ≡ upper_of src proto) refl
     (λ e same. same-upper src e.addr proto same) end
-
-pub same_facts : (one other : Facts) → Ip one ≡ Ip other → one ≡ other
-same_facts one other h = cc
 
 pub match_ok : {T E : Type 0} (r : Result T E) (P : T → Type 0) (Q : E → Type 0) (x : T) → r ≡ Ok x → P x
     → MatchResult r P Q
@@ -119,7 +101,8 @@ module _ (bytes translated : List ℕ) (change : Change) (src dst : Addr) (proto
 
   segment-there : (sport dport : ℕ) (seg : Segment) (mss_at : Option ℕ) (ends : ℕ) (options : _)
       → Ip (facts (Tcp sport dport seg mss_at))
-      ≡ Ip (facts_of (record { src = src; dst = dst; proto = proto; ip_at = ip; l4_at = at; end = end }) (segment_of bytes (record { src = src; dst = dst; proto = proto; ip_at = ip; l4_at = at; end = end }) ends options))
+      ≡ Ip (facts_of (record { src = src; dst = dst; proto = proto; ip_at = ip; l4_at = at; end = end })
+      (segment_of bytes (record { src = src; dst = dst; proto = proto; ip_at = ip; l4_at = at; end = end }) ends options))
       → number16 translated (at + 0) ≡ port_there s (number16 bytes (at + 0))
       → number16 translated (at + 2) ≡ port_there d (number16 bytes (at + 2))
       → slice_index translated (at + 13) ≡ slice_index bytes (at + 13)
@@ -127,7 +110,8 @@ module _ (bytes translated : List ℕ) (change : Change) (src dst : Addr) (proto
       → number32 translated (at + 8) ≡ number32 bytes (at + 8)
       → number16 translated (at + 14) ≡ number16 bytes (at + 14)
       → Ip (facts_there change (facts (Tcp sport dport seg mss_at)))
-      ≡ Ip (facts_of (record { src = src'; dst = dst'; proto = proto; ip_at = ip; l4_at = at; end = end }) (segment_of translated (record { src = src'; dst = dst'; proto = proto; ip_at = ip; l4_at = at; end = end }) ends options))
+      ≡ Ip (facts_of (record { src = src'; dst = dst'; proto = proto; ip_at = ip; l4_at = at; end = end })
+      (segment_of translated (record { src = src'; dst = dst'; proto = proto; ip_at = ip; l4_at = at; end = end }) ends options))
   segment-there sport dport seg mss_at ends options said source destination flags seq ack win =
       let said4 = ap (λ (f : Facts). f.l4) (same_facts _ _ said) in
       let is : Tcp (port_there s sport) (port_there d dport) seg mss_at

@@ -1,11 +1,7 @@
 -- The chains of a packet in bytes that are the same where the chain is read.
 use Rattle.std.proofs.Common.{◌≡◌, ℕ, ◌+◌, ◌<◌, ◌≤◌, false, Option, Some, None, List, [], ◌∷◌, refl, sym, ap, ◌∙◌, subst, arith}
-use Rattle.std.proofs.lemmas.Bool.Decides.{nat_tests}
-use Rattle.std.specs.Option.{option_or}
-use Rattle.std.specs.Prelude.{slice_index}
-use Rattle.npf_packet.specs.Chain.{IsChain}
-use Rattle.npf_packet.specs.Ipv6.{is_extension, next_header}
-use Rattle.npf_packet.specs.TcpOption.{HasOptions, first_said, mss_at, option_end, scale_at}
+use Rattle.std.{proofs.lemmas.Bool.Decides.nat_tests, specs.{Option.option_or, Prelude.slice_index}}
+use Rattle.npf_packet.specs.{Chain.IsChain, Ipv6.{is_extension, next_header}, TcpOption.{HasOptions, first_said, mss_at, option_end, scale_at}}
 use Rattle.npf_packet.proofs.ChainLemmas.{is_some_and}
 
 module _ (next next' : ℕ → Option ℕ) (from : ℕ) (same : (x : ℕ) → from ≤ x → next' x ≡ next x)

@@ -1,25 +1,13 @@
 -- A translated packet decodes to the facts of the change.
-use Rattle.std.proofs.Common.{◌≡◌, ℕ, ◌+◌, ◌≤◌, false, Some, List, Ok, Err, sym, ap, ◌∙◌, subst, arith}
-use Rattle.std.proofs.lemmas.Bool.Decides.{nat_tests}
+use Rattle.std.proofs.{Common.{◌≡◌, ℕ, ◌+◌, ◌≤◌, false, Some, List, Ok, Err, sym, ap, ◌∙◌, subst, arith}, lemmas.Bool.Decides.nat_tests}
 use Rattle.std.specs.Prelude.{MatchResult, ◌==◌}
-use Rattle.npf_types.specs.declared.change.Change.{Change}
-use Rattle.npf_types.specs.declared.facts.Facts.{Facts}
+use Rattle.npf_types.specs.declared.{change.Change.Change, facts.Facts.Facts}
 use Rattle.npf_key.specs.Translated.{facts_there}
-use Rattle.npf_packet.specs.declared.decoded.Decoded.TheVariants.{Ip}
-use Rattle.npf_packet.specs.Chain.{IsChain}
-use Rattle.npf_packet.specs.Decoding.{packet_at}
-use Rattle.npf_packet.specs.Ipv4.{fields_v4, packet_v4}
-use Rattle.npf_packet.specs.Ipv6.{IsPacketV6, end_v6, first_header, is_extension, next_header}
-use Rattle.npf_packet.specs.Upper.{Carries}
-use Rattle.npf_packet.proofs.ChainLemmas.{chain_keeps}
-use Rattle.npf_packet.proofs.HeaderLemmas.{fields_v6, is_whole_v4, never_v4, of_ok}
-use Rattle.npf_packet.proofs.PacketFieldLemmas.{has_places}
-use Rattle.npf_packet.proofs.UpperLemmas.{is_carried}
-use Rattle.npf_rewrite.specs.Translated.{Translated}
-use Rattle.npf_rewrite.specs.TranslatedFacts.{AddressesFit, TranslatedDecodes}
-use Rattle.npf_rewrite.proofs.PlacedLemmas.{front-same, laid}
-use Rattle.npf_rewrite.proofs.VersionLemmas.{decodes-there}
-use Rattle.npf_rewrite.proofs.HeaderLemmas.{decoded-v4, decoded-v6}
+use Rattle.npf_packet.specs.{declared.decoded.Decoded.TheVariants.Ip, Chain.IsChain, Decoder.packet_at, Ipv4.{fields_v4, packet_v4}}
+use Rattle.npf_packet.{specs.{Ipv6.{IsPacketV6, end_v6, first_header, is_extension, next_header}, Upper.Carries}, proofs.ChainLemmas.chain_keeps}
+use Rattle.npf_packet.proofs.{HeaderLemmas.{fields_v6, is_whole_v4, never_v4, of_ok}, PacketFieldLemmas.has_places, UpperLemmas.is_carried}
+use Rattle.npf_rewrite.{specs.{Translated.Translated, TranslatedFacts.{AddressesFit, TranslatedDecodes}}, proofs.PlacedLemmas.{front-same, laid}}
+use Rattle.npf_rewrite.proofs.{VersionLemmas.decodes-there, HeaderLemmas.{decoded-v4, decoded-v6}}
 
 pub next-between : (bytes : List ℕ) (from end k n a k' n' a' : ℕ) → from ≤ a
     → next_header bytes end (record { kind = k; named_at = n; at = a }) ≡ Some (record { kind = k'; named_at = n'; at = a' })

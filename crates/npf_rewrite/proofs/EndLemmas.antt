@@ -1,13 +1,9 @@
 -- The words of an end's address: they follow one another, whatever its family.
 use Rattle.std.proofs.Common.{◌≡◌, ℕ, ◌+◌, ◌*◌, ◌≤◌, Bool, true, false, Option, Some, None, List, [], ◌∷◌, length, refl, subst, arith}
 use Rattle.std.specs.Prelude.{if◌then◌else◌}
-use Rattle.npf_types.specs.declared.address.Addr.{Addr}
-use Rattle.npf_types.specs.declared.address.Addr.TheVariants.{V4, V6}
-use Rattle.npf_types.specs.declared.change.End.{End}
+use Rattle.npf_types.specs.declared.{address.Addr.{Addr, TheVariants.{V4, V6}}, change.End.End}
 use Rattle.npf_key.specs.Translated.{fitting, shares_family}
-use Rattle.npf_rewrite.specs.declared.word.WordAt.{WordAt}
-use Rattle.npf_rewrite.specs.Address.{address_words, end_words, word_of, words_v6}
-use Rattle.npf_rewrite.specs.Word.{word}
+use Rattle.npf_rewrite.specs.{declared.word.WordAt.WordAt, Address.{address_words, end_words, word_of, words_v6}, Word.word}
 use Rattle.npf_rewrite.proofs.TotalLemmas.{AllFit, Between, Inside}
 
 -- how far above the lowest bit the words of an address stand

@@ -1,27 +1,14 @@
 -- The headers of IP in a translated packet.
-use Rattle.std.proofs.Common.{◌≡◌, ℕ, ◌+◌, ◌<◌, ◌≤◌, false, List, length, Ok, Err, sym, ◌∙◌, subst, arith}
-use Rattle.std.proofs.lemmas.Bool.Decides.{nat_tests}
+use Rattle.std.proofs.{Common.{◌≡◌, ℕ, ◌+◌, ◌<◌, ◌≤◌, false, List, length, Ok, Err, sym, ◌∙◌, subst, arith}, lemmas.Bool.Decides.nat_tests}
 use Rattle.std.specs.Prelude.{MatchResult, ◌==◌, slice_index}
 use Rattle.npf_fields.specs.Field.{number32}
-use Rattle.npf_types.specs.declared.address.Addr.{Addr}
-use Rattle.npf_types.specs.declared.address.Addr.TheVariants.{V4}
-use Rattle.npf_types.specs.declared.change.Change.{Change}
-use Rattle.npf_types.specs.declared.facts.Facts.{Facts}
-use Rattle.npf_types.specs.declared.facts.L4.{L4}
+use Rattle.npf_types.specs.declared.{address.Addr.{Addr, TheVariants.V4}, change.Change.Change, facts.{Facts.Facts, L4.L4}}
 use Rattle.npf_key.specs.Translated.{address_there, facts_there, fitting}
-use Rattle.npf_packet.specs.declared.decoded.Decoded.TheVariants.{Ip}
-use Rattle.npf_packet.specs.Chain.{IsChain}
-use Rattle.npf_packet.specs.Ipv4.{fields_v4, header_len, is_fragment, packet_v4, total_len, whole_v4}
-use Rattle.npf_packet.specs.Ipv6.{IsBehindChain, IsPacketV6, behind_last, end_v6, first_header, is_extension, next_header}
-use Rattle.npf_packet.specs.Packet.{facts_of}
-use Rattle.npf_packet.specs.PacketField.{HasProtocol}
-use Rattle.npf_packet.specs.Upper.{Carries}
-use Rattle.npf_packet.proofs.HeaderLemmas.{fields_v6, no_fragment, when_whole}
-use Rattle.npf_rewrite.specs.Translated.{Translated}
-use Rattle.npf_rewrite.specs.TranslatedFacts.{AddressesFit}
-use Rattle.npf_rewrite.proofs.AddressLemmas.{address-there}
-use Rattle.npf_rewrite.proofs.CarriesLemmas.{carries-there, match_ok}
-use Rattle.npf_rewrite.proofs.ChainLemmas.{headers-stay}
+use Rattle.npf_packet.specs.{declared.decoded.Decoded.TheVariants.Ip, Chain.IsChain, Ipv4.{fields_v4, header_len, is_fragment, packet_v4, total_len, whole_v4}}
+use Rattle.npf_packet.specs.{Ipv6.{IsBehindChain, IsPacketV6, behind_last, end_v6, first_header, is_extension, next_header}, Packet.facts_of}
+use Rattle.npf_packet.{specs.{PacketField.HasProtocol, Upper.Carries}, proofs.HeaderLemmas.{fields_v6, no_fragment, when_whole}}
+use Rattle.npf_rewrite.{specs.{Translated.Translated, TranslatedFacts.AddressesFit}, proofs.AddressLemmas.address-there}
+use Rattle.npf_rewrite.proofs.{CarriesLemmas.{carries-there, match_ok}, ChainLemmas.headers-stay}
 use Rattle.npf_rewrite.proofs.PlacedLemmas.{destination-there, front-same, options-same, source-there}
 
 -- the headers of IP

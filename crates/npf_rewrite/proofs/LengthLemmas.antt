@@ -1,11 +1,8 @@
 -- A packet that is sent keeps its version and its lengths.
-use Rattle.std.proofs.Common.{◌≡◌, ℕ, ◌+◌, ◌<◌, List, length, sym, ◌∙◌, subst, arith}
-use Rattle.std.specs.Prelude.{slice_index}
+use Rattle.std.{proofs.Common.{◌≡◌, ℕ, ◌+◌, ◌<◌, List, length, sym, ◌∙◌, subst, arith}, specs.Prelude.slice_index}
 use Rattle.npf_types.specs.declared.facts.Facts.{Facts}
-use Rattle.npf_rewrite.specs.Lengths.{KeepsLengths, NormalisedKeepsLengths, SentKeepsLengths, TranslatedKeepsLengths}
-use Rattle.npf_rewrite.specs.Room.{HasRoom}
-use Rattle.npf_rewrite.proofs.NormalisedLemmas.{front-stays}
-use Rattle.npf_rewrite.proofs.PlacedLemmas.{front-same, laid}
+use Rattle.npf_rewrite.specs.{Lengths.{KeepsLengths, NormalisedKeepsLengths, SentKeepsLengths, TranslatedKeepsLengths}, Room.HasRoom}
+use Rattle.npf_rewrite.proofs.{NormalisedLemmas.front-stays, PlacedLemmas.{front-same, laid}}
 
 keeps : (facts : Facts) (old new : List ℕ) → length new ≡ length old
     → ((at : ℕ) → at < facts.ip_at + 6 → slice_index new at ≡ slice_index old at)

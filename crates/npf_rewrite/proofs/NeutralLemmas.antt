@@ -1,23 +1,15 @@
 -- Sums after a neutral change, and the datagram without one.
 use Rattle.std.proofs.Common.{◌≡◌, ℕ, ◌+◌, ◌-◌, ◌*◌, ◌/◌, ◌%◌, ◌<◌, ◌≤◌, Bool, true, false, List, [], ◌∷◌, ◌++◌, ap, ◌∙◌, inr, arith}
-use Rattle.std.proofs.lemmas.Bool.Decides.{nat_tests}
-use Rattle.std.specs.Prelude.{◌==◌, if◌then◌else◌, slice_index}
+use Rattle.std.{proofs.lemmas.Bool.Decides.nat_tests, specs.Prelude.{◌==◌, if◌then◌else◌, slice_index}}
 use Rattle.npf_fields.specs.Field.{number16}
-use Rattle.npf_types.specs.declared.address.Addr.TheVariants.{V4}
-use Rattle.npf_types.specs.declared.address.Addr.{Addr}
-use Rattle.npf_types.specs.declared.change.Change.{Change}
-use Rattle.npf_types.specs.declared.facts.Facts.{Facts}
-use Rattle.npf_types.specs.declared.facts.L4.{L4}
+use Rattle.npf_types.specs.declared.{address.Addr.{TheVariants.V4, Addr}, change.Change.Change, facts.{Facts.Facts, L4.L4}}
 use Rattle.npf_types.specs.declared.facts.L4.TheVariants.{Tcp, Udp, Icmp, Icmp6, Other}
 use Rattle.npf_key.specs.Translated.{named_port}
 use Rattle.npf_packet.specs.Place.{least_ip_header}
 use Rattle.npf_rewrite.specs.Translated.{Translated, address_writes, destination_write, header_sum, new_ends, port_writes, source_at, source_write, sum_write, upper_sum, upper_sum_after, upper_sum_at}
 use Rattle.npf_rewrite.specs.Verified.{AbsentSumStays, KeepsSums, NeutralHeaderSumFollows, NeutralUpperSumFollows, addresses_total, carried_total, counted_total, words_total}
-use Rattle.npf_rewrite.specs.Word.{byte_there, word, word_list}
-use Rattle.npf_rewrite.proofs.PlacedLemmas.{carried-there, options-same, sum-there, unless}
-use Rattle.npf_rewrite.proofs.SumLemmas.{left_total-same}
-use Rattle.npf_rewrite.proofs.TotalLemmas.{after-elsewhere, header-total, words_total-same}
-use Rattle.npf_rewrite.proofs.PortLemmas.{ports, ports-between}
+use Rattle.npf_rewrite.{specs.Word.{byte_there, word, word_list}, proofs.PlacedLemmas.{carried-there, options-same, sum-there, unless}}
+use Rattle.npf_rewrite.proofs.{SumLemmas.left_total-same, TotalLemmas.{after-elsewhere, header-total, words_total-same}, PortLemmas.{ports, ports-between}}
 
 carried_total-same : (f g : ℕ → ℕ) (at end : ℕ) → ((k : ℕ) → at ≤ k → g k ≡ f k)
     → carried_total g at end ≡ carried_total f at end

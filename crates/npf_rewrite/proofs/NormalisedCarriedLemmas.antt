@@ -2,30 +2,13 @@
 use Rattle.std.proofs.Common.{◌≡◌, ℕ, ◌+◌, ◌<◌, ◌≤◌, ◌⊎◌, Bool, true, false, Option, Some, None, List, [], ◌∷◌, length, Ok, Err, refl, sym, ap, ◌∙◌, subst, inl, inr, arith}
 use Rattle.std.specs.Prelude.{Result, MatchResult, ◌==◌, ◌/◌, ◌%◌, nat_lt, if◌then◌else◌, slice_index, ⊤}
 use Rattle.npf_fields.specs.Field.{number16}
-use Rattle.npf_types.specs.declared.action.Action.{Action}
-use Rattle.npf_types.specs.declared.facts.Facts.{Facts}
-use Rattle.npf_types.specs.declared.facts.L4.{L4}
-use Rattle.npf_types.specs.declared.facts.L4.TheVariants.{Tcp, Udp, Icmp, Icmp6, Other}
-use Rattle.npf_types.specs.declared.facts.Segment.{Segment}
-use Rattle.npf_packet.specs.declared.decoded.Decoded.TheVariants.{Ip}
-use Rattle.npf_packet.specs.Icmp.{decoding_icmp}
-use Rattle.npf_packet.specs.Icmpv6.{decoding_icmpv6}
-use Rattle.npf_packet.specs.Packet.{facts_of}
-use Rattle.npf_packet.specs.Place.{HasOptionAt}
-use Rattle.npf_packet.specs.Tcp.{CarriesTcp, HasSegment, header_end, segment_of}
-use Rattle.npf_packet.specs.TcpOption.{HasOptions}
-use Rattle.npf_packet.specs.Udp.{decoding_udp}
-use Rattle.npf_packet.specs.Upper.{Carries, CarriesAs, upper_of}
-use Rattle.npf_packet.proofs.UpperLemmas.{is_carried}
-use Rattle.npf_rewrite.specs.declared.word.WordAt.{WordAt}
-use Rattle.npf_rewrite.specs.Normalised.{Normalised, lowered_mss, segment_sum}
-use Rattle.npf_rewrite.specs.Room.{HasRoom}
-use Rattle.npf_rewrite.specs.Word.{byte_there, word, word_list}
-use Rattle.npf_rewrite.proofs.CarriesLemmas.{family_of, protocol_of, same_facts, told_by}
-use Rattle.npf_rewrite.proofs.ChainLemmas.{options-stay}
-use Rattle.npf_rewrite.proofs.NormalisedLemmas.{carried-is}
-use Rattle.npf_rewrite.proofs.OptionLemmas.{number-stays}
-use Rattle.npf_rewrite.proofs.TotalLemmas.{after-elsewhere}
+use Rattle.npf_types.specs.declared.{action.Action.Action, facts.{Facts.Facts, L4.{L4, TheVariants.{Tcp, Udp, Icmp, Icmp6, Other}}, Segment.Segment}}
+use Rattle.npf_packet.specs.{declared.decoded.Decoded.TheVariants.Ip, Icmp.decoding_icmp, Icmpv6.decoding_icmpv6, Packet.facts_of, Place.HasOptionAt}
+use Rattle.npf_packet.specs.{Tcp.{CarriesTcp, HasSegment, header_end, segment_of}, TcpOption.HasOptions, Udp.decoding_udp, Upper.{Carries, CarriesAs, upper_of}}
+use Rattle.npf_packet.proofs.UpperLemmas.{is_carried, same_facts}
+use Rattle.npf_rewrite.specs.{declared.word.WordAt.WordAt, Normalised.{Normalised, lowered_mss, segment_sum}, Room.HasRoom, Word.{byte_there, word, word_list}}
+use Rattle.npf_rewrite.proofs.{CarriesLemmas.{family_of, protocol_of, told_by}, ChainLemmas.options-stay, NormalisedLemmas.carried-is}
+use Rattle.npf_rewrite.proofs.{OptionLemmas.number-stays, TotalLemmas.after-elsewhere}
 
 -- what is carried is as it was, but for a segment's sum and the number of its maximum segment size
 abbrev pub CarriedStays : (ℕ → ℕ) → (ℕ → ℕ) → ℕ → L4 → Type 0

@@ -1,36 +1,17 @@
 -- A normalised packet decodes to its facts.
 use Rattle.std.proofs.Common.{◌≡◌, ℕ, ◌+◌, ◌<◌, ◌≤◌, List, length, Ok, Err, refl, sym, ap, ◌∙◌, subst, arith}
 use Rattle.std.specs.Prelude.{Result, if◌then◌else◌, slice_index}
-use Rattle.npf_types.specs.declared.action.Action.{Action}
+use Rattle.npf_types.specs.declared.{action.Action.Action, facts.Facts.Facts, link.Link.Link}
 use Rattle.npf_types.specs.declared.address.Addr.TheVariants as Addr
-use Rattle.npf_types.specs.declared.facts.Facts.{Facts}
-use Rattle.npf_types.specs.declared.link.Link.{Link}
-use Rattle.npf_packet.specs.declared.decoded.Decoded.{Decoded}
-use Rattle.npf_packet.specs.declared.decoded.Decoded.TheVariants.{Ip, Skip}
-use Rattle.npf_packet.specs.Decoding.{packet_at}
-use Rattle.npf_packet.specs.Ipv4.{is_fragment, packet_v4, unless_fragment, whole_v4}
-use Rattle.npf_packet.specs.Ipv6.{IsBehindChain, end_v6, first_header, next_header}
-use Rattle.npf_packet.specs.Place.{least_ip_header}
-use Rattle.npf_packet.specs.Upper.{Carries}
-use Rattle.npf_packet.specs.Chain.{IsChain}
-use Rattle.npf_packet.proofs.ChainLemmas.{chain_keeps}
-use Rattle.npf_packet.proofs.HeaderLemmas.{fields_v6, is_whole_v4, never_v4, of_ok}
-use Rattle.npf_packet.proofs.PacketFieldLemmas.{has_places}
-use Rattle.npf_packet.proofs.UpperLemmas.{is_carried}
-use Rattle.npf_rewrite.specs.Normalised.{Normalised}
-use Rattle.npf_rewrite.specs.NormalisedFacts.{ActionFits, NormalisedDecodes}
-use Rattle.npf_rewrite.specs.Room.{DecodedHasRoom, HasRoom}
-use Rattle.npf_rewrite.specs.Translated.{source_at}
-use Rattle.npf_rewrite.specs.Verified.{HasBytes}
-use Rattle.npf_rewrite.proofs.AddressLemmas.{address-same}
-use Rattle.npf_rewrite.proofs.CarriesLemmas.{match_ok}
-use Rattle.npf_rewrite.proofs.ChainLemmas.{headers-stay}
-use Rattle.npf_rewrite.proofs.DecodedLemmas.{ends_v6, next-between}
-use Rattle.npf_rewrite.proofs.HeaderLemmas.{behind_last-is}
-use Rattle.npf_rewrite.proofs.VersionLemmas.{FromV4, FromV6, decodes-there}
+use Rattle.npf_packet.specs.{declared.decoded.Decoded.{Decoded, TheVariants.{Ip, Skip}}, Decoder.packet_at}
+use Rattle.npf_packet.specs.{Ipv4.{is_fragment, packet_v4, unless_fragment, whole_v4}, Ipv6.{IsBehindChain, end_v6, first_header, next_header}}
+use Rattle.npf_packet.{specs.{Place.least_ip_header, Upper.Carries, Chain.IsChain}, proofs.ChainLemmas.chain_keeps}
+use Rattle.npf_packet.proofs.{HeaderLemmas.{fields_v6, is_whole_v4, never_v4, of_ok}, PacketFieldLemmas.has_places, UpperLemmas.is_carried}
+use Rattle.npf_rewrite.specs.{Normalised.Normalised, NormalisedFacts.{ActionFits, NormalisedDecodes}, Room.{DecodedHasRoom, HasRoom}, Translated.source_at}
+use Rattle.npf_rewrite.{specs.Verified.HasBytes, proofs.{AddressLemmas.address-same, CarriesLemmas.match_ok, ChainLemmas.headers-stay}}
+use Rattle.npf_rewrite.proofs.{DecodedLemmas.{ends_v6, next-between}, HeaderLemmas.behind_last-is, VersionLemmas.{FromV4, FromV6, decodes-there}}
 use Rattle.npf_rewrite.proofs.NormalisedCarriedLemmas.{Packet, carried-stays, carries-same}
-use Rattle.npf_rewrite.proofs.NormalisedHeaderLemmas.{fragment-stays, next-stays, protocol-stays}
-use Rattle.npf_rewrite.proofs.NormalisedLemmas.{addresses-stay, front-stays}
+use Rattle.npf_rewrite.proofs.{NormalisedHeaderLemmas.{fragment-stays, next-stays, protocol-stays}, NormalisedLemmas.{addresses-stay, front-stays}}
 
 unless-same : (bytes new : List ℕ) (ip : ℕ) (whole : Result Packet Decoded) → is_fragment new ip ≡ is_fragment bytes ip
     → unless_fragment new ip whole ≡ unless_fragment bytes ip whole

@@ -1,26 +1,14 @@
 -- The fields that are normalised.
 use Rattle.std.proofs.Common.{◌≡◌, ℕ, ◌+◌, ◌-◌, ◌*◌, ◌<◌, ◌≤◌, Bool, true, false, Option, Some, None, List, [], ◌∷◌, length, refl, ap, ◌∙◌, subst, inl, inr, arith}
-use Rattle.std.proofs.lemmas.Bool.Decides.{nat_tests}
-use Rattle.std.specs.Prelude.{◌==◌, ◌/◌, ◌%◌, ◌^◌, IfSome, max, min, nat_lt, if◌then◌else◌, slice_index}
+use Rattle.std.{proofs.lemmas.Bool.Decides.nat_tests, specs.Prelude.{◌==◌, ◌/◌, ◌%◌, ◌^◌, IfSome, max, min, nat_lt, if◌then◌else◌, slice_index}}
 use Rattle.npf_fields.specs.Field.{number16}
-use Rattle.npf_types.specs.declared.action.Action.{Action}
-use Rattle.npf_types.specs.declared.address.Addr.{Addr}
-use Rattle.npf_types.specs.declared.address.Addr.TheVariants.{V4, V6}
-use Rattle.npf_types.specs.declared.facts.Facts.{Facts}
-use Rattle.npf_types.specs.declared.facts.L4.{L4}
-use Rattle.npf_types.specs.declared.facts.L4.TheVariants.{Tcp}
+use Rattle.npf_types.specs.declared.{action.Action.Action, address.Addr.{Addr, TheVariants.{V4, V6}}, facts.{Facts.Facts, L4.{L4, TheVariants.Tcp}}}
 use Rattle.npf_types.specs.declared.facts.Segment.{Segment}
 use Rattle.npf_packet.specs.Place.{HasOptionAt, IsAmongOptions, least_ip_header}
-use Rattle.npf_rewrite.specs.declared.word.WordAt.{WordAt}
-use Rattle.npf_rewrite.specs.Normalised.{Normalised, cleared_fragment, joined, lowered_mss, raised_ttl, segment_sum}
-use Rattle.npf_rewrite.specs.NormalisedFacts.{ActionFits}
-use Rattle.npf_rewrite.specs.NormalisedFields.{NormalisedHasFields, no_less, no_more, time_to_live}
-use Rattle.npf_rewrite.specs.Room.{HasRoom}
-use Rattle.npf_rewrite.specs.Verified.{HasBytes}
-use Rattle.npf_rewrite.specs.Word.{byte_there, word, word_list}
-use Rattle.npf_rewrite.proofs.NormalisedHeaderLemmas.{cleared-v4, fragment-byte, header-is}
-use Rattle.npf_rewrite.proofs.NormalisedLemmas.{carried-is, segment_sum-between}
-use Rattle.npf_rewrite.proofs.TotalLemmas.{after-elsewhere, byte_after-lower, byte_after-upper}
+use Rattle.npf_rewrite.specs.{declared.word.WordAt.WordAt, Normalised.{Normalised, cleared_fragment, joined, lowered_mss, raised_ttl, segment_sum}}
+use Rattle.npf_rewrite.specs.{NormalisedFacts.ActionFits, NormalisedFields.{NormalisedHasFields, no_less, no_more, time_to_live}, Room.HasRoom}
+use Rattle.npf_rewrite.{specs.{Verified.HasBytes, Word.{byte_there, word, word_list}}, proofs.NormalisedHeaderLemmas.{cleared-v4, fragment-byte, header-is}}
+use Rattle.npf_rewrite.proofs.{NormalisedLemmas.{carried-is, segment_sum-between}, TotalLemmas.{after-elsewhere, byte_after-lower, byte_after-upper}}
 
 -- a byte that is raised
 raised-byte : (w : WordAt) (k x least : ℕ) (b : Bool) → nat_lt x least ≡ b → byte_there (w ∷ []) k x ≡ least

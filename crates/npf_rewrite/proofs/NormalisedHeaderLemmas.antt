@@ -1,23 +1,12 @@
 -- The header of a normalised packet.
 use Rattle.std.proofs.Common.{◌≡◌, ℕ, ◌+◌, ◌-◌, ◌*◌, ◌<◌, ◌≤◌, Bool, true, false, Option, Some, None, List, ◌++◌, length, refl, ap, ◌∙◌, inl, inr, arith}
-use Rattle.std.proofs.lemmas.Bool.Decides.{nat_tests}
-use Rattle.std.specs.Prelude.{◌==◌, ◌/◌, ◌%◌, ◌^◌, IfSome, nat_lt, not, if◌then◌else◌, slice_index}
+use Rattle.std.{proofs.lemmas.Bool.Decides.nat_tests, specs.Prelude.{◌==◌, ◌/◌, ◌%◌, ◌^◌, IfSome, nat_lt, not, if◌then◌else◌, slice_index}}
 use Rattle.npf_fields.specs.Field.{number16}
-use Rattle.npf_types.specs.declared.action.Action.{Action}
-use Rattle.npf_types.specs.declared.address.Addr.{Addr}
-use Rattle.npf_types.specs.declared.address.Addr.TheVariants.{V4, V6}
-use Rattle.npf_types.specs.declared.facts.Facts.{Facts}
-use Rattle.npf_packet.specs.Ipv4.{is_fragment}
-use Rattle.npf_packet.specs.Place.{least_ip_header}
-use Rattle.npf_rewrite.specs.declared.word.WordAt.{WordAt}
-use Rattle.npf_rewrite.specs.Normalised.{Normalised, cleared_fragment, joined, raised_ttl}
-use Rattle.npf_rewrite.specs.NormalisedFacts.{ActionFits}
-use Rattle.npf_rewrite.specs.Room.{HasRoom}
-use Rattle.npf_rewrite.specs.Translated.{header_sum}
-use Rattle.npf_rewrite.specs.Verified.{HasBytes}
-use Rattle.npf_rewrite.specs.Word.{byte_after, byte_there, word, word_list}
-use Rattle.npf_rewrite.proofs.NormalisedLemmas.{chosen-between, in-header}
-use Rattle.npf_rewrite.proofs.TotalLemmas.{Between, after-elsewhere, byte_after-lower, byte_after-upper}
+use Rattle.npf_types.specs.declared.{action.Action.Action, address.Addr.{Addr, TheVariants.{V4, V6}}, facts.Facts.Facts}
+use Rattle.npf_packet.specs.{Ipv4.is_fragment, Place.least_ip_header}
+use Rattle.npf_rewrite.specs.{declared.word.WordAt.WordAt, Normalised.{Normalised, cleared_fragment, joined, raised_ttl}, NormalisedFacts.ActionFits}
+use Rattle.npf_rewrite.specs.{Room.HasRoom, Translated.header_sum, Verified.HasBytes, Word.{byte_after, byte_there, word, word_list}}
+use Rattle.npf_rewrite.proofs.{NormalisedLemmas.{chosen-between, in-header}, TotalLemmas.{Between, after-elsewhere, byte_after-lower, byte_after-upper}}
 use Rattle.npf_rewrite.proofs.WordLemmas.{byte_there-append}
 
 -- a byte that a word leaves as it was

@@ -1,20 +1,13 @@
 -- What stands at each place of a normalised packet.
 use Rattle.std.proofs.Common.{◌≡◌, ℕ, ◌+◌, ◌<◌, ◌≤◌, Bool, true, false, Option, Some, None, List, ◌++◌, length, ap, ◌∙◌, inl, inr, arith}
 use Rattle.std.specs.Prelude.{◌==◌, ◌/◌, ◌%◌, if◌then◌else◌, slice_index}
-use Rattle.npf_types.specs.declared.action.Action.{Action}
-use Rattle.npf_types.specs.declared.address.Addr.{Addr}
-use Rattle.npf_types.specs.declared.address.Addr.TheVariants.{V4, V6}
-use Rattle.npf_types.specs.declared.facts.Facts.{Facts}
-use Rattle.npf_types.specs.declared.facts.L4.{L4}
+use Rattle.npf_types.specs.declared.{action.Action.Action, address.Addr.{Addr, TheVariants.{V4, V6}}, facts.{Facts.Facts, L4.L4}}
 use Rattle.npf_types.specs.declared.facts.L4.TheVariants.{Tcp, Udp, Icmp, Icmp6, Other}
 use Rattle.npf_packet.specs.Place.{HasOptionAt}
 use Rattle.npf_rewrite.specs.declared.word.WordAt.{WordAt}
 use Rattle.npf_rewrite.specs.Normalised.{Normalised, cleared_fragment, header_writes, lowered_mss, lowered_to, mss_write, raised_ttl, segment_sum}
-use Rattle.npf_rewrite.specs.Room.{HasRoom}
-use Rattle.npf_rewrite.specs.Translated.{header_sum, source_at}
-use Rattle.npf_rewrite.specs.Word.{byte_there, word_list}
-use Rattle.npf_rewrite.proofs.PlacedLemmas.{between-append, front_at, header_sum-between, laid}
-use Rattle.npf_rewrite.proofs.TotalLemmas.{Between, after-elsewhere}
+use Rattle.npf_rewrite.specs.{Room.HasRoom, Translated.{header_sum, source_at}, Word.{byte_there, word_list}}
+use Rattle.npf_rewrite.proofs.{PlacedLemmas.{between-append, front_at, header_sum-between, laid}, TotalLemmas.{Between, after-elsewhere}}
 use Rattle.npf_rewrite.proofs.WordLemmas.{byte_there-append}
 
 -- one word or none

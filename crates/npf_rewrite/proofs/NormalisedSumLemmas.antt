@@ -2,31 +2,18 @@
 use Rattle.std.proofs.Common.{◌≡◌, ℕ, ◌+◌, ◌-◌, ◌*◌, ◌<◌, ◌≤◌, Bool, true, false, Option, Some, None, List, [], ◌∷◌, ◌++◌, length, refl, sym, ap, ◌∙◌, inl, inr, arith}
 use Rattle.std.specs.Prelude.{◌==◌, ◌/◌, ◌%◌, ◌^◌, IfSome, nat_lt, if◌then◌else◌, slice_index}
 use Rattle.npf_fields.specs.Field.{number16}
-use Rattle.npf_types.specs.declared.action.Action.{Action}
-use Rattle.npf_types.specs.declared.address.Addr.{Addr}
-use Rattle.npf_types.specs.declared.address.Addr.TheVariants.{V4, V6}
-use Rattle.npf_types.specs.declared.facts.Facts.{Facts}
-use Rattle.npf_types.specs.declared.facts.L4.{L4}
-use Rattle.npf_types.specs.declared.facts.L4.TheVariants.{Tcp, Udp, Icmp, Icmp6, Other}
-use Rattle.npf_types.specs.declared.facts.Segment.{Segment}
+use Rattle.npf_types.specs.declared.{action.Action.Action, address.Addr.{Addr, TheVariants.{V4, V6}}, facts.{Facts.Facts, L4.L4}}
+use Rattle.npf_types.specs.declared.facts.{L4.TheVariants.{Tcp, Udp, Icmp, Icmp6, Other}, Segment.Segment}
 use Rattle.npf_packet.specs.Place.{HasOptionAt, least_ip_header}
-use Rattle.npf_rewrite.specs.declared.word.WordAt.{WordAt}
-use Rattle.npf_rewrite.specs.Normalised.{Normalised, aligned, cleared_fragment, lowered_mss, raised_ttl}
-use Rattle.npf_rewrite.specs.NormalisedVerified.{NormalisedHeaderFollows, NormalisedUpperFollows}
-use Rattle.npf_rewrite.specs.Room.{HasRoom}
-use Rattle.npf_rewrite.specs.Sum.{sum_after}
-use Rattle.npf_rewrite.specs.Translated.{source_at}
-use Rattle.npf_rewrite.specs.Verified.{HasBytes, addresses_total, counted_total, words_total}
-use Rattle.npf_rewrite.specs.Word.{word, word_list}
-use Rattle.npf_rewrite.proofs.AlignedLemmas.{aligned-fits, aligned-total}
-use Rattle.npf_rewrite.proofs.NeutralLemmas.{upper-same}
-use Rattle.npf_rewrite.proofs.NormalisedCarriedLemmas.{OnlyAt, WritesSegment, lowered-only}
-use Rattle.npf_rewrite.proofs.NormalisedHeaderLemmas.{cleared-v4, header-is, raised-v4}
-use Rattle.npf_rewrite.proofs.NormalisedLemmas.{addresses-stay, carried-is}
-use Rattle.npf_rewrite.proofs.PlacedLemmas.{laid}
-use Rattle.npf_rewrite.proofs.EndLemmas.{shifts}
+use Rattle.npf_rewrite.specs.{declared.word.WordAt.WordAt, Normalised.{Normalised, aligned, cleared_fragment, lowered_mss, raised_ttl}}
+use Rattle.npf_rewrite.specs.{NormalisedVerified.{NormalisedHeaderFollows, NormalisedUpperFollows}, Room.HasRoom, Sum.sum_after, Translated.source_at}
+use Rattle.npf_rewrite.specs.{Verified.{HasBytes, addresses_total, counted_total, words_total}, Word.{word, word_list}}
+use Rattle.npf_rewrite.proofs.{AlignedLemmas.{aligned-fits, aligned-total}, NeutralLemmas.upper-same}
+use Rattle.npf_rewrite.proofs.{NormalisedCarriedLemmas.{OnlyAt, WritesSegment, lowered-only}, NormalisedHeaderLemmas.{cleared-v4, header-is, raised-v4}}
+use Rattle.npf_rewrite.proofs.{NormalisedLemmas.{addresses-stay, carried-is}, PlacedLemmas.laid, EndLemmas.shifts}
 use Rattle.npf_rewrite.proofs.SumLemmas.{addresses_total-is, left_total-same}
-use Rattle.npf_rewrite.proofs.TotalLemmas.{AllFit, Between, Inside, after, after-elsewhere, byte_after-elsewhere, fit-append, header-total, news-append, olds, olds-append, sum_after-follows, words_total-after, words_total-same}
+use Rattle.npf_rewrite.proofs.TotalLemmas.{AllFit, Between, Inside, after, after-elsewhere, byte_after-elsewhere, fit-append, header-total, news-append}
+use Rattle.npf_rewrite.proofs.TotalLemmas.{olds, olds-append, sum_after-follows, words_total-after, words_total-same}
 
 -- one word that is counted, or none
 chosen-inside : (at n k : ℕ) (b : Bool) (w : WordAt) → w.at ≡ at + 2 * k → k < n

@@ -1,11 +1,7 @@
 -- The options of a segment of which the number of a maximum segment size is written.
 use Rattle.std.proofs.Common.{◌≡◌, ℕ, ◌+◌, ◌<◌, ◌≤◌, ◌⊎◌, Option, Some, None, List, [], ◌∷◌, refl, sym, ap, ◌∙◌, subst, inl, inr, arith}
-use Rattle.std.proofs.lemmas.Bool.Decides.{nat_tests}
-use Rattle.std.specs.Option.{option_or}
-use Rattle.std.specs.Prelude.{slice_index}
-use Rattle.npf_packet.specs.Chain.{IsChain}
-use Rattle.npf_packet.specs.TcpOption.{HasOptions, first_said, mss_at, option_end, scale_at}
-use Rattle.npf_packet.proofs.ChainLemmas.{is_some_and}
+use Rattle.std.{proofs.lemmas.Bool.Decides.nat_tests, specs.{Option.option_or, Prelude.slice_index}}
+use Rattle.npf_packet.{specs.{Chain.IsChain, TcpOption.{HasOptions, first_said, mss_at, option_end, scale_at}}, proofs.ChainLemmas.is_some_and}
 use Rattle.npf_rewrite.proofs.ChainLemmas.{options-stay}
 
 -- an option in front of others

@@ -1,22 +1,14 @@
 -- What stands at each place of a translated packet.
 use Rattle.std.proofs.Common.{◌≡◌, ℕ, ◌+◌, ◌<◌, ◌≤◌, ◌⊎◌, Bool, true, false, Option, Some, None, List, [], ◌∷◌, ◌++◌, refl, sym, ap, ◌∙◌, inl, inr, arith}
 use Rattle.std.specs.Prelude.{if◌then◌else◌, slice_index}
-use Rattle.npf_types.specs.declared.address.Addr.{Addr}
-use Rattle.npf_types.specs.declared.address.Addr.TheVariants.{V4, V6}
-use Rattle.npf_types.specs.declared.change.Change.{Change}
-use Rattle.npf_types.specs.declared.facts.Facts.{Facts}
-use Rattle.npf_types.specs.declared.facts.L4.{L4}
+use Rattle.npf_types.specs.declared.{address.Addr.{Addr, TheVariants.{V4, V6}}, change.Change.Change, facts.{Facts.Facts, L4.L4}}
 use Rattle.npf_types.specs.declared.facts.L4.TheVariants.{Tcp, Udp, Icmp, Icmp6, Other}
 use Rattle.npf_key.specs.Translated.{fitting, named_port}
 use Rattle.npf_packet.specs.Place.{least_ip_header}
-use Rattle.npf_rewrite.specs.declared.translated.NewEnds.{NewEnds}
-use Rattle.npf_rewrite.specs.declared.word.WordAt.{WordAt}
-use Rattle.npf_rewrite.specs.Address.{end_words}
-use Rattle.npf_rewrite.specs.Translated.{Translated, destination_at, destination_write, header_sum, identifier_write, new_ends, port_writes, source_at, source_write, sum_write, upper_sum, upper_sum_at}
-use Rattle.npf_rewrite.specs.Word.{byte_there, named_word, word_list}
-use Rattle.npf_rewrite.proofs.EndLemmas.{address_size, end-between}
-use Rattle.npf_rewrite.proofs.TotalLemmas.{Between, after-elsewhere}
-use Rattle.npf_rewrite.proofs.WordLemmas.{byte_there-append}
+use Rattle.npf_rewrite.specs.{declared.{translated.NewEnds.NewEnds, word.WordAt.WordAt}, Address.end_words}
+use Rattle.npf_rewrite.specs.Translated.{Translated, destination_at, destination_write, header_sum, identifier_write, new_ends, port_writes}
+use Rattle.npf_rewrite.specs.{Translated.{source_at, source_write, sum_write, upper_sum, upper_sum_at}, Word.{byte_there, named_word, word_list}}
+use Rattle.npf_rewrite.proofs.{EndLemmas.{address_size, end-between}, TotalLemmas.{Between, after-elsewhere}, WordLemmas.byte_there-append}
 
 -- the first place of a header that may change
 abbrev pub front_at : ℕ → Addr → ℕ

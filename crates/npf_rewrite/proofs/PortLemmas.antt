@@ -1,15 +1,11 @@
 -- The port or identifier that stands where one was written, or not, beside a sum.
 use Rattle.std.proofs.Common.{◌≡◌, ℕ, ◌+◌, ◌<◌, ◌≤◌, ◌⊎◌, Bool, true, false, Option, Some, None, List, [], ◌∷◌, ◌++◌, refl, sym, ap, ◌∙◌, inl, inr, arith}
-use Rattle.std.specs.Option.{option_or}
-use Rattle.std.specs.Prelude.{if◌then◌else◌, slice_index}
+use Rattle.std.specs.{Option.option_or, Prelude.{if◌then◌else◌, slice_index}}
 use Rattle.npf_fields.specs.Field.{number16}
 use Rattle.npf_key.specs.Translated.{echo_there, port_there}
-use Rattle.npf_rewrite.specs.declared.word.WordAt.{WordAt}
-use Rattle.npf_rewrite.specs.Translated.{identifier_write}
-use Rattle.npf_rewrite.specs.Word.{byte_there, named_word, word, word_list}
+use Rattle.npf_rewrite.specs.{declared.word.WordAt.WordAt, Translated.identifier_write, Word.{byte_there, named_word, word, word_list}}
 use Rattle.npf_rewrite.proofs.PlacedLemmas.{unless, unless-elsewhere}
-use Rattle.npf_rewrite.proofs.TotalLemmas.{Between, after, after-elsewhere, byte_after-lower, byte_after-upper, value_at}
-use Rattle.npf_rewrite.proofs.WordLemmas.{byte_there-append}
+use Rattle.npf_rewrite.proofs.{TotalLemmas.{Between, after, after-elsewhere, byte_after-lower, byte_after-upper, value_at}, WordLemmas.byte_there-append}
 
 named-there : (g f : ℕ → ℕ) (at : ℕ) (o : Option ℕ)
     → ((k : ℕ) → at ≤ k → k < at + 2 → g k ≡ after (word_list (named_word at o)) f k)

@@ -1,31 +1,17 @@
 -- What is sent of a packet.
 use Rattle.std.proofs.Common.{◌≡◌, ℕ, ◌+◌, ◌<◌, ◌≤◌, Bool, true, false, Option, Some, None, List, [], ◌∷◌, ◌++◌, length, refl, sym, ap, ◌∙◌, subst, arith}
-use Rattle.std.proofs.lemmas.Bool.Decides.{nat_tests}
-use Rattle.std.specs.Prelude.{◌%◌, ◌^◌, slice_index}
+use Rattle.std.{proofs.lemmas.Bool.Decides.nat_tests, specs.Prelude.{◌%◌, ◌^◌, slice_index}}
 use Rattle.npf_fields.specs.Field.{number16}
-use Rattle.npf_types.specs.declared.action.Action.{Action}
-use Rattle.npf_types.specs.declared.address.Addr.{Addr}
-use Rattle.npf_types.specs.declared.address.Addr.TheVariants.{V4, V6}
-use Rattle.npf_types.specs.declared.change.Change.{Change}
-use Rattle.npf_types.specs.declared.facts.Facts.{Facts}
-use Rattle.npf_types.specs.declared.facts.L4.{L4}
+use Rattle.npf_types.specs.declared.{action.Action.Action, address.Addr.{Addr, TheVariants.{V4, V6}}, change.Change.Change, facts.{Facts.Facts, L4.L4}}
 use Rattle.npf_types.specs.declared.facts.L4.TheVariants.{Tcp, Udp, Icmp, Icmp6, Other}
-use Rattle.npf_rewrite.specs.declared.word.WordAt.{WordAt}
-use Rattle.npf_rewrite.specs.Normalised.{Normalised, aligned, header_writes, mss_write, raised_ttl, segment_sum}
-use Rattle.npf_rewrite.specs.NormalisedFacts.{ActionFits}
-use Rattle.npf_rewrite.specs.Room.{HasRoom}
-use Rattle.npf_rewrite.specs.SentLaw.{SentIsPacket}
-use Rattle.npf_rewrite.specs.Translated.{Translated, header_sum}
-use Rattle.npf_rewrite.specs.Verified.{HasBytes, HasSum, HeaderVerifies, KeepsSums, PortsFit, UpperVerifies}
-use Rattle.npf_rewrite.specs.Word.{byte_there, word_list}
-use Rattle.npf_rewrite.proofs.DecodedLemmas.{translated_decodes_lem}
-use Rattle.npf_rewrite.proofs.LengthLemmas.{sent_lengths_lem}
-use Rattle.npf_rewrite.proofs.NeutralLemmas.{absent_sum_lem, neutral_header_lem, neutral_upper_lem}
-use Rattle.npf_rewrite.proofs.NormalisedCarriedLemmas.{CarriedStays, carried-stays}
+use Rattle.npf_rewrite.specs.{declared.word.WordAt.WordAt, Normalised.{Normalised, aligned, header_writes, mss_write, raised_ttl, segment_sum}}
+use Rattle.npf_rewrite.specs.{NormalisedFacts.ActionFits, Room.HasRoom, SentLaw.SentIsPacket, Translated.{Translated, header_sum}}
+use Rattle.npf_rewrite.specs.{Verified.{HasBytes, HasSum, HeaderVerifies, KeepsSums, PortsFit, UpperVerifies}, Word.{byte_there, word_list}}
+use Rattle.npf_rewrite.proofs.{DecodedLemmas.translated_decodes_lem, LengthLemmas.sent_lengths_lem}
+use Rattle.npf_rewrite.proofs.{NeutralLemmas.{absent_sum_lem, neutral_header_lem, neutral_upper_lem}, NormalisedCarriedLemmas.{CarriedStays, carried-stays}}
 use Rattle.npf_rewrite.proofs.NormalisedDecodedLemmas.{decoded_room, normalised_decodes_lem}
 use Rattle.npf_rewrite.proofs.NormalisedSumLemmas.{addresses-total, cleared-fits, lowered-fit, normalised_header_lem, normalised_upper_lem, raised-fits}
-use Rattle.npf_rewrite.proofs.SumLemmas.{header_sum_follows_lem, upper_sum_follows_lem}
-use Rattle.npf_rewrite.proofs.TotalLemmas.{AllFit, fit-append, sum_after-fits}
+use Rattle.npf_rewrite.proofs.{SumLemmas.{header_sum_follows_lem, upper_sum_follows_lem}, TotalLemmas.{AllFit, fit-append, sum_after-fits}}
 
 -- bytes of which words are written are bytes
 written-small : (ws : List WordAt) (k x : ℕ) → AllFit ws → x < 2 ^ 8 → byte_there ws k x < 2 ^ 8

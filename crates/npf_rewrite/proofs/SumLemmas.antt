@@ -1,27 +1,18 @@
 -- The sums of a translated packet.
 use Rattle.std.proofs.Common.{◌≡◌, ◌≢◌, ℕ, ◌+◌, ◌-◌, ◌*◌, ◌/◌, ◌%◌, ◌^◌, ◌<◌, ◌≤◌, ◌⊎◌, false, Option, Some, None, List, [], ◌∷◌, ◌++◌, length, refl, ap, ◌∙◌, inl, inr, arith}
-use Rattle.std.proofs.lemmas.Bool.Decides.{nat_tests}
-use Rattle.std.specs.Option.{option_or}
-use Rattle.std.specs.Prelude.{◌==◌, if◌then◌else◌, slice_index}
+use Rattle.std.{proofs.lemmas.Bool.Decides.nat_tests, specs.{Option.option_or, Prelude.{◌==◌, if◌then◌else◌, slice_index}}}
 use Rattle.npf_fields.specs.Field.{number16}
-use Rattle.npf_types.specs.declared.address.Addr.{Addr}
-use Rattle.npf_types.specs.declared.address.Addr.TheVariants.{V4, V6}
-use Rattle.npf_types.specs.declared.change.Change.{Change}
-use Rattle.npf_types.specs.declared.facts.Facts.{Facts}
-use Rattle.npf_types.specs.declared.facts.L4.{L4}
+use Rattle.npf_types.specs.declared.{address.Addr.{Addr, TheVariants.{V4, V6}}, change.Change.Change, facts.{Facts.Facts, L4.L4}}
 use Rattle.npf_types.specs.declared.facts.L4.TheVariants.{Tcp, Udp, Icmp, Icmp6, Other}
 use Rattle.npf_key.specs.Translated.{fitting}
 use Rattle.npf_packet.specs.Place.{least_ip_header, least_upper_header}
-use Rattle.npf_rewrite.specs.declared.word.WordAt.{WordAt}
-use Rattle.npf_rewrite.specs.Address.{end_words}
-use Rattle.npf_rewrite.specs.Sum.{sum_after}
+use Rattle.npf_rewrite.specs.{declared.word.WordAt.WordAt, Address.end_words, Sum.sum_after}
 use Rattle.npf_rewrite.specs.Translated.{Translated, destination_at, header_sum, new_ends, port_writes, source_at, upper_sum}
 use Rattle.npf_rewrite.specs.Verified.{HasBytes, HasSum, HeaderSumFollows, PortFits, PortsFit, UpperSumFollows, addresses_total, carried_total, counted_total, words_total}
-use Rattle.npf_rewrite.specs.Word.{byte_there, named_word, word, word_list}
-use Rattle.npf_rewrite.proofs.EndLemmas.{address_size, end-between, end-fits, end-inside, shifts}
-use Rattle.npf_rewrite.proofs.PlacedLemmas.{addresses-there, carried-there, laid, made, options-same, sum-there, unless}
-use Rattle.npf_rewrite.proofs.PortLemmas.{ports, ports-between}
-use Rattle.npf_rewrite.proofs.TotalLemmas.{AllFit, Between, Inside, after, after-elsewhere, fit-append, header-total, inside-append, news, news-append, olds, olds-append, sum_after-follows, words_total-after, words_total-same}
+use Rattle.npf_rewrite.{specs.Word.{byte_there, named_word, word, word_list}, proofs.EndLemmas.{address_size, end-between, end-fits, end-inside, shifts}}
+use Rattle.npf_rewrite.proofs.{PlacedLemmas.{addresses-there, carried-there, laid, made, options-same, sum-there, unless}, PortLemmas.{ports, ports-between}}
+use Rattle.npf_rewrite.proofs.TotalLemmas.{AllFit, Between, Inside, after, after-elsewhere, fit-append, header-total, inside-append, news, news-append}
+use Rattle.npf_rewrite.proofs.TotalLemmas.{olds, olds-append, sum_after-follows, words_total-after, words_total-same}
 
 -- the byte that is left behind whole words
 abbrev pub left_total : (ℕ → ℕ) → ℕ → ℕ → ℕ
@@ -255,7 +246,7 @@ with_identifier l4 m None fits long = record {
   fit = tt;
 }
 
-either-fits : (a b : Option ℕ) → PortFits a → PortFits b → PortFits (option_or a b)
+pub either-fits : (a b : Option ℕ) → PortFits a → PortFits b → PortFits (option_or a b)
 either-fits (Some x) b p q = p
 either-fits None b p q = q
 

@@ -1,12 +1,8 @@
 -- The sum of words of which some are written.
 use Rattle.std.proofs.Common.{◌≡◌, ℕ, zero, suc, ◌+◌, ◌-◌, ◌*◌, ◌/◌, ◌%◌, ◌^◌, ◌<◌, ◌≤◌, ◌⊎◌, List, [], ◌∷◌, ◌++◌, refl, ap, ◌∙◌, inl, inr, arith}
-use Rattle.std.proofs.lemmas.Bool.Decides.{nat_tests}
-use Rattle.std.specs.Prelude.{⊤, slice_index}
+use Rattle.std.{proofs.lemmas.Bool.Decides.nat_tests, specs.Prelude.{⊤, slice_index}}
 use Rattle.npf_fields.specs.Field.{number16}
-use Rattle.npf_rewrite.specs.declared.word.WordAt.{WordAt}
-use Rattle.npf_rewrite.specs.Sum.{sum_after, sum_after_word}
-use Rattle.npf_rewrite.specs.Verified.{words_total}
-use Rattle.npf_rewrite.specs.Word.{byte_after, byte_there}
+use Rattle.npf_rewrite.specs.{declared.word.WordAt.WordAt, Sum.{sum_after, sum_after_word}, Verified.words_total, Word.{byte_after, byte_there}}
 
 -- the bytes once these words are written
 abbrev pub after : List WordAt → (ℕ → ℕ) → ℕ → ℕ

@@ -1,18 +1,11 @@
 -- A packet of which the headers say the same still decodes, whatever it carries then.
 use Rattle.std.proofs.Common.{◌≡◌, ℕ, ◌+◌, ◌/◌, ◌<◌, Bool, true, false, List, length, Ok, Err, refl, sym, ap, ◌∙◌, subst, arith}
-use Rattle.std.proofs.lemmas.Bool.Decides.{nat_tests}
-use Rattle.std.specs.Prelude.{Result, MatchResult, ◌==◌, nat_lt, if◌then◌else◌, slice_index}
+use Rattle.std.{proofs.lemmas.Bool.Decides.nat_tests, specs.Prelude.{Result, MatchResult, ◌==◌, nat_lt, if◌then◌else◌, slice_index}}
 use Rattle.npf_fields.specs.Field.{number16}
-use Rattle.npf_types.specs.declared.facts.Facts.{Facts}
-use Rattle.npf_types.specs.declared.link.Link.{Link}
-use Rattle.npf_types.specs.declared.link.Link.TheVariants.{Ethernet, Raw}
-use Rattle.npf_packet.specs.declared.decoded.Decoded.{Decoded}
-use Rattle.npf_packet.specs.declared.decoded.Decoded.TheVariants.{Ip}
-use Rattle.npf_packet.specs.Chain.{IsChain}
-use Rattle.npf_packet.specs.Decoding.{Decodes, DecodesIp, IsPacket, packet_at, version_behind}
-use Rattle.npf_packet.specs.Ipv4.{packet_v4}
-use Rattle.npf_packet.specs.Ipv6.{IsBehindChain, IsPacketV6, behind_last, end_v6, first_header, is_extension, next_header}
-use Rattle.npf_packet.specs.Upper.{Carries}
+use Rattle.npf_types.specs.declared.{facts.Facts.Facts, link.Link.{Link, TheVariants.{Ethernet, Raw}}}
+use Rattle.npf_packet.specs.{declared.decoded.Decoded.{Decoded, TheVariants.Ip}, Chain.IsChain}
+use Rattle.npf_packet.specs.{Decoder.{Decodes, DecodesIp, IsPacket, packet_at, version_behind}, Ipv4.packet_v4}
+use Rattle.npf_packet.specs.{Ipv6.{IsBehindChain, IsPacketV6, behind_last, end_v6, first_header, is_extension, next_header}, Upper.Carries}
 use Rattle.npf_packet.proofs.HeaderLemmas.{fields_v6, never_behind_v6, never_end_v6, of_ok}
 use Rattle.npf_rewrite.proofs.HeaderLemmas.{behind_last-is}
 

@@ -1,8 +1,7 @@
 -- Words that are written one after the other.
 use Rattle.std.proofs.Common.{◌≡◌, ℕ, ◌+◌, ◌<◌, List, [], ◌∷◌, ◌++◌, length, get_or, drop, refl, sym, ap, ◌∙◌, subst, drop-cons, add-one}
 use Rattle.std.specs.Prelude.{slice_index}
-use Rattle.npf_rewrite.specs.declared.word.WordAt.{WordAt}
-use Rattle.npf_rewrite.specs.Word.{AllWithin, Rewrites, byte_after, byte_there}
+use Rattle.npf_rewrite.specs.{declared.word.WordAt.WordAt, Word.{AllWithin, Rewrites, byte_after, byte_there}}
 
 pub byte_there-append : (ws vs : List WordAt) (at byte : ℕ)
     → byte_there (ws ++ vs) at byte ≡ byte_there vs at (byte_there ws at byte)

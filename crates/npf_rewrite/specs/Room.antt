@@ -3,7 +3,7 @@ use Rattle.std.specs.Prelude.{ℕ, ◌+◌, ◌^◌, ◌<◌, ◌≤◌, List, l
 use Rattle.npf_types.specs.declared.facts.Facts.{Facts}
 use Rattle.npf_types.specs.declared.link.Link.{Link}
 use Rattle.npf_packet.specs.declared.decoded.Decoded.TheVariants.{Ip}
-use Rattle.npf_packet.specs.Decoding.{Decodes}
+use Rattle.npf_packet.specs.Decoder.{Decodes}
 use Rattle.npf_rewrite.specs.declared.word.WordAt.{WordAt}
 use Rattle.npf_packet.specs.Place.{HasOptionAt, least_ip_header, least_upper_header}
 

@@ -9,7 +9,7 @@ use Rattle.npf_types.specs.declared.link.Link.{Link}
 use Rattle.npf_fields.specs.Field.{number16}
 use Rattle.npf_key.specs.Translated.{facts_there}
 use Rattle.npf_packet.specs.declared.decoded.Decoded.TheVariants.{Ip}
-use Rattle.npf_packet.specs.Decoding.{Decodes}
+use Rattle.npf_packet.specs.Decoder.{Decodes}
 use Rattle.npf_packet.specs.Field.{udp_checksum}
 use Rattle.npf_rewrite.specs.Lengths.{KeepsLengths}
 use Rattle.npf_rewrite.specs.NormalisedFacts.{ActionFits}

@@ -9,7 +9,7 @@ use Rattle.npf_types.specs.declared.facts.Facts.{Facts}
 use Rattle.npf_types.specs.declared.link.Link.{Link}
 use Rattle.npf_key.specs.Translated.{facts_there}
 use Rattle.npf_packet.specs.declared.decoded.Decoded.TheVariants.{Ip}
-use Rattle.npf_packet.specs.Decoding.{Decodes}
+use Rattle.npf_packet.specs.Decoder.{Decodes}
 use Rattle.npf_rewrite.specs.Translated.{Translated, new_ends}
 
 -- an address fits its family, as a program's does by its type

@@ -1,13 +1,8 @@
 -- What a binding leaves is what the rule and its ruleset, or the group, ask for.
 use Rattle.std.proofs.Common.{◌≡◌, Bool, true, false, ◌&&◌, Option, refl, ap, ◌∙◌}
-use Rattle.npf_types.specs.declared.direction.Dir.{Dir}
-use Rattle.npf_types.specs.declared.direction.Dir.TheVariants.{In, Out}
-use Rattle.npf_types.specs.declared.interface.IfId.{IfId}
-use Rattle.npf_model.specs.declared.rule.OnIf.{OnIf}
-use Rattle.npf_model.specs.Place.{fits_dir, fits_on}
-use Rattle.npf_model.specs.Verdict.{PlacedRule}
-use Rattle.npf_ruleset.specs.declared.binding.Binding.{Binding}
-use Rattle.npf_ruleset.specs.Binding.{IsBindingOf, IsBoundTo, is_bound}
+use Rattle.npf_types.specs.declared.{direction.Dir.{Dir, TheVariants.{In, Out}}, interface.IfId.IfId}
+use Rattle.npf_model.specs.{declared.rule.OnIf.OnIf, Place.{fits_dir, fits_on}, Verdict.PlacedRule}
+use Rattle.npf_ruleset.specs.{declared.binding.Binding.Binding, Binding.{IsBindingOf, IsBoundTo, is_bound}}
 
 in_order : (a b c d : Bool) → ((a && b) && c && d) ≡ (a && c && b && d)
 in_order true true true d = refl

@@ -1,26 +1,14 @@
 -- Rules that are compiled one after another, and what is laid out of them.
 use Rattle.std.proofs.Common.{◌≡◌, ◌<◌, ◌≤◌, ℕ, suc, ◌+◌, List, [], ◌∷◌, ◌++◌, Some, Result, Ok, Err, IfErr, IsErrAnd, All, length, take, drop, slice_get, refl, sym, subst, ap, ◌∙◌, inl, inr, arith}
-use Rattle.std.proofs.lemmas.Slice.Zip.{AllZip-long}
-use Rattle.std.proofs.lemmas.Bool.Decides.{leb_tells}
-use Rattle.std.proofs.lemmas.List.{append_assoc, length-append, length-map, map-append}
-use Rattle.std.specs.List.{AllZip}
-use Rattle.std.proofs.lemmas.List.Elements.{All-push}
-use Rattle.std.proofs.lemmas.List.Sums.{sum_by-cons}
-use Rattle.std.proofs.lemmas.Option.{get_or_from_slice_get, slice_get_within}
-use Rattle.npf_model.specs.declared.group.Group.{Group}
-use Rattle.npf_model.specs.Verdict.{PlacedRule, all_rules}
+use Rattle.std.{proofs.lemmas.{Slice.Zip.AllZip-long, Bool.Decides.leb_tells, List.{append_assoc, length-append, length-map, map-append}}, specs.List.AllZip}
+use Rattle.std.proofs.lemmas.{List.{Elements.All-push, Sums.sum_by-cons}, Option.{get_or_from_slice_get, slice_get_within}}
+use Rattle.npf_model.specs.{declared.group.Group.Group, Verdict.{PlacedRule, all_rules}}
 use Rattle.npf_bpf.specs.declared.insn.Insn.{Insn}
-use Rattle.npf_bpfgen.specs.declared.fault.GenFault.{GenFault}
+use Rattle.npf_bpfgen.specs.{declared.fault.GenFault.GenFault, Program.RefusesRule, ProgramLength.program_length}
 use Rattle.npf_bpfgen.specs.declared.fault.GenFault.TheVariants as Gen
-use Rattle.npf_bpfgen.specs.Program.{RefusesRule}
-use Rattle.npf_bpfgen.specs.ProgramLength.{program_length}
-use Rattle.npf_ruleset.specs.declared.flat.FlatRule.{FlatRule}
-use Rattle.npf_ruleset.specs.declared.place.Place.{Place}
-use Rattle.npf_ruleset.specs.Flat.{IsCompiled, IsFlatRule, instructions, instructions_of, programs_of}
-use Rattle.npf_ruleset.specs.Layout.{ArePlacesOf, StandsAt, fault_there}
-use Rattle.npf_ruleset.specs.Place.{IsPlaceOfRule, placed_at}
-use Rattle.npf_ruleset.specs.Refusal.{AreProgramsOf, IsLight, RefusesAllRules}
-use Rattle.npf_ruleset.proofs.LayoutLemmas.{around, up_to}
+use Rattle.npf_ruleset.specs.declared.{flat.FlatRule.FlatRule, place.RulePlace.RulePlace}
+use Rattle.npf_ruleset.specs.{Flat.{IsCompiled, IsFlatRule, instructions, instructions_of, programs_of}, Layout.{ArePlacesOf, StandsAt, fault_there}}
+use Rattle.npf_ruleset.{specs.{Place.{IsPlaceOfRule, placed_at}, Refusal.{AreProgramsOf, IsLight, RefusesAllRules}}, proofs.LayoutLemmas.{around, up_to}}
 use Rattle.npf_ruleset.proofs.PairLemmas.{drop_here, zip_append, zip_each}
 
 -- a fault that is handed on
@@ -58,7 +46,7 @@ pub instructions_counted : (rules : List PlacedRule) (programs : List (List Insn
 instructions_counted rules programs are = counted_pairs rules programs are.each
 
 -- the rule of a place
-module _ (groups : List Group) (places : List Place) (are : ArePlacesOf groups places) (n : ℕ) (place : Place) (here : slice_get places n ≡ Some place) where
+module _ (groups : List Group) (places : List RulePlace) (are : ArePlacesOf groups places) (n : ℕ) (place : RulePlace) (here : slice_get places n ≡ Some place) where
   pub rule_here : (placed : PlacedRule) × (slice_get (all_rules groups) n ≡ Some placed)
   rule_here =
       let len = AllZip-long (StandsAt groups) (all_rules groups) places are in
@@ -103,7 +91,7 @@ at_end [] ys x = refl
 at_end (y ∷ xs) ys x = at_end xs ys x
 
 -- of the programs these are left, the others were laid out
-module _ (groups : List Group) (places : List Place) (are : ArePlacesOf groups places) (programs : List (List Insn)) (compiled : AreProgramsOf (all_rules groups) programs)
+module _ (groups : List Group) (places : List RulePlace) (are : ArePlacesOf groups places) (programs : List (List Insn)) (compiled : AreProgramsOf (all_rules groups) programs)
     (flats : List FlatRule) (program : List Insn) (rest : List (List Insn)) (left : programs ≡ programs_of flats ++ program ∷ rest) where
   next_program : slice_get programs (length flats) ≡ Some program
   next_program =

@@ -1,31 +1,21 @@
 -- A group without a `final` rule is laid out as rules of which none is `final`, and so none decides at once.
-use Rattle.std.proofs.Common.{◌≡◌, ℕ, ◌+◌, Bool, true, false, ◌||◌, List, [], ◌∷◌, None, All, flat_map, map, refl, sym, subst, ◌∙◌, true≢false}
-use Rattle.std.specs.List.{AllZip, list_any}
-use Rattle.std.proofs.lemmas.List.Concat.{flat_map-cons}
-use Rattle.std.proofs.lemmas.List.Elements.{All-nil, All-cons, All-head, All-tail, All-append}
-use Rattle.npf_model.specs.declared.group.Group.{Group}
-use Rattle.npf_model.specs.declared.group.Item.{Item}
-use Rattle.npf_model.specs.declared.group.Item.TheVariants.{One, Dynamic}
-use Rattle.npf_model.specs.declared.rule.Rule.{Rule}
+use Rattle.std.{proofs.Common.{◌≡◌, ℕ, ◌+◌, false, List, [], ◌∷◌, None, All, flat_map, map, refl, sym, subst, ◌∙◌}, specs.List.{AllZip, list_any}}
+use Rattle.std.proofs.lemmas.{List.{Concat.flat_map-cons, Elements.{All-nil, All-cons, All-head, All-tail, All-append}}, Bool.or_parts}
+use Rattle.npf_model.specs.declared.{group.{Group.Group, Item.{Item, TheVariants.{One, Dynamic}}}, rule.Rule.Rule}
 use Rattle.npf_model.specs.Verdict.{PlacedRule, first_where, rules_at, rules_of}
-use Rattle.npf_ruleset.specs.declared.flat.FlatRule.{FlatRule}
-use Rattle.npf_ruleset.specs.declared.packet.Packet.{Packet}
-use Rattle.npf_ruleset.specs.Flat.{IsFlatRule, has_final, item_has_final}
+use Rattle.npf_ruleset.specs.{declared.{flat.FlatRule.FlatRule, packet.PacketView.PacketView}, Flat.{IsFlatRule, has_final, item_has_final}}
 use Rattle.npf_ruleset.specs.Packet.{flat_decides}
 
 abbrev IsNotFinal : PlacedRule → Type 0
 IsNotFinal placed = placed.rule.last ≡ false
 
-neither : (a b : Bool) → (a || b) ≡ false → (a ≡ false) × (b ≡ false)
-neither true b is = absurd (true≢false is)
-neither false b is = (refl, is)
-
 in_ruleset : (dir : _) (on : _) (rules : List (ℕ × Rule)) → list_any (λ numbered. numbered.1.last) rules ≡ false
     → All IsNotFinal (map (λ numbered. record { within_dir = dir; within_on = on; rule = numbered.1 }) rules)
 in_ruleset dir on [] none = All-nil IsNotFinal
 in_ruleset dir on (r ∷ rs) none =
-    let parts = neither r.1.last (list_any (λ numbered. numbered.1.last) rs) none in
-    All-cons IsNotFinal (record { within_dir = dir; within_on = on; rule = r.1 }) (map (λ numbered. record { within_dir = dir; within_on = on; rule = numbered.1 }) rs) parts.0 (in_ruleset dir on rs parts.1)
+    let parts = or_parts r.1.last (list_any (λ numbered. numbered.1.last) rs) none in
+    All-cons IsNotFinal (record { within_dir = dir; within_on = on; rule = r.1 })
+    (map (λ numbered. record { within_dir = dir; within_on = on; rule = numbered.1 }) rs) parts.0 (in_ruleset dir on rs parts.1)
 
 in_item : (item : Item) → item_has_final item ≡ false → All IsNotFinal (rules_at item)
 in_item (One rule) none = All-cons IsNotFinal (record { within_dir = None; within_on = None; rule = rule }) [] none (All-nil IsNotFinal)
@@ -34,7 +24,7 @@ in_item (Dynamic name dir on next_id rules) none = in_ruleset dir on rules none
 in_items : (items : List Item) → list_any item_has_final items ≡ false → All IsNotFinal (flat_map rules_at items)
 in_items [] none = All-nil IsNotFinal
 in_items (item ∷ items) none =
-    let parts = neither (item_has_final item) (list_any item_has_final items) none in
+    let parts = or_parts (item_has_final item) (list_any item_has_final items) none in
     subst (All IsNotFinal) (sym (flat_map-cons rules_at item items)) (All-append IsNotFinal (rules_at item) (flat_map rules_at items) (in_item item parts.0) (in_items items parts.1))
 
 laid_out : (groups : List Group) (placed : List PlacedRule) (flats : List FlatRule) → AllZip (IsFlatRule groups) placed flats → All IsNotFinal placed
@@ -49,7 +39,7 @@ pub none_final : (groups : List Group) (group : Group) (flats : List FlatRule) �
     → All (λ (flat : FlatRule). flat.last ≡ false) flats
 none_final groups group flats all none = laid_out groups (rules_of group) flats all (in_items group.items none)
 
-pub none_decides : (packet : Packet) (n : ℕ) (flats : List FlatRule) → All (λ (flat : FlatRule). flat.last ≡ false) flats → first_where (flat_decides packet) n flats ≡ None
+pub none_decides : (packet : PacketView) (n : ℕ) (flats : List FlatRule) → All (λ (flat : FlatRule). flat.last ≡ false) flats → first_where (flat_decides packet) n flats ≡ None
 none_decides packet n [] none = refl
 none_decides packet n (f ∷ fs) none =
     rw (All-head (λ (flat : FlatRule). flat.last ≡ false) f fs none) (none_decides packet (n + 1) fs (All-tail (λ (flat : FlatRule). flat.last ≡ false) f fs none))

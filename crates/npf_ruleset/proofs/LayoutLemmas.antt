@@ -1,20 +1,11 @@
 -- Places that are laid out part after part.
 use Rattle.std.proofs.Common.{◌≡◌, ◌≤◌, ℕ, zero, suc, ◌+◌, List, [], ◌∷◌, ◌++◌, Some, length, take, drop, slice_get, flat_map, option_and_then, refl, sym, subst, ap, ◌∙◌, arith}
-use Rattle.std.proofs.lemmas.Slice.Zip.{AllZip-long}
-use Rattle.std.specs.List.{AllZip}
-use Rattle.std.specs.Prelude.{unwrap_or}
-use Rattle.std.proofs.Math.Seq.{take-length, take-suc}
-use Rattle.std.proofs.lemmas.List.{append_assoc, append-nil, length-append, take-append-drop}
-use Rattle.std.proofs.lemmas.List.Concat.{flat_map-cons}
+use Rattle.std.{proofs.{lemmas.Slice.Zip.AllZip-long, Math.Seq.{take-length, take-suc}}, specs.{List.AllZip, Prelude.unwrap_or}}
+use Rattle.std.proofs.lemmas.List.{append_assoc, append-nil, length-append, take-append-drop, Concat.flat_map-cons}
 use Rattle.std.proofs.lemmas.Option.{get_or_from_slice_get, slice_get_within}
-use Rattle.npf_model.specs.declared.group.Group.{Group}
-use Rattle.npf_model.specs.declared.group.Item.{Item}
-use Rattle.npf_model.specs.Verdict.{PlacedRule, rules_at}
-use Rattle.npf_ruleset.specs.declared.flat.FlatGroup.{FlatGroup}
-use Rattle.npf_ruleset.specs.declared.place.Place.{Place}
-use Rattle.npf_ruleset.specs.Flat.{IsFlatGroup}
-use Rattle.npf_ruleset.specs.Layout.{AddsPlaces, StandsAt, places_from, rules_in_group}
-use Rattle.npf_ruleset.specs.Place.{rules_in, standing_rules}
+use Rattle.npf_model.specs.{declared.group.{Group.Group, Item.Item}, Verdict.{PlacedRule, rules_at}}
+use Rattle.npf_ruleset.specs.{declared.{flat.FlatGroup.FlatGroup, place.RulePlace.RulePlace}, Flat.IsFlatGroup}
+use Rattle.npf_ruleset.specs.{Layout.{AddsPlaces, StandsAt, places_from, rules_in_group}, Place.{rules_in, standing_rules}}
 use Rattle.npf_ruleset.proofs.PairLemmas.{drop_here, zip_append}
 
 -- an element parts a list into what is in front of it and what is behind it
@@ -37,28 +28,29 @@ module _ {X : Type 0} (xs : List X) (n : ℕ) (x : X) (at : slice_get xs n ≡ S
 module _ {X Y : Type 0} (f : X → List Y) where
   spread_append : (xs ys : List X) → flat_map f (xs ++ ys) ≡ flat_map f xs ++ flat_map f ys
   spread_append [] ys = refl
-  spread_append (x ∷ xs) ys = flat_map-cons f x (xs ++ ys) ∙ ap (λ zs. f x ++ zs) (spread_append xs ys) ∙ sym (append_assoc (f x) (flat_map f xs) (flat_map f ys)) ∙ sym (ap (λ zs. zs ++ flat_map f ys) (flat_map-cons f x xs))
+  spread_append (x ∷ xs) ys = flat_map-cons f x (xs ++ ys) ∙ ap (λ zs. f x ++ zs) (spread_append xs ys)
+      ∙ sym (append_assoc (f x) (flat_map f xs) (flat_map f ys)) ∙ sym (ap (λ zs. zs ++ flat_map f ys) (flat_map-cons f x xs))
 
   module _ (xs : List X) (n : ℕ) (x : X) (at : slice_get xs n ≡ Some x) where
     pub next_part : flat_map f (take (n + 1) xs) ≡ flat_map f (take n xs) ++ f x
     next_part = ap (flat_map f) (up_to xs n x at) ∙ spread_append (take n xs) (x ∷ []) ∙ ap (λ zs. flat_map f (take n xs) ++ zs) (flat_map-cons f x [] ∙ append-nil (f x))
 
 module _ (groups : List Group) where
-  pub adds_none : (old : List Place) → AddsPlaces groups [] old old
+  pub adds_none : (old : List RulePlace) → AddsPlaces groups [] old old
   adds_none old = record { added = []; are = sym (append-nil old); each = tt }
 
-  pub adds_both : (front behind : List PlacedRule) (old mid new : List Place) → AddsPlaces groups front old mid → AddsPlaces groups behind mid new → AddsPlaces groups (front ++ behind) old new
+  pub adds_both : (front behind : List PlacedRule) (old mid new : List RulePlace) → AddsPlaces groups front old mid → AddsPlaces groups behind mid new → AddsPlaces groups (front ++ behind) old new
   adds_both front behind old mid new one two = record {
     added = one.added ++ two.added;
     are = two.are ∙ ap (λ places. places ++ two.added) one.are ∙ append_assoc old one.added two.added;
     each = zip_append (StandsAt groups) front behind one.added two.added one.each two.each;
   }
 
-  pub adds_len : (rules : List PlacedRule) (old new : List Place) → AddsPlaces groups rules old new → length new ≡ length old + length rules
+  pub adds_len : (rules : List PlacedRule) (old new : List RulePlace) → AddsPlaces groups rules old new → length new ≡ length old + length rules
   adds_len rules old new adds = let len = AllZip-long (StandsAt groups) rules adds.added adds.each in let sum = length-append old adds.added in let whole = ap length adds.are in omega arith
 
   -- the places of an item's rules are numbered from the first one on
-  standing : (first : Place) (n : ℕ) → n ≤ length (standing_rules groups first) → AllZip (StandsAt groups) (take n (standing_rules groups first)) (places_from first n)
+  standing : (first : RulePlace) (n : ℕ) → n ≤ length (standing_rules groups first) → AllZip (StandsAt groups) (take n (standing_rules groups first)) (places_from first n)
   standing first zero within = tt
   standing first (suc n) within =
       let rules = standing_rules groups first in
@@ -66,7 +58,7 @@ module _ (groups : List Group) where
       subst (λ front. AllZip (StandsAt groups) front (places_from first (suc n))) (sym (up_to_next rules n found.0 found.2))
       (zip_append (StandsAt groups) (take n rules) (found.0 ∷ []) (places_from first n) ((record first { number = n }) ∷ []) (standing first n (omega arith)) (found.2, tt))
 
-  pub adds_item : (first : Place) (rules : List PlacedRule) → standing_rules groups first ≡ rules → (count : ℕ) → count ≡ length rules → (old new : List Place)
+  pub adds_item : (first : RulePlace) (rules : List PlacedRule) → standing_rules groups first ≡ rules → (count : ℕ) → count ≡ length rules → (old new : List RulePlace)
       → new ≡ old ++ places_from first count → AddsPlaces groups rules old new
   adds_item first rules are count all old new is =
       let stand = standing_rules groups first in

@@ -1,25 +1,14 @@
 -- A flat rule matches where the rule does that it stands for.
 use Rattle.std.proofs.Common.{◌≡◌, ℕ, ◌+◌, Bool, true, false, not, ◌&&◌, List, [], ◌∷◌, Option, Some, None, refl, sym, ap, ◌∙◌, arith, ◌==◌}
-use Rattle.std.specs.List.{AllZip}
-use Rattle.std.specs.Prelude.{if◌then◌else◌}
-use Rattle.std.specs.Option.{option_map, option_or}
-use Rattle.std.proofs.lemmas.Option.{none-some}
-use Rattle.npf_model.specs.declared.group.Group.{Group}
-use Rattle.npf_model.specs.Describes.{describes_packet}
-use Rattle.npf_model.specs.Place.{fits_dir, fits_on}
+use Rattle.std.{specs.{List.AllZip, Prelude.if◌then◌else◌, Option.{option_map, option_or}}, proofs.lemmas.Option.none-some}
+use Rattle.npf_model.specs.{declared.group.Group.Group, Describes.describes_packet, Place.{fits_dir, fits_on}}
 use Rattle.npf_model.specs.Verdict.{PlacedRule, decides, first_where, group_answer, last_where, matches}
 use Rattle.npf_bpfgen.specs.Premise.{AreBytes, IsSeen}
 use Rattle.npf_packet.specs.PacketField.{IsPacketOf}
 use Rattle.npf_bpf.specs.Value.{program_value}
-use Rattle.npf_ruleset.specs.declared.flat.FlatRule.{FlatRule}
-use Rattle.npf_ruleset.specs.declared.packet.Packet.{Packet}
-use Rattle.npf_ruleset.specs.Binding.{is_bound}
-use Rattle.npf_ruleset.specs.Flat.{IsFlatRule}
-use Rattle.npf_ruleset.specs.Packet.{coprocessor, flat_answer, flat_decides, flat_matches, is_other}
-use Rattle.npf_ruleset.specs.Row.{meets_row}
-use Rattle.npf_ruleset.specs.Tables.{entries}
-use Rattle.npf_ruleset.proofs.BindingLemmas.{bound_rule}
-use Rattle.npf_ruleset.proofs.PlaceLemmas.{first_from, last_from}
+use Rattle.npf_ruleset.specs.{declared.{flat.FlatRule.FlatRule, packet.PacketView.PacketView}, Binding.is_bound, Flat.IsFlatRule}
+use Rattle.npf_ruleset.specs.{Packet.{coprocessor, flat_answer, flat_decides, flat_matches, is_other}, Row.meets_row, Tables.entries}
+use Rattle.npf_ruleset.proofs.{BindingLemmas.bound_rule, PlaceLemmas.{first_from, last_from}}
 
 -- the exact tests of the binding and the program decide, since the row holds where the rule describes
 combined : (d1 o1 d2 o2 bound row described : Bool) (value : ℕ)
@@ -47,7 +36,7 @@ combined d1 o1 d2 o2 bound row false value is holds gives = rw is (rw gives (boo
     bools false b c d true = refl
     bools false b c d false = refl
 
-module _ (packet : Packet) (bytes : AreBytes packet.ip.now) (seen : IsPacketOf packet.ip.now packet.facts.now) where
+module _ (packet : PacketView) (bytes : AreBytes packet.ip.now) (seen : IsPacketOf packet.ip.now packet.facts.now) where
   told : IsSeen packet.ip.now (coprocessor packet) (entries packet.tables.now) packet.facts.now
   told = record {
     bytes = bytes;
@@ -60,8 +49,10 @@ module _ (packet : Packet) (bytes : AreBytes packet.ip.now) (seen : IsPacketOf p
         → flat_matches packet flat ≡ matches (entries packet.tables.now) packet.facts.now packet.ifid packet.dir placed
     matches_alike placed flat is =
         combined (fits_dir placed.within_dir packet.dir) (fits_on placed.within_on packet.ifid) (fits_dir placed.rule.dir packet.dir) (fits_on placed.rule.on packet.ifid)
-        (is_bound flat.binding packet.ifid packet.dir) (meets_row flat.row packet.facts.now) (describes_packet placed.rule (entries packet.tables.now) packet.facts.now) (program_value flat.program packet.ip.now (coprocessor packet))
-        (bound_rule placed flat.binding is.binding packet.ifid packet.dir) (is.row (entries packet.tables.now) packet.facts.now) (is.value packet.ip.now (coprocessor packet) (entries packet.tables.now) packet.facts.now told)
+        (is_bound flat.binding packet.ifid packet.dir) (meets_row flat.row packet.facts.now)
+        (describes_packet placed.rule (entries packet.tables.now) packet.facts.now) (program_value flat.program packet.ip.now (coprocessor packet))
+        (bound_rule placed flat.binding is.binding packet.ifid packet.dir) (is.row (entries packet.tables.now) packet.facts.now)
+        (is.value packet.ip.now (coprocessor packet) (entries packet.tables.now) packet.facts.now told)
 
     decides_alike : (placed : PlacedRule) (flat : FlatRule) → IsFlatRule groups placed flat
         → flat_decides packet flat ≡ decides (entries packet.tables.now) packet.facts.now packet.ifid packet.dir placed
@@ -99,7 +90,7 @@ module _ (packet : Packet) (bytes : AreBytes packet.ip.now) (seen : IsPacketOf p
         either n (Some k) q = refl
 
 -- without a match that is `final` the last match is the last of those that aren't
-pub last_of_others : (packet : Packet) (n m : ℕ) (flats : List FlatRule) → first_where (flat_decides packet) n flats ≡ None
+pub last_of_others : (packet : PacketView) (n m : ℕ) (flats : List FlatRule) → first_where (flat_decides packet) n flats ≡ None
     → last_where (is_other packet) m flats ≡ last_where (flat_matches packet) m flats
 last_of_others packet n m [] none = refl
 last_of_others packet n m (f ∷ fs) none =

@@ -1,7 +1,6 @@
 -- A list whose elements are changed in place, one after another.
 use Rattle.std.proofs.Common.{◌≡◌, ◌<◌, ℕ, suc, zero, ◌+◌, List, [], ◌∷◌, ◌++◌, length, map, take, drop, set, get_or, refl, sym, ap, ◌∙◌, arith}
-use Rattle.std.proofs.Math.Seq.{take-suc, take-suc-set, drop-drop}
-use Rattle.std.proofs.lemmas.List.{get_or-drop, map-append}
+use Rattle.std.proofs.{Math.Seq.{take-suc, take-suc-set, drop-drop}, lemmas.List.{get_or-drop, map-append}}
 
 drop_set : {X : Type 0} (xs : List X) (i : ℕ) (x : X) → drop (suc i) (set xs i x) ≡ drop (suc i) xs
 drop_set [] i x = refl

@@ -1,32 +1,17 @@
 -- The flat rules of a configuration whose interfaces' numbers are set anew.
 use Rattle.std.proofs.Common.{◌≡◌, ◌≤◌, ℕ, All, ◌||◌, List, [], ◌∷◌, ◌++◌, Option, Some, None, length, map, flat_map, option_and_then, slice_get, refl, sym, subst, ap, ◌∙◌}
-use Rattle.std.specs.List.{AllZip, list_any}
-use Rattle.std.specs.Option.{option_map}
-use Rattle.std.proofs.lemmas.List.{length-map, map-append}
-use Rattle.std.proofs.lemmas.List.Concat.{flat_map-cons}
-use Rattle.std.proofs.lemmas.List.Elements.{All-map, All-weaker}
-use Rattle.std.proofs.lemmas.Option.{slice_get-map}
-use Rattle.std.proofs.lemmas.Slice.Zip.{AllZip-long}
-use Rattle.npf_types.specs.declared.direction.Dir.{Dir}
-use Rattle.npf_types.specs.declared.limits.TheConstants.{MAX_MAPS, MAX_RULES}
-use Rattle.npf_model.specs.declared.group.Group.{Group}
-use Rattle.npf_model.specs.declared.group.Item.{Item}
-use Rattle.npf_model.specs.declared.group.Item.TheVariants.{One, Dynamic}
-use Rattle.npf_model.specs.declared.iface.Iface.{Iface}
-use Rattle.npf_model.specs.declared.model.Model.{Model}
-use Rattle.npf_model.specs.declared.rule.OnIf.{OnIf}
+use Rattle.std.{specs.{List.{AllZip, list_any}, Option.option_map}, proofs.lemmas.List.{length-map, map-append, Concat.flat_map-cons}}
+use Rattle.std.proofs.lemmas.{List.Elements.{All-map, All-weaker}, Option.slice_get-map, Slice.Zip.AllZip-long}
+use Rattle.npf_types.specs.declared.{direction.Dir.Dir, limits.TheConstants.{MAX_MAPS, MAX_RULES}}
+use Rattle.npf_model.specs.declared.{group.{Group.Group, Item.{Item, TheVariants.{One, Dynamic}}}, iface.Iface.Iface, model.Model.Model, rule.OnIf.OnIf}
 use Rattle.npf_model.specs.declared.rule.Rule.{Rule}
 use Rattle.npf_model.specs.Numbering.{numbered, numbered_entry, numbered_group, numbered_item, numbered_map, numbered_on, numbered_rule}
 use Rattle.npf_model.specs.Verdict.{PlacedRule, all_rules, rules_at, rules_of}
 use Rattle.npf_bpf.specs.declared.insn.Insn.{Insn}
-use Rattle.npf_ruleset.specs.declared.flat.FlatGroup.{FlatGroup}
-use Rattle.npf_ruleset.specs.declared.flat.FlatRule.{FlatRule}
-use Rattle.npf_ruleset.specs.declared.place.Place.{Place}
+use Rattle.npf_ruleset.specs.declared.{flat.{FlatGroup.FlatGroup, FlatRule.FlatRule}, place.RulePlace.RulePlace}
 use Rattle.npf_ruleset.specs.Flat.{IsCompiled, IsFlat, IsFlatGroup, IsFlatRule, item_has_final, programs_of}
-use Rattle.npf_ruleset.specs.Numbered.{numbered_flat_group, numbered_flat_rule}
-use Rattle.npf_ruleset.specs.Place.{placed_at, rules_in}
-use Rattle.npf_ruleset.specs.Refusal.{IsBuildable, IsCompilable, IsLight, IsWithinLimits}
-use Rattle.npf_ruleset.proofs.PairLemmas.{zip_each, zip_of}
+use Rattle.npf_ruleset.specs.{Numbered.{numbered_flat_group, numbered_flat_rule}, Place.{placed_at, rules_in}}
+use Rattle.npf_ruleset.{specs.Refusal.{IsBuildable, IsCompilable, IsLight, IsWithinLimits}, proofs.PairLemmas.{zip_each, zip_of}}
 
 module _ (ifaces : List Iface) where
   numbered_placed : PlacedRule → PlacedRule
@@ -65,18 +50,20 @@ module _ (ifaces : List Iface) where
   at_item None n = slice_get-map (numbered_placed ifaces) [] n
   at_item (Some item) n = ap (λ rules. slice_get rules n) (in_item ifaces item) ∙ slice_get-map (numbered_placed ifaces) (rules_at item) n
 
-  at_group : (o : Option Group) (k : ℕ) → option_and_then (λ g. slice_get g.items k) (option_map (numbered_group ifaces) o) ≡ option_map (numbered_item ifaces) (option_and_then (λ g. slice_get g.items k) o)
+  at_group : (o : Option Group) (k : ℕ) →
+      option_and_then (λ g. slice_get g.items k) (option_map (numbered_group ifaces) o) ≡ option_map (numbered_item ifaces) (option_and_then (λ g. slice_get g.items k) o)
   at_group None k = refl
   at_group (Some group) k = slice_get-map (numbered_item ifaces) group.items k
 
-  at_place : (groups : List Group) (place : Place) → placed_at (map (numbered_group ifaces) groups) place ≡ option_map (numbered_placed ifaces) (placed_at groups place)
+  at_place : (groups : List Group) (place : RulePlace) → placed_at (map (numbered_group ifaces) groups) place ≡ option_map (numbered_placed ifaces) (placed_at groups place)
   at_place groups place =
       ap (λ o. slice_get (rules_in (option_and_then (λ g. slice_get g.items place.item) o)) place.number) (slice_get-map (numbered_group ifaces) groups place.group)
       ∙ ap (λ o. slice_get (rules_in o) place.number) (at_group (slice_get groups place.group) place.item)
       ∙ at_item (option_and_then (λ g. slice_get g.items place.item) (slice_get groups place.group)) place.number
 
   module _ (groups : List Group) where
-    rule_numbered : (placed : PlacedRule) (flat : FlatRule) → IsFlatRule groups placed flat → IsFlatRule (map (numbered_group ifaces) groups) (numbered_placed ifaces placed) (numbered_flat_rule ifaces flat)
+    rule_numbered : (placed : PlacedRule) (flat : FlatRule) → IsFlatRule groups placed flat →
+        IsFlatRule (map (numbered_group ifaces) groups) (numbered_placed ifaces placed) (numbered_flat_rule ifaces flat)
     unfolding numbered_placed
     rule_numbered placed flat is = record {
       place = at_place groups flat.place ∙ ap (option_map (numbered_placed ifaces)) is.place;

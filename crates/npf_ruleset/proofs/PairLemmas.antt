@@ -1,8 +1,6 @@
 -- Two lists whose elements are related place by place.
 use Rattle.std.proofs.Common.{◌≡◌, ◌<◌, ℕ, zero, suc, List, [], ◌∷◌, ◌++◌, Some, length, take, drop, refl, subst, ap, arith, slice_get}
-use Rattle.std.specs.Prelude.{unwrap_or}
-use Rattle.std.specs.List.{AllZip}
-use Rattle.std.proofs.lemmas.Option.{none-some}
+use Rattle.std.{specs.{Prelude.unwrap_or, List.AllZip}, proofs.lemmas.Option.none-some}
 
 module _ {X Y : Type 0} (Rel : X → Y → Type 0) where
   pub zip_of : (xs : List X) (ys : List Y) → length ys ≡ length xs → ((k : ℕ) (x : X) (y : Y) → slice_get xs k ≡ Some x → slice_get ys k ≡ Some y → Rel x y) → AllZip Rel xs ys

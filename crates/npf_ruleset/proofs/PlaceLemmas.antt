@@ -1,10 +1,7 @@
 -- The first and the last place of what passes a test.
-use Rattle.std.proofs.Common.{◌≡◌, ◌<◌, ◌≤◌, ℕ, suc, ◌+◌, Bool, true, false, List, [], ◌∷◌, ◌++◌, Option, Some, None, length, get_or, take, drop, refl, sym, subst, ap, ◌∙◌, arith, inl, inr, drop_of_length-le}
-use Rattle.std.specs.Prelude.{if◌then◌else◌}
-use Rattle.std.specs.Option.{option_map, option_or}
-use Rattle.std.proofs.Math.Seq.{drop-cons, take-suc, take-length}
-use Rattle.std.proofs.Math.Nat.{min-eq_left}
-use Rattle.std.proofs.lemmas.List.{length-take}
+use Rattle.std.proofs.Common.{◌≡◌, ◌<◌, ◌≤◌, ℕ, suc, ◌+◌, Bool, true, false, List, [], ◌∷◌, ◌++◌, Option, Some, None, length, get_or, take}
+use Rattle.std.{proofs.Common.{drop, refl, sym, subst, ap, ◌∙◌, arith, inl, inr, drop_of_length-le}, specs.Prelude.if◌then◌else◌}
+use Rattle.std.{specs.Option.{option_map, option_or}, proofs.{Math.{Seq.{drop-cons, take-suc, take-length}, Nat.min-eq_left}, lemmas.List.length-take}}
 use Rattle.std.proofs.lemmas.Bool.{cases_Bool}
 use Rattle.npf_model.specs.Verdict.{first_where, last_where}
 
@@ -70,7 +67,8 @@ module _ {X : Type 0} (test : X → Bool) where
   pub last_before : (n : ℕ) (xs : List X) (x : X) → n < length xs → x ≡ get_or xs n x → test x ≡ false
       → last_where test 0 (take (suc n) xs) ≡ last_where test 0 (take n xs)
   last_before n xs x lt is fails =
-      rw (take-suc xs n x lt) (rw (last_snoc 0 (take n xs) (get_or xs n x)) (subst (λ y. (if test y then Some (0 + length (take n xs)) else last_where test 0 (take n xs)) ≡ last_where test 0 (take n xs)) is
+      rw (take-suc xs n x lt)
+      (rw (last_snoc 0 (take n xs) (get_or xs n x)) (subst (λ y. (if test y then Some (0 + length (take n xs)) else last_where test 0 (take n xs)) ≡ last_where test 0 (take n xs)) is
       (rw fails refl)))
 
   -- and none decides that was taken away

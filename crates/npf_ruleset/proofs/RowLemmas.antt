@@ -1,25 +1,14 @@
 -- A packet that a rule describes meets the rule's row.
-use Rattle.std.proofs.Common.{◌≡◌, ◌<◌, ◌≤◌, ℕ, ◌+◌, ◌*◌, ◌-◌, ◌/◌, ◌%◌, ◌^◌, Bool, true, false, ◌&&◌, ◌||◌, ◌==◌, nat_le, List, Option, Some, None, length, get_or, take, max, min, bit_or, refl, sym, subst, ap, ◌∙◌, arith, true≢false}
-use Rattle.std.specs.Int.{bit_at}
-use Rattle.std.specs.List.{list_any}
-use Rattle.std.specs.Cmp.Derive.{both_true}
-use Rattle.std.proofs.Math.Nat.{div-lt_iff_lt-mul, div-mul-le_self, lt-div-mul-add, max-eq_left, max-eq_right, mod-eq_of_lt}
-use Rattle.std.proofs.Math.Pow.{pow-lt, shr_mono}
-use Rattle.std.proofs.lemmas.Bool.{and_parts, eq-eqb, eqb-true, le-leb}
-use Rattle.std.proofs.lemmas.List.Folds.{list_any_more}
-use Rattle.std.proofs.lemmas.Nat.{pow-add, pow_pos}
+use Rattle.std.proofs.Common.{◌≡◌, ◌<◌, ◌≤◌, ℕ, ◌+◌, ◌*◌, ◌-◌, ◌/◌, ◌%◌, ◌^◌, Bool, true, false, ◌&&◌, ◌||◌, ◌==◌, nat_le, List, Option, Some, None}
+use Rattle.std.{proofs.Common.{length, get_or, take, max, min, bit_or, refl, sym, subst, ap, ◌∙◌, arith, true≢false}, specs.{Int.bit_at, List.list_any}}
+use Rattle.std.{specs.Cmp.Derive.both_true, proofs.Math.Nat.{div-lt_iff_lt-mul, div-mul-le_self, lt-div-mul-add, max-eq_left, max-eq_right, mod-eq_of_lt}}
+use Rattle.std.proofs.{Math.Pow.{pow-lt, shr_mono}, lemmas.{Bool.{and_parts, eq-eqb, eqb-true, le-leb}, List.Folds.list_any_more, Nat.{pow-add, pow_pos}}}
 use Rattle.std.proofs.lemmas.Nat.Bits.{bit_at-lt, bit_at-pow_same, bit_at_ones, bit_at_or}
-use Rattle.npf_types.specs.declared.address.Addr.{Addr}
-use Rattle.npf_types.specs.declared.address.Addr.TheVariants.{V4, V6}
-use Rattle.npf_types.specs.Address.{shares_first}
-use Rattle.npf_types.specs.declared.prefix.Prefix.{Prefix}
-use Rattle.npf_model.specs.declared.ends.AddrItem.{AddrItem}
-use Rattle.npf_model.specs.declared.ends.AddrItem.TheVariants.{Net}
-use Rattle.npf_model.specs.declared.rule.Rule.{Rule}
+use Rattle.npf_types.specs.{declared.{address.Addr.{Addr, TheVariants.{V4, V6}}, prefix.Prefix.Prefix}, Address.shares_first}
+use Rattle.npf_model.specs.declared.{ends.AddrItem.{AddrItem, TheVariants.Net}, rule.Rule.Rule}
 use Rattle.npf_model.specs.Describes.{destination_of, fits_addrs, fits_ends, fits_family, fits_flags, fits_icmp, fits_ports, fits_protocol, in_range, item_has, source_of}
 use Rattle.npf_model.specs.MapOf.{fits_side_port}
-use Rattle.npf_ruleset.specs.declared.addr_hull.AddrHull.{AddrHull}
-use Rattle.npf_ruleset.specs.declared.row.Row.{Row}
+use Rattle.npf_ruleset.specs.declared.{addr_hull.AddrHull.AddrHull, row.Row.Row}
 use Rattle.npf_ruleset.specs.Row.{HasProtocols, IsEndRowOf, IsHullOfAddrs, IsHullOfBits, IsHullOfPorts, IsRowOf, IsWithin, IsWithinRange, hull_number, in_hull}
 
 -- what follows of the elements so far and of the next one follows of all up to it

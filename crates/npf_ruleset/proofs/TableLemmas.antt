@@ -1,19 +1,11 @@
 -- A look-up in the tables answers what the lists of their blocks say.
 use Rattle.std.proofs.Common.{◌≡◌, ◌↔◌, ◌<◌, ◌≤◌, ℕ, Bool, true, false, IsTrue, List, [], ◌∷◌, length, get_or, refl, sym, subst, ap, ◌∙◌, arith, true≢false, suc, inl, inr}
-use Rattle.std.specs.Prelude.{◌||◌}
-use Rattle.std.specs.Option.{option_map}
-use Rattle.std.specs.Arc.{arc_value}
-use Rattle.std.specs.declared.sync.Arc.{Arc}
-use Rattle.std.proofs.lemmas.Bool.{cases_Bool, eq-eqb, eqb-true, false_from_ne_true}
-use Rattle.std.proofs.lemmas.List.Folds.{list_any_at}
+use Rattle.std.specs.{Prelude.◌||◌, Option.option_map, Arc.arc_value, declared.sync.Arc.Arc}
+use Rattle.std.proofs.lemmas.{Bool.{cases_Bool, eq-eqb, eqb-true, false_from_ne_true}, List.Folds.list_any_at}
 use Rattle.std.proofs.lemmas.Option.{slice_get_past, slice_get_read, slice_get-map}
-use Rattle.npf_types.specs.declared.address.Addr.{Addr}
-use Rattle.npf_types.specs.declared.address.Addr.TheVariants.{V4, V6}
-use Rattle.npf_types.specs.declared.prefix.Prefix.{Prefix}
-use Rattle.npf_types.specs.Address.{SharesFirst, first_bits, shares_first}
+use Rattle.npf_types.specs.{declared.{address.Addr.{Addr, TheVariants.{V4, V6}}, prefix.Prefix.Prefix}, Address.{SharesFirst, first_bits, shares_first}}
 use Rattle.npf_types.specs.Prefix.{Covers, covers, has_address}
-use Rattle.npf_table.specs.declared.table.Table.{Table}
-use Rattle.npf_table.specs.Table.{prefixes}
+use Rattle.npf_table.specs.{declared.table.Table.Table, Table.prefixes}
 use Rattle.npf_model.specs.Describes.{entries_have, table_has}
 use Rattle.npf_ruleset.specs.Tables.{entries}
 
@@ -57,7 +49,8 @@ module _ {Z : Type 0} (tables : List (Arc Table Z)) (number : ℕ) (addr : Addr)
       → (IsTrue found ↔ Covers (prefixes (arc_value table)) addr) → found ≡ table_has (entries tables) number addr
   found_in_table table found lt is there =
       covered (prefixes (arc_value table)) addr found there
-      ∙ sym (ap (λ t. entries_have t addr) (slice_get-map (λ t. prefixes (arc_value t)) tables number ∙ ap (option_map (λ t. prefixes (arc_value t))) (slice_get_read tables (length tables) number table refl lt is)))
+      ∙ sym (ap (λ t. entries_have t addr) (slice_get-map (λ t. prefixes (arc_value t)) tables number
+      ∙ ap (option_map (λ t. prefixes (arc_value t))) (slice_get_read tables (length tables) number table refl lt is)))
 
   pub found_nowhere : length tables ≤ number → false ≡ table_has (entries tables) number addr
   found_nowhere past =

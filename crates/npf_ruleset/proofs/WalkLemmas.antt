@@ -1,38 +1,24 @@
 -- A walk over the flat rules gives the configuration's verdict.
-use Rattle.std.proofs.Common.{◌≡◌, ◌≤◌, ℕ, ◌+◌, Bool, true, false, List, [], ◌∷◌, ◌++◌, All, Option, Some, None, length, take, drop, refl, sym, subst, ap, ◌∙◌, arith, suc, slice_get, drop_of_length-le}
-use Rattle.std.specs.List.{AllZip}
-use Rattle.std.proofs.lemmas.List.{length-append, length-drop}
-use Rattle.std.proofs.lemmas.Option.{slice_get_within}
-use Rattle.std.specs.Prelude.{if◌then◌else◌}
-use Rattle.std.specs.Option.{option_map, option_or}
-use Rattle.npf_model.specs.declared.group.Group.{Group}
-use Rattle.npf_model.specs.Verdict.{all_rules, group_answer, rules_of, verdict}
-use Rattle.npf_model.specs.Configuration.{verdict_of}
+use Rattle.std.proofs.Common.{◌≡◌, ◌≤◌, ℕ, ◌+◌, Bool, true, false, List, [], ◌∷◌, ◌++◌, All, Option, Some, None, length, take, drop}
+use Rattle.std.{proofs.Common.{refl, sym, subst, ap, ◌∙◌, arith, suc, slice_get, drop_of_length-le}, specs.List.AllZip}
+use Rattle.std.{proofs.lemmas.{List.{length-append, length-drop}, Option.slice_get_within}, specs.{Prelude.if◌then◌else◌, Option.{option_map, option_or}}}
+use Rattle.npf_model.specs.{declared.group.Group.Group, Verdict.{all_rules, group_answer, rules_of, verdict}, Configuration.verdict_of}
 use Rattle.npf_bpfgen.specs.Premise.{AreBytes}
 use Rattle.npf_packet.specs.PacketField.{IsPacketOf}
-use Rattle.npf_ruleset.specs.declared.config.Config.{Config}
-use Rattle.npf_ruleset.specs.declared.flat.FlatGroup.{FlatGroup}
-use Rattle.npf_ruleset.specs.declared.flat.FlatRule.{FlatRule}
-use Rattle.npf_ruleset.specs.declared.packet.Packet.{Packet}
-use Rattle.npf_ruleset.specs.Binding.{is_bound}
-use Rattle.npf_ruleset.specs.Configuration.{configuration}
-use Rattle.npf_ruleset.specs.Flat.{IsFlatGroup, IsFlatRule}
-use Rattle.npf_ruleset.specs.Packet.{answer_in, flat_answer}
-use Rattle.npf_ruleset.specs.Tables.{entries}
-use Rattle.npf_ruleset.proofs.BindingLemmas.{bound_group}
-use Rattle.npf_ruleset.proofs.FinalLemmas.{none_final}
+use Rattle.npf_ruleset.specs.{declared.{config.Config.Config, flat.{FlatGroup.FlatGroup, FlatRule.FlatRule}, packet.PacketView.PacketView}, Binding.is_bound}
+use Rattle.npf_ruleset.specs.{Configuration.configuration, Flat.{IsFlatGroup, IsFlatRule}, Packet.{answer_in, flat_answer}, Tables.entries}
+use Rattle.npf_ruleset.proofs.{BindingLemmas.bound_group, FinalLemmas.none_final, PairLemmas.{drop_here, zip_behind, zip_front, zip_of}}
 use Rattle.std.proofs.lemmas.Slice.Zip.{AllZip-long}
-use Rattle.npf_ruleset.proofs.PairLemmas.{drop_here, zip_behind, zip_front, zip_of}
 use Rattle.npf_ruleset.proofs.MatchLemmas.{answer_alike}
 
 -- what is left of a walk: the groups from a place on, and their rules
-pub record Remains (config : Config) (packet : Packet) (first index : ℕ) (rules : List FlatRule) : Type 0 where
+pub record Remains (config : Config) (packet : PacketView) (first index : ℕ) (rules : List FlatRule) : Type 0 where
   pub verdict_is : verdict_of (configuration config) packet.facts.now packet.ifid packet.dir
       ≡ verdict (entries packet.tables.now) packet.facts.now packet.ifid packet.dir first (drop index config.model.groups)
   pub related : AllZip (IsFlatRule config.model.groups) (all_rules (drop index config.model.groups)) rules
   pub room : first + length rules ≡ length config.rules
 
-module _ (config : Config) (packet : Packet) where
+module _ (config : Config) (packet : PacketView) where
   pub begins : packet.tables.now ≡ config.tables.items → Remains config packet 0 0 config.rules
   begins same = record {
     verdict_is = ap (λ tables. verdict (entries tables) packet.facts.now packet.ifid packet.dir 0 config.model.groups) (sym same);
@@ -85,14 +71,17 @@ module _ (config : Config) (packet : Packet) where
           ∙ ap (verdict (entries packet.tables.now) packet.facts.now packet.ifid packet.dir first) here.1
           ∙ rw (sym (bound_group here.0.dir here.0.on flat.binding stands.binding packet.ifid packet.dir)) (rw (sym stands.count) (
           ap (λ o. option_or o (verdict (entries packet.tables.now) packet.facts.now packet.ifid packet.dir (first + flat.count) (drop (suc index) config.model.groups)))
-          (applied (is_bound flat.binding packet.ifid packet.dir) (group_answer (entries packet.tables.now) packet.facts.now packet.ifid packet.dir first (rules_of here.0)) (flat_answer packet (take flat.count rules)) (answer_alike packet bytes seen config.model.groups first (rules_of here.0) (take flat.count rules) inside))))
+          (applied (is_bound flat.binding packet.ifid packet.dir) (group_answer (entries packet.tables.now) packet.facts.now packet.ifid packet.dir first (rules_of here.0))
+          (flat_answer packet (take flat.count rules)) (answer_alike packet bytes seen config.model.groups first (rules_of here.0) (take flat.count rules) inside))))
         where
           applied : (b : Bool) (o q : Option ℕ) → o ≡ option_map (λ k. first + k) q → (if b then o else None) ≡ option_map (λ k. first + k) (if b then q else None)
           applied true o q same = same
           applied false o q same = refl
 
       pub decided : (at : ℕ) → Some at ≡ answer_in packet flat (take flat.count rules) → Some (first + at) ≡ verdict_of (configuration config) packet.facts.now packet.ifid packet.dir
-      decided at answer = sym (divided ∙ sym (ap (λ o. option_or (option_map (λ k. first + k) o) (verdict (entries packet.tables.now) packet.facts.now packet.ifid packet.dir (first + flat.count) (drop (suc index) config.model.groups))) answer))
+      decided at answer = sym (divided ∙ sym
+          (ap (λ o. option_or (option_map (λ k. first + k) o)
+          (verdict (entries packet.tables.now) packet.facts.now packet.ifid packet.dir (first + flat.count) (drop (suc index) config.model.groups))) answer))
 
       pub goes_on : None ≡ answer_in packet flat (take flat.count rules) → Remains config packet (first + flat.count) (index + 1) (drop flat.count rules)
       goes_on answer =
@@ -101,7 +90,9 @@ module _ (config : Config) (packet : Packet) where
           let len = length-drop flat.count rules in
           let room = left.room in
           subst (λ k. Remains config packet (first + flat.count) k (drop flat.count rules)) next (record {
-            verdict_is = divided ∙ sym (ap (λ o. option_or (option_map (λ k. first + k) o) (verdict (entries packet.tables.now) packet.facts.now packet.ifid packet.dir (first + flat.count) (drop (suc index) config.model.groups))) answer);
+            verdict_is = divided ∙ sym
+                (ap (λ o. option_or (option_map (λ k. first + k) o)
+                (verdict (entries packet.tables.now) packet.facts.now packet.ifid packet.dir (first + flat.count) (drop (suc index) config.model.groups))) answer);
             related = behind;
             room = omega arith;
           })

@@ -74,7 +74,7 @@ fn fits_on(asked: Option<OnIf>, ifid: IfId) -> bool
     ensures { result ≡ fits_on asked ifid }
 {
     match asked {
-        Some(on) => on.id == ifid && on.id != IfId(0),
+        Some(on) => on.id == ifid && on.id != IfId::UNKNOWN,
         None => true,
     }
 }

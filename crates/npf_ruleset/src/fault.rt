@@ -1,3 +1,4 @@
+// Why a configuration can't be built.
 ghost use Rattle.std.specs.Prelude.{◌≡◌};
 
 use npf_types::NoMemory;

@@ -4,7 +4,7 @@ ghost use Rattle.std.specs.Prelude.{◌≡◌, true};
 ghost use Rattle.npf_ruleset.specs.Always.{DescribesAll};
 
 use crate::binding::Binding;
-use crate::place::Place;
+use crate::place::RulePlace;
 use crate::row::Row;
 use npf_bpf::Program;
 
@@ -17,7 +17,7 @@ pub struct FlatRule {
     pub(crate) last: bool,
     pub(crate) binding: Binding,
     pub(crate) program: Program,
-    pub(crate) place: Place,
+    pub(crate) place: RulePlace,
     pub(crate) always: bool,
     ghost described: { always ≡ true → DescribesAll program },
 }

@@ -6,24 +6,24 @@ ghost use Rattle.npf_ruleset.specs.Layout.{AddsPlaces, ArePlacesOf, places_from,
 
 use crate::binding::Binding;
 use crate::flat::FlatGroup;
-use crate::place::{Place, count_of};
+use crate::place::{RulePlace, count_of};
 use npf_model::{Group, Item, Rule};
 use npf_types::NoMemory;
 use std::alloc::Global;
 
 /// A model's groups laid out, and where its rules stand.
 #[derive(Drop)]
-pub(crate) struct Layout {
+pub(crate) struct GroupLayout {
     pub(crate) groups: Vec<FlatGroup>,
-    pub(crate) places: Vec<Place>,
+    pub(crate) places: Vec<RulePlace>,
 }
 
-impl Layout {
-    pub(crate) fn of(alloc: Global, groups: &[Group]) -> Result<Layout, NoMemory>
+impl GroupLayout {
+    pub(crate) fn of(alloc: Global, groups: &[Group]) -> Result<GroupLayout, NoMemory>
         ensures groups { IfOk result (λ layout. AllZip IsFlatGroup groups.now layout.groups.items) }
         ensures places { IfOk result (λ layout. ArePlacesOf groups.now layout.places.items) }
     {
-        let mut layout = Layout {
+        let mut layout = GroupLayout {
             groups: Vec::with_capacity(alloc, groups.len())?,
             places: Vec::new(alloc),
         };
@@ -66,12 +66,12 @@ fn rules_have_final(rules: &[(u32, Rule)]) -> bool
     rules.iter().any(|numbered| numbered.1.last)
 }
 
-fn add_group(places: &mut Vec<Place>, groups: &[Group], number: usize) -> Result<(), NoMemory>
+fn add_group(places: &mut Vec<RulePlace>, groups: &[Group], number: usize) -> Result<(), NoMemory>
     requires { number < length groups.now }
     ensures { OnOk result (AddsPlaces groups.now (rules_in_group (slice_get groups.now number)) places.old.items places.new.items) }
 {
     for (at, item) in groups[number].items.as_slice().iter().enumerate() {
-        let first = Place {
+        let first = RulePlace {
             group: number,
             item: at,
             number: 0,
@@ -82,11 +82,11 @@ fn add_group(places: &mut Vec<Place>, groups: &[Group], number: usize) -> Result
 }
 
 // The places of as many rules of an item, whose first one has this place.
-fn add_item(places: &mut Vec<Place>, first: Place, count: usize) -> Result<(), NoMemory>
+fn add_item(places: &mut Vec<RulePlace>, first: RulePlace, count: usize) -> Result<(), NoMemory>
     ensures { OnOk result (places.new.items ≡ places.old.items ++ places_from first count) }
 {
     for number in 0..count {
-        places.push(Place { number, ..first })?;
+        places.push(RulePlace { number, ..first })?;
     }
     Ok(())
 }

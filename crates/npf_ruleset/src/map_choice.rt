@@ -39,7 +39,7 @@ fn applies(map: &Map, tables: &[Arc<Table>], facts: &Facts, ifid: IfId, dir: Dir
 fn is_on(on: &OnIf, ifid: IfId) -> bool
     ensures { result ≡ is_on on.now ifid }
 {
-    on.id == ifid && on.id != IfId(0)
+    on.id == ifid && on.id != IfId::UNKNOWN
 }
 
 fn fits_protocol(asked: Option<u8>, proto: u8) -> bool

@@ -17,7 +17,7 @@ use std::sync::Arc;
 /// A packet's facts and bytes, where it passes, and the tables that its addresses are looked up in. What rows ask of its ends stands
 /// beside the facts, so that it isn't found anew for each rule.
 #[derive(Clone, Copy, Drop)]
-pub(crate) struct Packet<'a> {
+pub(crate) struct PacketView<'a> {
     pub(crate) facts: &'a Facts,
     pub(crate) ip: &'a [u8],
     pub(crate) ifid: IfId,
@@ -29,7 +29,7 @@ pub(crate) struct Packet<'a> {
     pub ghost to: { destination ≡ destination_end facts.now },
 }
 
-impl Packet<'_> {
+impl PacketView<'_> {
     ghost use Rattle.std.specs.Prelude.{◌==◌};
     ghost use Rattle.npf_bpf.specs.Value.{program_value};
     ghost use Rattle.npf_ruleset.specs.Packet.{coprocessor, flat_matches};
@@ -55,7 +55,7 @@ impl Packet<'_> {
     }
 }
 
-impl Cop for Packet<'_> {
+impl Cop for PacketView<'_> {
     ghost use Rattle.npf_ruleset.specs.Packet.{coprocessor};
 
     ghost tells = { coprocessor };

@@ -9,7 +9,7 @@ use npf_types::Dir;
 /// The place of a rule, each counted from 0: its group, its item in the group, and its number in the
 /// item, which is 0 but in a dynamic ruleset.
 #[derive(Clone, Copy, Drop)]
-pub(crate) struct Place {
+pub(crate) struct RulePlace {
     pub(crate) group: usize,
     pub(crate) item: usize,
     pub(crate) number: usize,
@@ -23,7 +23,7 @@ pub(crate) struct Placed<'a> {
     pub(crate) rule: &'a Rule,
 }
 
-pub(crate) fn placed_at(groups: &[Group], place: Place) -> Placed<'_>
+pub(crate) fn placed_at(groups: &[Group], place: RulePlace) -> Placed<'_>
     requires { IsPlaceOfRule groups.now place }
     ensures { placed_at groups.now place ≡ Some (placed_rule result) }
 {

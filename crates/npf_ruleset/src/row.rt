@@ -5,7 +5,7 @@ ghost use Rattle.npf_ruleset.specs.Row.{IsEndRowOf, IsRowOf, destination_end, me
 
 use crate::addr_hull::{AddrHull, addr_hull, hull_number, is_within};
 use crate::describes::{destination_of, fits_family, fits_port, source_of};
-use crate::packet::Packet;
+use crate::packet::PacketView;
 use crate::port_hull::port_hull;
 use crate::protocol_set::ProtocolSet;
 use npf_model::{Ends, Rule};
@@ -67,7 +67,7 @@ impl Row {
     }
 
     /// Whether a packet meets the conditions. The addresses, which tell most rules apart, are tested first.
-    pub(crate) fn admits(&self, packet: &Packet<'_>) -> bool
+    pub(crate) fn admits(&self, packet: &PacketView<'_>) -> bool
         ensures { result ≡ meets_row self.now packet.now.facts.now }
     {
         is_within(self.from.addrs, packet.source.number)

@@ -1,19 +1,12 @@
 -- From the answers of the lanes to those of the phase.
 use Rattle.std.proofs.Common.{◌≡◌, ℕ, ◌==◌, ◌≤◌, ◌<◌, ◌+◌, Bool, true, false, List, [], ◌∷◌, All, Option, Some, None, cond, get_or, length, refl, ap, arith, suc, zero}
-use Rattle.std.specs.List.{AllZip}
-use Rattle.std.specs.List.Sorted.{IsNonDecreasing}
-use Rattle.std.proofs.lemmas.List.Elements.{All-nil, All-cons, All-head, All-tail}
+use Rattle.std.{specs.List.{AllZip, Sorted.IsNonDecreasing}, proofs.lemmas.List.Elements.{All-nil, All-cons, All-head, All-tail}}
 use Rattle.npf_model.specs.Configuration.{Configuration}
 use Rattle.npf_runner_dealing.specs.Lanes.{of_lane}
 use Rattle.npf_engine.specs.Histories.{History}
-use Rattle.npf_traffic.specs.declared.packet.Packet.{Packet}
-use Rattle.npf_runner.specs.declared.phase.Spread.{Spread}
-use Rattle.npf_runner.specs.Spread.{IsWorkerOf}
-use Rattle.npf_runner.specs.Job.{Handled, Job, job_arrival, numbered_from}
-use Rattle.npf_runner.specs.Played.{outcomes_of, outputs_of}
-use Rattle.npf_runner.specs.Plays.{AreAnswered, AsksBetween, asked_by}
-use Rattle.npf_runner.proofs.LaneLemmas.{Zips}
-use Rattle.npf_runner.proofs.WorksLemmas.{SaysOwn, Answer, Answers, ReadsOn}
+use Rattle.npf_traffic.specs.declared.{packet.Packet.Packet, phase.Spread.Spread}
+use Rattle.npf_runner.specs.{Spread.IsWorkerOf, Job.{Handled, Job, job_arrival, numbered_from}, Played.{outcomes_of, outputs_of}}
+use Rattle.npf_runner.{specs.Plays.{AreAnswered, AsksBetween, asked_by}, proofs.{LaneLemmas.Zips, WorksLemmas.{SaysOwn, Answer, Answers, ReadsOn}}}
 
 -- the numbers that were asked
 abbrev pub somes : List (Option ℕ) → List ℕ
@@ -44,7 +37,8 @@ reads_between first last least (None ∷ asked) r = All-cons (AsksBetween first 
 reads_between first last least (Some number ∷ asked) r =
     All-cons (AsksBetween first last) (Some number) asked (record { low = r.0.0; high = r.0.1 }) (reads_between first last number asked r.2)
 
-reads_above : (first last least : ℕ) (asked : List (Option ℕ)) → ReadsOn (record { first = first; last = last }) least asked → (j : ℕ) (d : ℕ) → j < length (somes asked) → least ≤ get_or (somes asked) j d
+reads_above : (first last least : ℕ) (asked : List (Option ℕ)) → ReadsOn (record { first = first; last = last }) least asked →
+    (j : ℕ) (d : ℕ) → j < length (somes asked) → least ≤ get_or (somes asked) j d
 reads_above first last least [] r j d low = absurd (omega (arith, low))
 reads_above first last least (None ∷ asked) r j d low = reads_above first last least asked r j d low
 reads_above first last least (Some number ∷ asked) r zero d low = r.1

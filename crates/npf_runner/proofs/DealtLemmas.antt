@@ -1,16 +1,10 @@
 -- Packets that are dealt to workers, with their numbers.
 use Rattle.std.proofs.Common.{◌≡◌, ℕ, ◌==◌, ◌≤◌, ◌<◌, ◌+◌, ◌^◌, Bool, true, false, List, [], ◌∷◌, All, cond, map, get_or, length, refl, sym, ap, subst, ◌∙◌, arith, suc, zero}
-use Rattle.std.specs.List.{range_with_len}
-use Rattle.std.proofs.lemmas.List.{length-map}
-use Rattle.npf_runner_dealing.specs.Lanes.{of_lane, IsDealt}
-use Rattle.npf_runner_dealing.proofs.LaneLemmas.{get_or-map}
-use Rattle.npf_traffic.specs.declared.packet.Packet.{Packet}
-use Rattle.npf_runner.specs.declared.worker.Worker.{Worker}
-use Rattle.npf_runner.specs.Crew.{HasJobs, numbers_of_worker, packets_of_worker, jobs_of}
-use Rattle.npf_runner.specs.Job.{Job, IsJob, with_numbers, numbered_from}
-use Rattle.npf_traffic.specs.Packet.{IsShortPacket}
-use Rattle.npf_runner.proofs.JobLemmas.{jobs_numbered, numbered_length}
-use Rattle.npf_runner.proofs.RegatherLemmas.{All-dealt}
+use Rattle.std.{specs.List.range_with_len, proofs.lemmas.List.length-map}
+use Rattle.npf_runner_dealing.{specs.Lanes.{of_lane, IsDealt}, proofs.LaneLemmas.get_or-map}
+use Rattle.npf_traffic.specs.{declared.packet.Packet.Packet, Packet.IsShortPacket}
+use Rattle.npf_runner.specs.{declared.worker.Worker.Worker, Crew.{HasJobs, numbers_of_worker, packets_of_worker, jobs_of}}
+use Rattle.npf_runner.{specs.Job.{Job, IsJob, with_numbers, numbered_from}, proofs.{JobLemmas.{jobs_numbered, numbered_length}, RegatherLemmas.All-dealt}}
 use Rattle.npf_runner.proofs.TaskLemmas.{All-unmap}
 
 -- a lane's numbers are those of its packets
@@ -22,14 +16,16 @@ lane_numbered : (w : ℕ) (order : List ℕ) (first : ℕ) (packets : List Packe
 lane_numbered w [] first packets = (refl, refl)
 lane_numbered w (v ∷ order) first [] = (refl, refl)
 lane_numbered w (v ∷ order) first (packet ∷ packets) =
-    by_test (v == w) (of_lane w order (range_with_len (first + 1) (length packets))) (of_lane w order packets) (of_lane w order (numbered_from (first + 1) packets)) (lane_numbered w order (first + 1) packets)
+    by_test (v == w) (of_lane w order (range_with_len (first + 1) (length packets))) (of_lane w order packets)
+    (of_lane w order (numbered_from (first + 1) packets)) (lane_numbered w order (first + 1) packets)
   where
     by_test : (test : Bool) (ns : List ℕ) (ps : List Packet) (jobs : List Job) → IsNumbered ns ps jobs →
         IsNumbered (cond test (first ∷ ns) ns) (cond test (packet ∷ ps) ps) (cond test (record { number = first; packet = packet } ∷ jobs) jobs)
     by_test true ns ps jobs rest = (ap (λ js. record { number = first; packet = packet } ∷ js) rest.0, ap suc rest.1)
     by_test false ns ps jobs rest = rest
 
-jobs_at : (crew : List Worker) (w : ℕ) (d : List Job) → w < length crew → get_or (map jobs_of crew) w d ≡ with_numbers (get_or (map numbers_of_worker crew) w []) (get_or (map packets_of_worker crew) w [])
+jobs_at : (crew : List Worker) (w : ℕ) (d : List Job) → w < length crew →
+    get_or (map jobs_of crew) w d ≡ with_numbers (get_or (map numbers_of_worker crew) w []) (get_or (map packets_of_worker crew) w [])
 jobs_at [] w d low = absurd (omega (arith, low))
 jobs_at (worker ∷ crew) zero d low = refl
 jobs_at (worker ∷ crew) (suc w) d low = jobs_at crew w d (omega (arith, low))

@@ -1,29 +1,18 @@
 -- What the engine's explanations give a run.
-use Rattle.std.proofs.Common.{◌≡◌, ℕ, true, List, [], Some, None, refl, sym, ap, ◌∙◌, ⊎_elim}
-use Rattle.std.specs.List.{Contains}
-use Rattle.std.proofs.lemmas.Bool.Decides.{Decides-eqb}
-use Rattle.npf_core.specs.declared.act.Act.TheVariants.{Claim, Look, Hold, Start, Step, Kill, Unhold, Free}
-use Rattle.npf_core.specs.declared.conn_id.ConnId.{ConnId}
-use Rattle.npf_connections.specs.Pass.{Pass, IsPass}
-use Rattle.npf_connections.proofs.SaidLemmas.{did_nothing}
+use Rattle.std.{proofs.{Common.{◌≡◌, ℕ, true, List, [], Some, None, refl, sym, ap, ◌∙◌, ⊎_elim}, lemmas.Bool.Decides.Decides-eqb}, specs.List.Contains}
+use Rattle.npf_shelf.proofs.ListLemmas.{Contains-nil, Contains-cons_cases}
+use Rattle.npf_core.specs.declared.{act.Act.TheVariants.{Claim, Look, Hold, Start, Step, Kill, Unhold, Free}, conn_id.ConnId.ConnId}
+use Rattle.npf_connections.{specs.Pass.{Pass, IsPass}, proofs.SaidLemmas.did_nothing}
 use Rattle.npf_flow.specs.Flows.{flow_law}
 use Rattle.npf_model.specs.Configuration.{Configuration}
 use Rattle.npf_publish.specs.declared.conf_reader.ConfReader.{ConfReader}
-use Rattle.npf_traffic.specs.declared.packet.FragWhy.{FragWhy}
-use Rattle.npf_traffic.specs.declared.packet.Packet.{Packet}
+use Rattle.npf_traffic.specs.declared.packet.{FragWhy.FragWhy, Packet.Packet}
 use Rattle.npf_engine_opening.specs.Saying.{FlowSaid}
-use Rattle.npf_engine.specs.declared.outcome.Outcome.TheVariants.{Fragment}
-use Rattle.npf_engine.specs.Arrival.{arrival}
-use Rattle.npf_engine.specs.Explains.{Explains}
+use Rattle.npf_engine.specs.{declared.outcome.Outcome.TheVariants.Fragment, Arrival.arrival, Explains.Explains}
 use Rattle.npf_engine.specs.Histories.{FlowAct, FlowEntry, builds, carries, is_unhold}
 use Rattle.npf_engine.proofs.LongerLemmas.{entries_in_longer, explained_told, explains_in_longer}
 use Rattle.npf_engine.proofs.TellingLemmas.{IsTold as Telling, nothing, carried, built, given_back}
-use Rattle.npf_runner_passes.proofs.NumberLemmas.{in_none, first_or_later}
-use Rattle.npf_runner.specs.Job.{Job}
-use Rattle.npf_runner.specs.Plays.{arriving}
-use Rattle.npf_runner.specs.Works.{IsHandled}
-use Rattle.npf_runner.proofs.RestLemmas.{rested_self}
-use Rattle.npf_runner.proofs.WorksLemmas.{SaysOwn, TellsInLonger}
+use Rattle.npf_runner.{specs.{Job.Job, Plays.arriving, Works.IsHandled}, proofs.{RestLemmas.rested_self, WorksLemmas.{SaysOwn, TellsInLonger}}}
 
 -- an act carries one number at most
 one_number : (n m : ℕ) (act : FlowAct) → carries n act ≡ true → carries m act ≡ true → m ≡ n
@@ -57,19 +46,19 @@ unhold_carries_none m (Step packet id way arg) u d = absurd cc
 unhold_carries_none m (Free id) u d = absurd cc
 
 told_own : {n : ℕ} {ids last : List ConnId} {said : List FlowSaid} → Telling n ids said last → (what : FlowSaid) (m : ℕ) → Contains said what → carries m what.act ≡ true → m ≡ n
-told_own nothing what m c d = absurd (in_none what c)
+told_own nothing what m c d = absurd (Contains-nil what c)
 told_own {n} (carried {x = x} {xs = xs} is rest) what m c d = ⊎_elim
     (λ (e : x ≡ what). one_number n m x.act is (ap (λ (w : FlowSaid). carries m w.act) e ∙ d))
     (λ l. told_own rest what m l d)
-    (first_or_later x what xs c)
+    (Contains-cons_cases x what xs c)
 told_own {n} {ids} (built {x = x} {xs = xs} not is rest) what m c d = ⊎_elim
     (λ (e : x ≡ what). absurd (built_carries_none ids m x.act is (ap (λ (w : FlowSaid). carries m w.act) e ∙ d)))
     (λ l. told_own rest what m l d)
-    (first_or_later x what xs c)
+    (Contains-cons_cases x what xs c)
 told_own {n} {ids} (given_back {x = x} {xs = xs} is rest) what m c d = ⊎_elim
     (λ (e : x ≡ what). absurd (unhold_carries_none m x.act is (ap (λ (w : FlowSaid). carries m w.act) e ∙ d)))
     (λ l. told_own rest what m l d)
-    (first_or_later x what xs c)
+    (Contains-cons_cases x what xs c)
 
 pub says_own : SaysOwn
 says_own configs sight arrival asked said outcome sent e what n c carry = told_own (explained_told e).is_told what n c carry

@@ -1,22 +1,11 @@
 -- What was Live and is alive still was Live all the time between, and what was killed isn't alive again.
-use Rattle.std.proofs.Common.{◌≡◌, true, false, List, [], ◌∷◌, ◌++◌, refl, sym, ap, subst, ◌∙◌, ⊎_elim}
-use Rattle.std.specs.List.{Contains}
-use Rattle.npf_core.specs.declared.act.Act.{Act}
-use Rattle.npf_core.specs.declared.act.Act.TheVariants.{Kill}
-use Rattle.npf_core.specs.declared.act.Why.{Why}
-use Rattle.npf_core.specs.declared.conn_id.ConnId.{ConnId}
-use Rattle.npf_core.specs.declared.entry.Entry.{Entry}
-use Rattle.npf_core.specs.declared.stage.Stage.{Stage}
-use Rattle.npf_core.specs.declared.stage.Stage.TheVariants.{Vacant, Building, Live, Dead}
-use Rattle.npf_core.specs.Allowed.{Allows, IsDue}
-use Rattle.npf_core.specs.History.{MayFollow, LegalFrom, after, state_from}
-use Rattle.npf_core.specs.Machine.{Machine, stage_of, IsClaimed, IsLive, IsAlive}
-use Rattle.npf_core.specs.Meaning.{Meaning}
-use Rattle.npf_core.specs.NextState.{after_act}
-use Rattle.npf_core.proofs.HistoryLemmas.{LegalFrom-front, LegalFrom-rest, state_from-append}
-use Rattle.npf_core.proofs.EqualityLemmas.{is_id-Decides}
+use Rattle.std.{proofs.Common.{◌≡◌, true, false, List, [], ◌∷◌, ◌++◌, refl, sym, ap, subst, ◌∙◌, ⊎_elim}, specs.List.Contains}
+use Rattle.npf_shelf.proofs.ListLemmas.{Contains-nil, Contains-cons_cases}
+use Rattle.npf_core.specs.declared.{act.{Act.{Act, TheVariants.Kill}, Why.Why}, conn_id.ConnId.ConnId, entry.Entry.Entry, stage.Stage.Stage}
+use Rattle.npf_core.specs.{declared.stage.Stage.TheVariants.{Vacant, Building, Live, Dead}, Allowed.{Allows, IsDue}}
+use Rattle.npf_core.specs.{History.{MayFollow, LegalFrom, after, state_from}, Machine.{Machine, stage_of, IsClaimed, IsLive, IsAlive}, Meaning.Meaning}
+use Rattle.npf_core.{specs.NextState.after_act, proofs.{HistoryLemmas.{LegalFrom-front, LegalFrom-rest, state_from-append}, EqualityLemmas.is_id-Decides}}
 use Rattle.npf_core.proofs.LifeLemmas.{Life, Moves, Touch, life_in, life_of, stage_in, stage_of-is, touch, entry_moves}
-use Rattle.npf_runner_passes.proofs.NumberLemmas.{in_none, first_or_later}
 
 -- killed or freed
 abbrev Ended : {S : Type 0} → Life S → Type 0
@@ -104,11 +93,11 @@ module _ {S A R : Type 0} (m : Meaning S A R) (slots : _) (id : ConnId) where
 
   kill_in : (k : Machine S) (entries : List (Entry S A R)) (entry : Entry S A R) (why : Why) → LegalFrom m slots k entries → Contains entries entry → entry.act ≡ Kill id why →
       Ended (life_of (state_from m k entries) id)
-  kill_in k [] entry why legal c act = absurd (in_none entry c)
+  kill_in k [] entry why legal c act = absurd (Contains-nil entry c)
   kill_in k (x ∷ xs) entry why legal c act = ⊎_elim
       (λ (same : x ≡ entry). ended_after (after m k x) xs legal.1 (kill_ends k x why legal.0 (ap (λ (e : Entry S A R). e.act) same ∙ act)))
       (λ d. kill_in (after m k x) xs entry why legal.1 d act)
-      (first_or_later x entry xs c)
+      (Contains-cons_cases x entry xs c)
 
   -- what is alive at the end wasn't killed
   pub not_killed : (k : Machine S) (entries : List (Entry S A R)) (entry : Entry S A R) (why : Why) → LegalFrom m slots k entries → Contains entries entry →

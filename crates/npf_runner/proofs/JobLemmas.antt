@@ -1,20 +1,12 @@
 -- The steps of the loops over packets, commands and workers.
 use Rattle.std.proofs.Common.{◌≡◌, ℕ, ◌+◌, ◌≤◌, ◌<◌, ◌^◌, List, [], ◌∷◌, ◌++◌, All, map, length, take, drop, get_or, refl, ap, sym, subst, ◌∙◌, arith, suc}
-use Rattle.std.specs.List.{AllZip}
-use Rattle.std.proofs.lemmas.List.{append_assoc, drop_more, length-take-le, map-append, take_more}
-use Rattle.std.proofs.lemmas.List.Sums.{sum_by-cons}
-use Rattle.std.proofs.lemmas.List.Elements.{All-nil, All-cons, All-head, All-tail}
-use Rattle.npf_publish.specs.declared.conf_reader.ConfReader.{ConfReader}
-use Rattle.npf_publish.specs.ConfReader.{reader_range}
+use Rattle.std.{specs.List.AllZip, proofs.lemmas.List.{append_assoc, drop_more, length-take-le, map-append, take_more}}
+use Rattle.std.{proofs.lemmas.List.Elements.{All-nil, All-cons, All-head, All-tail}, specs.Prelude.{Option, Some, None}}
+use Rattle.npf_publish.specs.{declared.conf_reader.ConfReader.ConfReader, ConfReader.reader_range}
 use Rattle.npf_engine.specs.Handles.{Asks}
-use Rattle.npf_traffic.specs.declared.packet.Packet.{Packet}
-use Rattle.npf_runner.specs.declared.phase.Command.{Command}
-use Rattle.npf_runner.specs.declared.phase.Command.TheVariants.{Publish, Expire}
-use Rattle.npf_runner.specs.declared.phase.Phase.{Phase}
+use Rattle.npf_traffic.specs.declared.{packet.Packet.Packet, phase.{Command.{Command, TheVariants.{Publish, Expire}}, Phase.Phase}}
 use Rattle.npf_runner.specs.Job.{IsJob, Job, with_numbers, numbered_from}
-use Rattle.npf_runner.specs.Plays.{PhasesPublishFrom, PublishFrom, packets_in, published_by}
-use Rattle.npf_traffic.specs.Packet.{IsShortPacket}
-use Rattle.std.specs.Prelude.{Option, Some, None}
+use Rattle.npf_traffic.specs.{Phases.{PhasesPublishFrom, PublishFrom, published_by}, Packet.IsShortPacket}
 
 numbered_push : (first : ℕ) (packets : List Packet) (packet : Packet) →
     numbered_from first (packets ++ packet ∷ []) ≡ numbered_from first packets ++ record { number = first + length packets; packet = packet } ∷ []
@@ -43,9 +35,6 @@ pub asks_range : (old new : ConfReader) (asked : Option ℕ) → Asks old new as
 asks_range old new None a = a.0
 asks_range old new (Some number) a = a.range
 
-pub packets_first : (phase : Phase) (phases : List Phase) → packets_in (phase ∷ phases) ≡ phase.packets + packets_in phases
-packets_first phase phases = sum_by-cons (λ n. n) phase.packets (map (λ (p : Phase). p.packets) phases)
-
 pub jobs_numbered : (first : ℕ) (packets : List Packet) → 1 ≤ first → first + length packets < 2 ^ 64 → All IsShortPacket packets → All IsJob (numbered_from first packets)
 jobs_numbered first [] some few short = All-nil IsJob
 jobs_numbered first (packet ∷ packets) some few short =
@@ -71,12 +60,6 @@ pub phase_ordered : (count last : ℕ) (phases : List Phase) (i : ℕ) (phase : 
     PublishFrom count last phase.commands × PhasesPublishFrom count (last + published_by phase.commands) (drop (i + 1) phases)
 phase_ordered count last phases i phase low at ordered = subst (λ ps. PhasesPublishFrom count last ps) (phases_from phases i phase low at) ordered
 
-pub zip_push : {X Y : Type 0} (R : X → Y → Type 0) (xs : List X) (ys : List Y) (x : X) (y : Y) → AllZip R xs ys → R x y → AllZip R (xs ++ x ∷ []) (ys ++ y ∷ [])
-zip_push R [] [] x y z r = (r, tt)
-zip_push R [] (b ∷ ys) x y z r = absurd z
-zip_push R (a ∷ xs) [] x y z r = absurd z
-zip_push R (a ∷ xs) (b ∷ ys) x y z r = (z.0, zip_push R xs ys x y z.1 r)
-
 -- one item goes over into what is made, which keeps this part of it
 pub mapped_more : {X Y Z : Type 0} (f : X → Z) (g : Y → Z) (made new : List Y) (before after : List X) (x : X) (y : Y) → before ≡ x ∷ after → g y ≡ f x → new ≡ made ++ y ∷ [] →
     map g made ++ map f before ≡ map g new ++ map f after
@@ -95,5 +78,6 @@ zip_numbered R first (p ∷ packets) [] n each = absurd (omega (arith, n))
 zip_numbered R first (p ∷ packets) (w ∷ workers) n each = (
   (let same : first + 0 ≡ first = omega arith in subst (λ k. R (record { number = k; packet = p }) w) same (each 0 p (omega arith) refl)),
   zip_numbered R (first + 1) packets workers (omega (arith, n))
-      (λ i packet low is. let same : first + suc i ≡ first + 1 + i = omega arith in subst (λ k. R (record { number = k; packet = packet }) (get_or workers i 0)) same (each (suc i) packet (omega (arith, low)) is)),
+      (λ i packet low is. let same : first + suc i ≡ first + 1 + i = omega arith in
+      subst (λ k. R (record { number = k; packet = packet }) (get_or workers i 0)) same (each (suc i) packet (omega (arith, low)) is)),
 )

@@ -1,13 +1,10 @@
 -- The numbers of packets that are dealt to lanes.
 use Rattle.std.proofs.Common.{◌≡◌, ◌⊎◌, ℕ, ◌==◌, ◌≤◌, ◌<◌, ◌+◌, Bool, true, false, List, [], ◌∷◌, length, refl, sym, subst, ◌∙◌, ⊎_elim, inl, inr, arith}
-use Rattle.std.specs.List.{Contains}
-use Rattle.std.proofs.lemmas.Bool.Decides.{Decides-eqb}
-use Rattle.npf_runner_dealing.specs.Lanes.{of_lane}
-use Rattle.npf_runner_dealing.proofs.LaneLemmas.{of_lane-yes, of_lane-no}
-use Rattle.npf_runner_passes.proofs.NumberLemmas.{in_none, first_or_later}
+use Rattle.std.{specs.List.Contains, proofs.lemmas.Bool.Decides.Decides-eqb}
+use Rattle.npf_shelf.proofs.ListLemmas.{Contains-nil, Contains-cons_cases}
+use Rattle.npf_runner_dealing.{specs.Lanes.of_lane, proofs.LaneLemmas.{of_lane-yes, of_lane-no}}
 use Rattle.npf_traffic.specs.declared.packet.Packet.{Packet}
-use Rattle.npf_runner.specs.Job.{Job, numbered_from}
-use Rattle.npf_runner.proofs.WorksLemmas.{numbers_of, Apart}
+use Rattle.npf_runner.{specs.Job.{Job, numbered_from}, proofs.WorksLemmas.{numbers_of, Apart}}
 
 abbrev job_at : ℕ → Packet → Job
 job_at n packet = record { number = n; packet = packet }
@@ -15,8 +12,8 @@ job_at n packet = record { number = n; packet = packet }
 -- they are those of the phase's packets
 pub in_phase : (order : List ℕ) (first : ℕ) (packets : List Packet) (lane n : ℕ) → Contains (numbers_of (of_lane lane order (numbered_from first packets))) n →
     (first ≤ n) × (n < first + length packets)
-in_phase [] first packets lane n c = absurd (in_none n c)
-in_phase (v ∷ order) first [] lane n c = absurd (in_none n c)
+in_phase [] first packets lane n c = absurd (Contains-nil n c)
+in_phase (v ∷ order) first [] lane n c = absurd (Contains-nil n c)
 in_phase (v ∷ order) first (p ∷ packets) lane n c = by_test (v == lane) refl (λ d. in_phase order (first + 1) packets lane n d)
   where
     by_test : (test : Bool) → (v == lane) ≡ test →
@@ -25,7 +22,7 @@ in_phase (v ∷ order) first (p ∷ packets) lane n c = by_test (v == lane) refl
     by_test true is later =
         let d = subst (λ js. Contains (numbers_of js) n) (of_lane-yes v lane order (job_at first p) (numbered_from (first + 1) packets) is) c in
         ⊎_elim (λ (e : first ≡ n). (omega (arith, e), omega (arith, e))) (λ l. let r = later l in (omega (arith, r.0), omega (arith, r.1)))
-        (first_or_later first n (numbers_of (of_lane lane order (numbered_from (first + 1) packets))) d)
+        (Contains-cons_cases first n (numbers_of (of_lane lane order (numbered_from (first + 1) packets))) d)
     by_test false is later =
         let r = later (subst (λ js. Contains (numbers_of js) n) (of_lane-no v lane order (job_at first p) (numbered_from (first + 1) packets) is) c) in
         (omega (arith, r.0), omega (arith, r.1))
@@ -45,8 +42,8 @@ apart_in_lane (v ∷ order) first (p ∷ packets) lane = by_test (v == lane) ref
 -- in one lane alone
 pub in_one_lane : (order : List ℕ) (first : ℕ) (packets : List Packet) (lane other n : ℕ) → Contains (numbers_of (of_lane lane order (numbered_from first packets))) n →
     Contains (numbers_of (of_lane other order (numbered_from first packets))) n → lane ≡ other
-in_one_lane [] first packets lane other n c d = absurd (in_none n c)
-in_one_lane (v ∷ order) first [] lane other n c d = absurd (in_none n c)
+in_one_lane [] first packets lane other n c d = absurd (Contains-nil n c)
+in_one_lane (v ∷ order) first [] lane other n c d = absurd (Contains-nil n c)
 in_one_lane (v ∷ order) first (p ∷ packets) lane other n c d =
     both (split lane (v == lane) refl c) (split other (v == other) refl d) (λ e f. in_one_lane order (first + 1) packets lane other n e f)
   where
@@ -54,13 +51,14 @@ in_one_lane (v ∷ order) first (p ∷ packets) lane other n c d =
     split : (w : ℕ) (test : Bool) → (v == w) ≡ test → Contains (numbers_of (of_lane w (v ∷ order) (numbered_from first (p ∷ packets)))) n →
         ((first ≡ n) × (v ≡ w)) ⊎ Contains (numbers_of (of_lane w order (numbered_from (first + 1) packets))) n
     split w true is e = ⊎_elim (λ (same : first ≡ n). inl (same, (Decides-eqb v w).0 is)) (λ l. inr l)
-        (first_or_later first n (numbers_of (of_lane w order (numbered_from (first + 1) packets)))
+        (Contains-cons_cases first n (numbers_of (of_lane w order (numbered_from (first + 1) packets)))
         (subst (λ js. Contains (numbers_of js) n) (of_lane-yes v w order (job_at first p) (numbered_from (first + 1) packets) is) e))
     split w false is e = inr (subst (λ js. Contains (numbers_of js) n) (of_lane-no v w order (job_at first p) (numbered_from (first + 1) packets) is) e)
 
     both : ((first ≡ n) × (v ≡ lane)) ⊎ Contains (numbers_of (of_lane lane order (numbered_from (first + 1) packets))) n →
         ((first ≡ n) × (v ≡ other)) ⊎ Contains (numbers_of (of_lane other order (numbered_from (first + 1) packets))) n →
-        (Contains (numbers_of (of_lane lane order (numbered_from (first + 1) packets))) n → Contains (numbers_of (of_lane other order (numbered_from (first + 1) packets))) n → lane ≡ other) → lane ≡ other
+        (Contains (numbers_of (of_lane lane order (numbered_from (first + 1) packets))) n →
+        Contains (numbers_of (of_lane other order (numbered_from (first + 1) packets))) n → lane ≡ other) → lane ≡ other
     both (inl a) (inl b) rest = sym a.1 ∙ b.1
     both (inl a) (inr e) rest = absurd (let r = in_phase order (first + 1) packets other n e in omega (arith, a.0, r.0))
     both (inr e) (inl b) rest = absurd (let r = in_phase order (first + 1) packets lane n e in omega (arith, b.0, r.0))

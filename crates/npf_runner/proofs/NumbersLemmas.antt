@@ -1,15 +1,9 @@
 -- The numbers of a worker's packets, one by one.
-use Rattle.std.proofs.Common.{◌≡◌, ℕ, ◌<◌, ◌^◌, List, [], ◌∷◌, All, get_or, length, sym, subst, arith, suc, zero}
-use Rattle.std.proofs.lemmas.List.{get_or_default}
-use Rattle.std.proofs.lemmas.List.Elements.{All-head, All-tail}
-use Rattle.std.proofs.lemmas.List.FromFn.{get_or-range_with_len}
+use Rattle.std.proofs.{Common.{◌≡◌, ℕ, ◌<◌, ◌^◌, List, [], ◌∷◌, All, get_or, length, sym, subst, arith, suc, zero}, lemmas.List.get_or_default}
+use Rattle.std.proofs.lemmas.List.{Elements.{All-head, All-tail}, FromFn.get_or-range_with_len}
 use Rattle.npf_traffic.specs.declared.packet.Packet.{Packet}
-use Rattle.npf_runner.specs.declared.numbers.Numbers.{Numbers}
-use Rattle.npf_runner.specs.declared.numbers.Numbers.TheVariants.{From, Listed}
-use Rattle.npf_runner.specs.declared.worker.Worker.{Worker}
-use Rattle.npf_runner.specs.Crew.{HasJobs, numbers_of_worker}
-use Rattle.npf_runner.specs.Job.{IsJob, with_numbers}
-use Rattle.npf_runner.specs.Numbers.{IsNumberedAt, packet_number, packet_numbers}
+use Rattle.npf_runner.specs.{declared.{numbers.Numbers.{Numbers, TheVariants.{From, Listed}}, worker.Worker.Worker}, Crew.{HasJobs, numbers_of_worker}}
+use Rattle.npf_runner.specs.{Job.{IsJob, with_numbers}, Numbers.{IsNumberedAt, packet_number, packet_numbers}}
 
 pub number_at_place : (numbers : Numbers) (packets i d : ℕ) → i < packets → i < length (packet_numbers numbers packets) → packet_number numbers i ≡ get_or (packet_numbers numbers packets) i d
 number_at_place (From first) packets i d low has = sym (get_or-range_with_len first packets i d low)

@@ -1,23 +1,13 @@
 -- Orders as lists, and the order for one worker.
 use Rattle.std.proofs.Common.{◌≡◌, ℕ, ◌<◌, ◌+◌, List, [], ◌∷◌, Option, Some, None, length, replicate, refl, sym, ap, subst, ◌∙◌, arith}
-use Rattle.std.specs.Prelude.{MatchOption}
-use Rattle.std.specs.List.{AllZip}
-use Rattle.std.proofs.lemmas.List.{get_or-replicate, length-replicate}
-use Rattle.npf_runner_dealing.specs.Lanes.{IsDealt}
-use Rattle.npf_runner_dealing.proofs.LaneLemmas.{dealt_to_one, one_has_all}
-use Rattle.npf_traffic.specs.declared.packet.FragWhy.{FragWhy}
-use Rattle.npf_traffic.specs.declared.packet.Packet.{Packet}
-use Rattle.npf_packet.specs.declared.decoded.Decoded.{Decoded}
+use Rattle.std.{specs.{Prelude.MatchOption, List.AllZip}, proofs.lemmas.List.{get_or-replicate, length-replicate}}
+use Rattle.npf_runner_dealing.{specs.Lanes.IsDealt, proofs.LaneLemmas.{dealt_to_one, one_has_all}}
+use Rattle.npf_traffic.specs.declared.{packet.{FragWhy.FragWhy, Packet.Packet}, phase.Spread.{Spread, TheVariants.{Rr, Flow}}}
+use Rattle.npf_packet.specs.{declared.decoded.Decoded.Decoded, Decoder.Decodes}
 use Rattle.npf_packet.specs.declared.decoded.Decoded.TheVariants as Says
-use Rattle.npf_packet.specs.Decoding.{Decodes}
 use Rattle.npf_engine.specs.Arrival.{Arrival}
-use Rattle.npf_runner.specs.declared.order.Order.{Order}
-use Rattle.npf_runner.specs.declared.order.Order.TheVariants.{Only, Each}
-use Rattle.npf_runner.specs.declared.phase.Spread.{Spread}
-use Rattle.npf_runner.specs.declared.phase.Spread.TheVariants.{Rr, Flow}
-use Rattle.npf_runner.specs.Job.{Job, job_arrival, numbered_from}
-use Rattle.npf_runner.specs.Order.{IsDealtBy, IsOrder, workers_by}
-use Rattle.npf_runner.specs.Spread.{IsWorkerOf, worker_by_flow}
+use Rattle.npf_runner.specs.{declared.order.Order.{Order, TheVariants.{Only, Each}}, Job.{Job, job_arrival, numbered_from}}
+use Rattle.npf_runner.specs.{Order.{IsDealtBy, IsOrder, workers_by}, Spread.{IsWorkerOf, worker_by_flow}}
 
 -- what is dealt by the list of an order is dealt by the order
 pub dealt_by : {X : Type 0} (order : Order) (packets workers : ℕ) (xs : List X) (lanes : List (List X)) → IsOrder order packets workers → length lanes ≡ workers →

@@ -1,8 +1,7 @@
 -- Two lists of one length, place by place.
 use Rattle.std.proofs.Common.{◌≡◌, ℕ, ◌<◌, List, [], ◌∷◌, All, map, get_or, length, refl, sym, ap, subst, ◌∙◌, ⊎_elim, arith, suc, zero}
-use Rattle.std.specs.List.{AllZip, Contains}
-use Rattle.std.proofs.lemmas.List.Elements.{All-head, All-tail}
-use Rattle.npf_runner_passes.proofs.NumberLemmas.{in_none, first_or_later}
+use Rattle.std.{specs.List.{AllZip, Contains}, proofs.lemmas.List.Elements.{All-head, All-tail}}
+use Rattle.npf_shelf.proofs.ListLemmas.{Contains-nil, Contains-cons_cases}
 
 -- these stand at the place in the one list and in the other
 abbrev pub At : {X Y : Type 0} → List X → List Y → ℕ → X → Y → Type 0
@@ -44,13 +43,13 @@ pub record Finds {X Y : Type 0} (f : Y → ℕ) (xs : List X) (ys : List Y) (n :
   pub is : f right ≡ n
 
 pub finds : {X Y : Type 0} (R : X → Y → Type 0) (f : Y → ℕ) (xs : List X) (ys : List Y) (n : ℕ) → AllZip R xs ys → Contains (map f ys) n → Finds f xs ys n
-finds R f [] [] n z c = absurd (in_none n c)
+finds R f [] [] n z c = absurd (Contains-nil n c)
 finds R f [] (b ∷ ys) n z c = absurd z
 finds R f (a ∷ xs) [] n z c = absurd z
 finds R f (a ∷ xs) (b ∷ ys) n z c = ⊎_elim
     (λ (e : f b ≡ n). record { place = 0; left = a; right = b; at = (refl, refl); is = e })
     (λ d. let r = finds R f xs ys n z.1 d in record { place = suc r.place; left = r.left; right = r.right; at = r.at; is = r.is })
-    (first_or_later (f b) n (map f ys) c)
+    (Contains-cons_cases (f b) n (map f ys) c)
 
 pub at_same : {X Y : Type 0} (xs : List X) (ys : List Y) (i j : ℕ) (x : X) (y : Y) (a : X) (b : Y) → i ≡ j → At xs ys i x y → At xs ys j a b → x ≡ a
 at_same {X} {Y} xs ys i j x y a b same p q = one xs ys i (subst (λ k. At xs ys k a b) (sym same) q) p

@@ -1,53 +1,30 @@
 -- A phase that ran plays, in each history in which it stands.
 use Rattle.std.proofs.Common.{◌≡◌, ◌⊎◌, ℕ, ◌≤◌, ◌<◌, ◌+◌, List, [], ◌∷◌, ◌++◌, Option, map, length, sym, ap, subst, ◌∙◌, ⊎_elim, inl, inr, arith}
-use Rattle.std.specs.List.{Contains}
-use Rattle.std.specs.List.Sorted.{IsNonDecreasing}
-use Rattle.std.proofs.lemmas.List.{append_assoc, length-map}
+use Rattle.std.{specs.List.{Contains, Sorted.IsNonDecreasing}, proofs.lemmas.List.{append_assoc, length-map}}
 use Rattle.std.proofs.lemmas.List.Elements.{Contains-append_cases, Contains-append_left, Contains-append_right}
-use Rattle.npf_core.specs.declared.act.Why.TheVariants.{Expired}
-use Rattle.npf_core.specs.declared.conn_id.ConnId.{ConnId}
-use Rattle.npf_core.specs.History.{Legal, IsPrefix, by, state_from, state_of}
+use Rattle.npf_shelf.proofs.ListLemmas.{Contains-nil, Contains-cons_cases}
+use Rattle.npf_core.specs.{declared.{act.Why.TheVariants.Expired, conn_id.ConnId.ConnId}, History.{Legal, IsPrefix, by, state_from, state_of}}
 use Rattle.npf_core.specs.Machine.{opening, stage_of, IsLive, IsAlive}
 use Rattle.npf_core.proofs.HistoryLemmas.{IsPrefix-self, IsPrefix-trans, Legal-prefix, LegalFrom-rest, state_from-append}
-use Rattle.npf_connections.specs.Collecting.{HasNoDead}
-use Rattle.npf_connections.specs.Entries.{free_entries}
-use Rattle.npf_connections.specs.Expiring.{Expires, IsOneOf, WasNotDue}
-use Rattle.npf_connections.specs.Pass.{Pass, IsPass, all_places}
+use Rattle.npf_connections.specs.{Collecting.HasNoDead, Entries.free_entries, Expiring.{Expires, IsOneOf, WasNotDue}, Pass.{Pass, IsPass, all_places}}
 use Rattle.npf_connections.specs.Worn.{ClaimsLast, last_epoch}
 use Rattle.npf_flow.specs.Flows.{flow_law}
 use Rattle.npf_model.specs.Configuration.{Configuration}
 use Rattle.npf_publish.specs.ConfReader.{IsNewReader, least_number}
-use Rattle.npf_runner_passes.specs.Whole.{IsTakenIn}
-use Rattle.npf_runner_passes.specs.Parts.{IsGiven}
-use Rattle.npf_runner_passes.proofs.NumberLemmas.{in_none, first_or_later}
+use Rattle.npf_runner_passes.specs.{Whole.IsTakenIn, Parts.IsGiven}
 use Rattle.npf_runner_dealing.specs.Lanes.{of_lane}
 use Rattle.npf_engine.specs.Histories.{FlowEntry, History, entries_of}
-use Rattle.npf_traffic.specs.declared.packet.Packet.{Packet}
-use Rattle.npf_runner.specs.declared.phase.Command.{Command}
-use Rattle.npf_runner.specs.declared.phase.Command.TheVariants.{Publish, Expire}
-use Rattle.npf_runner.specs.declared.phase.Phase.{Phase}
-use Rattle.npf_runner.specs.declared.phase.Spread.{Spread}
-use Rattle.npf_runner.specs.declared.worker.Lane.{Lane}
-use Rattle.npf_runner.specs.declared.worker.Worker.{Worker}
-use Rattle.npf_runner.specs.Commands.{Runs}
-use Rattle.npf_runner.specs.Crew.{jobs_of, jobs_of_lane, done_of_lane, worker_of_lane}
-use Rattle.npf_runner.specs.Job.{Handled, Job, numbered_from}
-use Rattle.npf_runner.specs.Lanes.{HasWorked}
-use Rattle.npf_runner.specs.Played.{outcomes_of, outputs_of}
-use Rattle.npf_runner.specs.Plays.{AreAnswered, AreFresh, AreInTurn, GivesBack, IsExpiry, IsOfPacket, IsPhase, LeavesNoDue, PlaysPhase, published_by}
-use Rattle.npf_runner.specs.Task.{RunsPhase}
+use Rattle.npf_traffic.specs.declared.{packet.Packet.Packet, phase.{Command.{Command, TheVariants.{Publish, Expire}}, Phase.Phase, Spread.Spread}}
+use Rattle.npf_runner.specs.{declared.worker.{Lane.Lane, Worker.Worker}, Commands.Runs, Crew.{jobs_of, jobs_of_lane, done_of_lane, worker_of_lane}}
+use Rattle.npf_runner.specs.{Job.{Handled, Job, numbered_from}, Lanes.HasWorked, Played.{outcomes_of, outputs_of}}
+use Rattle.npf_runner.specs.{Plays.{AreAnswered, AreFresh, AreInTurn, GivesBack, IsExpiry, IsOfPacket, IsPhase, LeavesNoDue, PlaysPhase}, Phase.RunsPhase}
+use Rattle.npf_traffic.specs.Phases.{published_by}
 use Rattle.npf_runner.proofs.AnswerLemmas.{somes, asked_by_lane, reads_between, reads_rise, IsShown, answers_zip, all_between, are_answered}
-use Rattle.npf_runner.proofs.CarryLemmas.{CarryNone, in_filter}
-use Rattle.npf_runner.proofs.CommandLemmas.{expiry_prefix, freed_prefix, frees_say, kill_of}
-use Rattle.npf_runner.proofs.ExpiryLemmas.{not_killed, was_live}
-use Rattle.npf_runner.proofs.LaneLemmas.{Zips, Merges, merges}
-use Rattle.npf_runner.proofs.PairLemmas.{at_all}
-use Rattle.npf_runner.proofs.RegatherLemmas.{AtPlace, at_place, of_none}
-use Rattle.npf_runner.proofs.TaskLemmas.{All-workers}
+use Rattle.npf_runner.proofs.{CarryLemmas.{CarryNone, in_filter}, CommandLemmas.{expiry_prefix, freed_prefix, frees_say, kill_of}}
+use Rattle.npf_runner.proofs.{ExpiryLemmas.{not_killed, was_live}, LaneLemmas.{Zips, Merges, merges}, PairLemmas.at_all}
+use Rattle.npf_runner.proofs.{RegatherLemmas.{AtPlace, at_place, of_none}, TaskLemmas.All-workers}
 use Rattle.npf_runner.proofs.ShowLemmas.{InPhase, freed_is, phase_adds, lane_jobs, lane_done, lane_in_phase, lane_answers, lane_in_turn}
-use Rattle.npf_runner.proofs.SourceLemmas.{OfLane, shown, of_last, lane_went, source}
-use Rattle.npf_runner.proofs.JobLemmas.{numbered_length}
-use Rattle.npf_runner.proofs.TurnLemmas.{turns_of_lanes}
+use Rattle.npf_runner.proofs.{SourceLemmas.{OfLane, shown, of_last, lane_went, source}, JobLemmas.numbered_length, TurnLemmas.turns_of_lanes}
 use Rattle.npf_runner.proofs.WorksLemmas.{SaysOwn, TellsInLonger, ReadsOn, InTurn, numbers_of, own_entry}
 
 module _ (says : SaysOwn) (tells : TellsInLonger) {P : Type 0} (view : P → Pass FlowEntry) (configs : List Configuration) (workers : ℕ) (spread : Spread) (old new : Pass FlowEntry)
@@ -72,11 +49,13 @@ module _ (says : SaysOwn) (tells : TellsInLonger) {P : Type 0} (view : P → Pas
       near p =
           let a = lane_answers says view configs workers spread old new first last commands packets dones r legal_new all history behind goes_on legal before after w p.left p.right p.at tells in
           let readers = All-workers (λ (worker : Worker). IsNewReader (record { first = last; last = last + published_by commands }) worker.reader) r.ran.begun r.crew r.ran.workers r.readers in
-          let reader = at_all (λ (lane : Lane P). IsNewReader (record { first = last; last = last + published_by commands }) lane.worker.reader) r.ran.begun r.ran.ended w p.left p.right readers p.at in
+          let reader =
+          at_all (λ (lane : Lane P). IsNewReader (record { first = last; last = last + published_by commands }) lane.worker.reader) r.ran.begun r.ran.ended w p.left p.right readers p.at in
           let reads : ReadsOn (record { first = last; last = last + published_by commands }) (least_number p.left.worker.reader) a.0 =
           subst (λ range. ReadsOn range (least_number p.left.worker.reader) a.0) reader.range a.2 in
           let between = reads_between last (last + published_by commands) (least_number p.left.worker.reader) a.0 reads in
-          let zips = answers_zip says configs old.slots history new.history last (last + published_by commands) (shown view p.left).number (jobs_of_lane p.left) a.0 (done_of_lane p.right) a.1 between in
+          let zips = answers_zip says configs old.slots history new.history last (last + published_by commands)
+          (shown view p.left).number (jobs_of_lane p.left) a.0 (done_of_lane p.right) a.1 between in
           record {
             asked = a.0;
             zips = subst (λ js. Zips Shown js a.0 (of_lane w r.order dones)) (lane_jobs says view configs workers spread old new first last commands packets dones r w p.left p.right p.at)
@@ -150,7 +129,7 @@ module _ (says : SaysOwn) (tells : TellsInLonger) {P : Type 0} (view : P → Pas
           own_entry (shown view o.first).number (shown view o.last).history entry
           (subst (λ (es : History). Contains es entry) (sym went.goes_on) (Contains-append_right (shown view o.first).history went.rest entry o.stands)) o.seat in
           ⊎_elim
-          (λ was. absurd (in_none entry (subst (λ (es : History). Contains es entry) given.unused was)))
+          (λ was. absurd (Contains-nil entry (subst (λ (es : History). Contains es entry) given.unused was)))
           (λ cov. ⊎_elim (λ b. inr (inr b))
           (λ (x : (n : ℕ) × Contains (numbers_of (jobs_of_lane o.first)) n × Contains (entries_of n history) entry).
           let range = lane_in_phase says view configs workers spread old new first last commands packets dones r o.place o.first o.last o.at x.0 x.1 in
@@ -200,8 +179,9 @@ module _ (says : SaysOwn) (tells : TellsInLonger) {P : Type 0} (view : P → Pas
 
       leaves_no_due : (cs : List Command) (p q : Pass FlowEntry) → Runs cs p q → IsPrefix start p.history → IsPrefix q.history end → (time : ℕ) → Contains cs (Expire time) →
           LeavesNoDue start end time
-      leaves_no_due [] p q s b e time c = absurd (in_none (Expire time) c)
-      leaves_no_due (Publish place ∷ cs) p q s b e time c = ⊎_elim (λ (same : Publish place ≡ Expire time). absurd cc) (λ d. leaves_no_due cs p q s b e time d) (first_or_later (Publish place) (Expire time) cs c)
+      leaves_no_due [] p q s b e time c = absurd (Contains-nil (Expire time) c)
+      leaves_no_due (Publish place ∷ cs) p q s b e time c =
+          ⊎_elim (λ (same : Publish place ≡ Expire time). absurd cc) (λ d. leaves_no_due cs p q s b e time d) (Contains-cons_cases (Publish place) (Expire time) cs c)
       leaves_no_due (Expire other ∷ cs) p q s b e time c = ⊎_elim
           (λ (same : Expire other ≡ Expire time).
           let times : other ≡ time = cc in
@@ -212,7 +192,7 @@ module _ (says : SaysOwn) (tells : TellsInLonger) {P : Type 0} (view : P → Pas
           (λ idle. subst (λ t. WasNotDue flow_law start end id t) times (wider start p.history due.history end id other b later idle))
           (s.1.expires.left id (alive_live p.history id b (IsPrefix-trans p.history due.history end s.1.rested.later.begins later) live alive)))
           (λ d. leaves_no_due cs s.0 q s.2 (IsPrefix-trans start p.history s.0.history b (expiry_prefix other p s.0 s.1)) e time d)
-          (first_or_later (Expire other) (Expire time) cs c)
+          (Contains-cons_cases (Expire other) (Expire time) cs c)
 
     control_within : IsPrefix r.ran.controlled.history new.history
     control_within =

@@ -1,20 +1,13 @@
 -- What became of packets, taken apart and put together.
-use Rattle.std.proofs.Common.{◌≡◌, ℕ, ◌<◌, ◌+◌, List, [], ◌∷◌, ◌++◌, map, set, length, vec_len, refl, sym, ap, ◌∙◌, arith, suc, zero}
-use Rattle.std.specs.Global.{Vec}
-use Rattle.std.specs.List.{AllZip}
-use Rattle.std.proofs.lemmas.List.{length-append, length-map}
+use Rattle.std.{proofs.Common.{◌≡◌, ℕ, ◌<◌, ◌+◌, List, [], ◌∷◌, ◌++◌, map, set, length, vec_len, refl, sym, ap, ◌∙◌, arith, suc, zero}, specs.Global.Vec}
+use Rattle.std.{specs.List.AllZip, proofs.lemmas.List.{length-append, length-map}}
 use Rattle.npf_connections.specs.Pass.{Pass}
 use Rattle.npf_runner_dealing.specs.Lanes.{queue_items}
-use Rattle.npf_engine.specs.declared.outcome.Outcome.{Outcome}
-use Rattle.npf_engine.specs.Histories.{FlowEntry}
+use Rattle.npf_engine.specs.{declared.outcome.Outcome.Outcome, Histories.FlowEntry}
 use Rattle.npf_model.specs.Configuration.{Configuration}
-use Rattle.npf_runner.specs.declared.crew.Queues.{Queues}
+use Rattle.npf_runner.specs.{declared.{crew.Queues.Queues, worker.Lane.Lane}, Crew.{AreQueuesOf, done_of_lane, outcomes_of_lane, packets_of_lane}, Job.Handled}
 use Rattle.npf_traffic.specs.declared.packet.Packet.{Packet}
-use Rattle.npf_runner.specs.declared.worker.Lane.{Lane}
-use Rattle.npf_runner.specs.Crew.{AreQueuesOf, done_of_lane, outcomes_of_lane, packets_of_lane}
-use Rattle.npf_runner.specs.Job.{Handled}
-use Rattle.npf_runner.specs.Lanes.{HasWorked}
-use Rattle.npf_runner.specs.Played.{handled, outcomes_of, outputs_of}
+use Rattle.npf_runner.specs.{Lanes.HasWorked, Played.{handled, outcomes_of, outputs_of}}
 
 pub outcomes_of-handled : (outcomes : List Outcome) (packets : List Packet) → length outcomes ≡ length packets → outcomes_of (handled outcomes packets) ≡ outcomes
 outcomes_of-handled [] packets n = refl

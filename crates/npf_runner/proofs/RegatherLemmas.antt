@@ -1,30 +1,17 @@
 -- Lanes that have worked can be gathered again.
 use Rattle.std.proofs.Common.{◌≡◌, ◌⊎◌, ℕ, ◌==◌, ◌≤◌, ◌<◌, Bool, true, false, List, [], ◌∷◌, All, cond, map, get_or, length, refl, sym, ap, subst, ◌∙◌, ⊎_elim, inl, inr, arith, zero, suc}
-use Rattle.std.specs.List.{AllZip}
-use Rattle.std.proofs.lemmas.Bool.Decides.{Decides-eqb}
-use Rattle.std.proofs.lemmas.List.{length-map, get_or_default, get_or_past}
-use Rattle.std.proofs.lemmas.List.Elements.{All-nil, All-cons, All-head, All-tail}
-use Rattle.std.proofs.lemmas.Slice.Zip.{AllZip-long}
+use Rattle.std.{specs.List.AllZip, proofs.lemmas.{Bool.Decides.Decides-eqb, List.{length-map, get_or_default, get_or_past}}}
+use Rattle.std.proofs.lemmas.{List.Elements.{All-nil, All-cons, All-head, All-tail}, Slice.Zip.AllZip-long}
 use Rattle.npf_connections.specs.Pass.{Pass}
 use Rattle.npf_model.specs.Configuration.{Configuration}
 use Rattle.npf_publish.specs.declared.conf_reader.ConfReader.{ConfReader}
-use Rattle.npf_runner_dealing.specs.Lanes.{of_lane, queue_items, IsDealt}
-use Rattle.npf_runner_dealing.proofs.LaneLemmas.{of_lane-no, get_or-map}
+use Rattle.npf_runner_dealing.{specs.Lanes.{of_lane, queue_items, IsDealt}, proofs.LaneLemmas.{of_lane-no, get_or-map}}
 use Rattle.npf_engine.specs.Histories.{FlowEntry}
-use Rattle.npf_runner.specs.declared.crew.Queues.{Queues}
-use Rattle.npf_runner.specs.declared.order.Order.{Order}
-use Rattle.npf_runner.specs.declared.phase.Command.{Command}
-use Rattle.npf_runner.specs.declared.worker.Worker.{Worker}
-use Rattle.npf_runner.specs.Crew.{AreQueuesOf, jobs_of, worker_of_lane, jobs_of_lane, done_of_lane}
-use Rattle.npf_runner.specs.Job.{Handled, Job}
-use Rattle.npf_runner.specs.Lanes.{HasWorked}
-use Rattle.npf_runner.specs.Order.{IsDealtBy, IsOrder, workers_by}
-use Rattle.npf_runner.specs.Played.{outcomes_of, outputs_of}
-use Rattle.npf_runner.specs.Task.{RunsCrew}
-use Rattle.npf_runner.specs.Works.{WorksThrough}
-use Rattle.npf_runner.proofs.LaneLemmas.{Zips, merges}
-use Rattle.npf_runner.proofs.OrderLemmas.{dealt_by}
-use Rattle.npf_runner.proofs.PairLemmas.{At, at_zip, at_left, at_right}
+use Rattle.npf_runner.specs.declared.{crew.Queues.Queues, order.Order.Order, worker.Worker.Worker}
+use Rattle.npf_traffic.specs.declared.phase.Command.{Command}
+use Rattle.npf_runner.specs.{Crew.{AreQueuesOf, jobs_of, worker_of_lane, jobs_of_lane, done_of_lane}, Job.{Handled, Job}, Lanes.HasWorked}
+use Rattle.npf_runner.specs.{Order.{IsDealtBy, IsOrder, workers_by}, Played.{outcomes_of, outputs_of}, Phase.RunsCrew, Works.WorksThrough}
+use Rattle.npf_runner.proofs.{LaneLemmas.{Zips, merges}, OrderLemmas.dealt_by, PairLemmas.{At, at_zip, at_left, at_right}}
 
 -- what holds of all holds of those of a lane
 pub All-of_lane : {X : Type 0} (P : X → Type 0) (w : ℕ) (order : List ℕ) (xs : List X) → All P xs → All P (of_lane w order xs)
@@ -155,7 +142,8 @@ module _ {P : Type 0} (view : P → Pass FlowEntry) (configs : List Configuratio
 
   regathers_lanes : (dones : List Handled) × IsDealt order dones lanes
   regathers_lanes =
-      let m = merges (Any {X = Job} {Y = Handled} {Z = Job}) order jobs jobs (λ w. get_or lanes w []) dealt.count dealt.count (λ w. zips_any (of_lane w order jobs) (get_or lanes w []) (of_lane w order jobs) (lane_length w) refl) in (
+      let m = merges (Any {X = Job} {Y = Handled} {Z = Job}) order jobs jobs (λ w. get_or lanes w []) dealt.count dealt.count
+      (λ w. zips_any (of_lane w order jobs) (get_or lanes w []) (of_lane w order jobs) (lane_length w) refl) in (
         m.ys,
         record {
           count = zips_length (Any {X = Job} {Y = Handled} {Z = Job}) jobs m.ys jobs m.zips ∙ dealt.count;
@@ -176,7 +164,8 @@ module _ {P : Type 0} (view : P → Pass FlowEntry) (configs : List Configuratio
       record {
         dones = again.0;
         dealt = subst (λ o. IsDealt o again.0 lanes) is again.1;
-        outcomes = dealt_by by packets (length crew) (outcomes_of again.0) (map queue_items queues.outcomes.items) fits (queues_of_crew outcomes_of (map queue_items queues.outcomes.items) are.outcomes)
+        outcomes = dealt_by by packets (length crew) (outcomes_of again.0) (map queue_items queues.outcomes.items) fits
+            (queues_of_crew outcomes_of (map queue_items queues.outcomes.items) are.outcomes)
             (subst (λ o. IsDealt o (outcomes_of again.0) (map queue_items queues.outcomes.items)) is (subst (λ ls. IsDealt order (outcomes_of again.0) ls) (sym are.outcomes) outcomes_dealt));
         outputs = dealt_by by packets (length crew) (outputs_of again.0) (map queue_items queues.packets.items) fits (queues_of_crew outputs_of (map queue_items queues.packets.items) are.packets)
             (subst (λ o. IsDealt o (outputs_of again.0) (map queue_items queues.packets.items)) is (subst (λ ls. IsDealt order (outputs_of again.0) ls) (sym are.packets) packets_dealt));

@@ -1,17 +1,11 @@
 -- Passes that rest as before, and what a control task does with one.
 use Rattle.std.proofs.Common.{◌≡◌, ◌+◌, ℕ, List, [], ◌∷◌, refl, sym, ap, ◌∙◌, subst, arith}
 use Rattle.npf_core.specs.History.{IsPrefix}
-use Rattle.npf_connections.specs.Expiring.{Expires}
-use Rattle.npf_connections.specs.Pass.{Pass, IsPass}
-use Rattle.npf_connections.specs.Stay.{GoesOn}
-use Rattle.npf_connections.proofs.SaidLemmas.{did_nothing, later_more, later_so}
+use Rattle.npf_connections.{specs.{Expiring.Expires, Pass.{Pass, IsPass}, Stay.GoesOn}, proofs.SaidLemmas.{did_nothing, later_more, later_so}}
 use Rattle.npf_flow.specs.Flows.{flow_law}
 use Rattle.npf_engine.specs.Histories.{FlowEntry}
-use Rattle.npf_runner.specs.declared.phase.Command.{Command}
-use Rattle.npf_runner.specs.declared.phase.Command.TheVariants.{Publish, Expire}
-use Rattle.npf_runner.specs.Commands.{Collects, ExpiresDue, Runs}
-use Rattle.npf_runner.specs.Plays.{published_by}
-use Rattle.npf_runner.specs.Works.{IsRested}
+use Rattle.npf_traffic.specs.{declared.phase.Command.{Command, TheVariants.{Publish, Expire}}, Phases.published_by}
+use Rattle.npf_runner.specs.{Commands.{Collects, ExpiresDue, Runs}, Works.IsRested}
 
 pub rested_self : (pass : Pass FlowEntry) → IsPass flow_law pass → IsRested pass pass
 rested_self pass legal = record { later = (did_nothing pass).later; joined = refl; legal = legal }

@@ -2,29 +2,19 @@
 use Rattle.std.proofs.Common.{◌≡◌, ℕ, ◌≤◌, ◌+◌, true, List, [], ◌∷◌, ◌++◌, map, length, take, drop, refl, sym, ap, subst, ◌∙◌, ⊎_elim, inr, arith}
 use Rattle.std.specs.List.{Contains}
 use Rattle.std.proofs.lemmas.List.{append_assoc, append-nil, drop_at, length-drop, length-map, length-take-le, map-append, take-map, take_at}
-use Rattle.std.proofs.lemmas.List.Elements.{Contains-append_cases}
+use Rattle.std.proofs.lemmas.{List.Elements.Contains-append_cases, Bool.false_from_ne_true}
+use Rattle.npf_shelf.proofs.ListLemmas.{Contains-nil}
 use Rattle.npf_core.specs.History.{Legal}
-use Rattle.npf_connections.specs.Entries.{free_entries}
-use Rattle.npf_connections.specs.Pass.{Pass, IsPass, all_places}
+use Rattle.npf_connections.specs.{Entries.free_entries, Pass.{Pass, IsPass, all_places}}
 use Rattle.npf_flow.specs.Flows.{flow_law}
 use Rattle.npf_model.specs.Configuration.{Configuration}
-use Rattle.npf_runner_passes.proofs.NumberLemmas.{in_none}
+use Rattle.npf_traffic.{proofs.PhaseLemmas.packets_in-cons, specs.declared.{packet.Packet.Packet, phase.{Command.Command, Phase.Phase, Spread.Spread}}}
 use Rattle.npf_engine.specs.Histories.{FlowEntry, History, carries}
-use Rattle.npf_traffic.specs.declared.packet.Packet.{Packet}
-use Rattle.npf_runner.specs.declared.phase.Command.{Command}
-use Rattle.npf_runner.specs.declared.phase.Phase.{Phase}
-use Rattle.npf_runner.specs.declared.phase.Spread.{Spread}
-use Rattle.npf_runner.specs.Job.{Handled, numbered_from}
-use Rattle.npf_runner.specs.Played.{outcomes_of, outputs_of}
-use Rattle.npf_runner.specs.Plays.{IsUnnumbered, PlaysPhases, PlaysPhase, PlaysFrom, packets_in, published_by}
-use Rattle.npf_runner.specs.Task.{LeavesNoDead, RunsPhase, RunsPhases}
-use Rattle.npf_runner.proofs.CarryLemmas.{CarryNone, not_true, not_both}
-use Rattle.npf_runner.proofs.CommandLemmas.{frees_say}
-use Rattle.npf_runner.proofs.JobLemmas.{packets_first, numbered_length}
-use Rattle.npf_runner.proofs.PhaseLemmas.{phase_plays}
-use Rattle.npf_runner.proofs.ShowLemmas.{InPhase, phase_adds, added_carries, lane_in_phase}
-use Rattle.npf_runner.proofs.SweepLemmas.{lacking, lacking_both, phase_sweeps}
-use Rattle.npf_runner.proofs.WorksLemmas.{SaysOwn, TellsInLonger}
+use Rattle.npf_runner.specs.{Job.{Handled, numbered_from}, Played.{outcomes_of, outputs_of}, Plays.{IsUnnumbered, PlaysPhases, PlaysPhase, PlaysFrom}}
+use Rattle.npf_traffic.specs.Phases.{packets_in, published_by}
+use Rattle.npf_runner.{specs.Phase.{LeavesNoDead, RunsPhase, RunsPhases}, proofs.{CarryLemmas.{CarryNone, not_both}, CommandLemmas.frees_say}}
+use Rattle.npf_runner.proofs.{JobLemmas.numbered_length, PhaseLemmas.phase_plays, ShowLemmas.{InPhase, phase_adds, added_carries, lane_in_phase}}
+use Rattle.npf_runner.proofs.{SweepLemmas.{lacking, lacking_both, phase_sweeps}, WorksLemmas.{SaysOwn, TellsInLonger}}
 
 -- what is behind a point of the run carries this number and later ones alone
 pub record Later (now end : Pass FlowEntry) (first : ℕ) : Type 0 where
@@ -63,7 +53,7 @@ module _ (says : SaysOwn) (tells : TellsInLonger) {P : Type 0} (view : P → Pas
   later [] now end first last packets dones runs all count = record {
     rest = [];
     goes_on = ap (λ (p : Pass FlowEntry). p.history) (sym runs.0) ∙ sym (append-nil now.history);
-    low = λ entry n c carry. absurd (in_none entry c);
+    low = λ entry n c carry. absurd (Contains-nil entry c);
     slots = ap (λ (p : Pass FlowEntry). p.slots) (sym runs.0);
     epoch = let e = ap (λ (p : Pass FlowEntry). p.epoch) runs.0 in omega (arith, e);
   }
@@ -72,8 +62,8 @@ module _ (says : SaysOwn) (tells : TellsInLonger) {P : Type 0} (view : P → Pas
       let back = runs.4 in
       let legal = runs.5 in
       let r = runs.6 in
-      let enough : phase.packets ≤ length packets = let c = packets_first phase phases in omega (arith, c, count) in
-      let left : packets_in phases ≡ length (drop phase.packets packets) = let c = packets_first phase phases in let l = left_length phase.packets packets enough in omega (arith, c, count, l) in
+      let enough : phase.packets ≤ length packets = let c = packets_in-cons phase phases in omega (arith, c, count) in
+      let left : packets_in phases ≡ length (drop phase.packets packets) = let c = packets_in-cons phase phases in let l = left_length phase.packets packets enough in omega (arith, c, count, l) in
       let rest = later phases mid end (first + phase.packets) (last + published_by phase.commands) (drop phase.packets packets) runs.2 runs.7 (back.places ∙ all) left in
       let made = r.ran.is_whole.added ++ free_entries r.ran.whole r.ran.collects.frees.ids in
       let goes : mid.history ≡ now.history ++ made =
@@ -107,8 +97,8 @@ module _ (says : SaysOwn) (tells : TellsInLonger) {P : Type 0} (view : P → Pas
       let back = runs.4 in
       let legal = runs.5 in
       let r = runs.6 in
-      let enough : phase.packets ≤ length packets = let c = packets_first phase phases in omega (arith, c, count) in
-      let left : packets_in phases ≡ length (drop phase.packets packets) = let c = packets_first phase phases in let l = left_length phase.packets packets enough in omega (arith, c, count, l) in
+      let enough : phase.packets ≤ length packets = let c = packets_in-cons phase phases in omega (arith, c, count) in
+      let left : packets_in phases ≡ length (drop phase.packets packets) = let c = packets_in-cons phase phases in let l = left_length phase.packets packets enough in omega (arith, c, count, l) in
       let these : length (take phase.packets packets) ≡ phase.packets = length-take-le phase.packets packets enough in
       let size : length here ≡ phase.packets = here_length now mid first last phase.commands (take phase.packets packets) here r ∙ these in
       let rest = later phases mid end (first + phase.packets) (last + published_by phase.commands) (drop phase.packets packets) after runs.7 (back.places ∙ all) left in
@@ -117,18 +107,20 @@ module _ (says : SaysOwn) (tells : TellsInLonger) {P : Type 0} (view : P → Pas
       phase_adds says view configs workers spread now mid first last phase.commands (take phase.packets packets) here r legal all in
       let within : CarryNone (InPhase first (take phase.packets packets)) now.history = λ entry n c is. before entry n c (is.0, (let h = is.1 in omega (arith, h, these, enough))) in
       let quiet : CarryNone (InPhase first (take phase.packets packets)) rest.rest =
-      λ entry n c is. not_true (carries n entry.act) (λ carry. let l = rest.low entry n c carry in let h = is.1 in absurd (omega (arith, l, h, these))) in
+      λ entry n c is. false_from_ne_true (carries n entry.act) (λ carry. let l = rest.low entry n c carry in let h = is.1 in absurd (omega (arith, l, h, these))) in
       let next : CarryNone (InPhase (first + phase.packets) (drop phase.packets packets)) mid.history =
       λ entry n c is. ⊎_elim
       (λ d. before entry n d ((let l = is.0 in omega (arith, l)), (let h = is.1 in let l = left_length phase.packets packets enough in omega (arith, h, l))))
-      (λ d. not_true (carries n entry.act) (λ carry.
+      (λ d. false_from_ne_true (carries n entry.act) (λ carry.
       let i = phase_carries now mid first last phase.commands (take phase.packets packets) here r legal all entry n d carry in
       let h = i.1 in let l = is.0 in absurd (omega (arith, h, l, these))))
       (Contains-append_cases now.history made entry (subst (λ (es : History). Contains es entry) goes c)) in
       let whole : Legal flow_law now.slots end.history = subst (λ n. Legal flow_law n end.history) (rest.slots ∙ back.slots) legal_end.legal in
-      let plays = phase_plays says tells view configs workers spread now mid first last phase.commands (take phase.packets packets) here r legal all end.history rest.rest rest.goes_on whole within quiet
+      let plays = phase_plays says tells view configs workers spread now mid first last phase.commands
+      (take phase.packets packets) here r legal all end.history rest.rest rest.goes_on whole within quiet
       legal_now start end phase (sym these) refl sized refl rest.epoch in
-      let onward = plays_from start end phases mid (first + phase.packets) (last + published_by phase.commands) (drop phase.packets packets) after runs.7 (sized ∙ sym back.slots) (back.places ∙ all) legal legal_end left next in
+      let onward = plays_from start end phases mid (first + phase.packets) (last + published_by phase.commands)
+      (drop phase.packets packets) after runs.7 (sized ∙ sym back.slots) (back.places ∙ all) legal legal_end left next in
       let out_here = ap (λ ds. take phase.packets (outputs_of ds)) runs.3 ∙ take_map (λ (done : Handled). done.packet) phase.packets here after size in
       let come_here = ap (λ ds. take phase.packets (outcomes_of ds)) runs.3 ∙ take_map (λ (done : Handled). done.outcome) phase.packets here after size in
       let out_after = ap (λ ds. drop phase.packets (outputs_of ds)) runs.3 ∙ drop_map (λ (done : Handled). done.packet) phase.packets here after size in
@@ -136,8 +128,10 @@ module _ (says : SaysOwn) (tells : TellsInLonger) {P : Type 0} (view : P → Pas
         mid.history,
         subst (λ os. PlaysPhase configs workers spread start end now.history mid.history first last phase (take phase.packets packets) os (take phase.packets (outcomes_of dones))) (sym out_here)
             (subst (λ os. PlaysPhase configs workers spread start end now.history mid.history first last phase (take phase.packets packets) (outputs_of here) os) (sym come_here) plays),
-        subst (λ os. PlaysFrom configs workers spread start end mid.history (first + phase.packets) (last + published_by phase.commands) phases (drop phase.packets packets) os (drop phase.packets (outcomes_of dones))) (sym out_after)
-            (subst (λ os. PlaysFrom configs workers spread start end mid.history (first + phase.packets) (last + published_by phase.commands) phases (drop phase.packets packets) (outputs_of after) os) (sym come_after) onward),
+        subst (λ os. PlaysFrom configs workers spread start end mid.history (first + phase.packets) (last + published_by phase.commands) phases
+            (drop phase.packets packets) os (drop phase.packets (outcomes_of dones))) (sym out_after)
+            (subst (λ os. PlaysFrom configs workers spread start end mid.history (first + phase.packets)
+            (last + published_by phase.commands) phases (drop phase.packets packets) (outputs_of after) os) (sym come_after) onward),
       )
 
   run_sweeps : (phases : List Phase) (now end : Pass FlowEntry) (first last : ℕ) (packets : List Packet) (dones : List Handled) →

@@ -1,35 +1,21 @@
 -- What the history in which a phase stands shows of its packets.
 use Rattle.std.proofs.Common.{◌≡◌, ◌≢◌, ◌⊎◌, ℕ, ◌≤◌, ◌<◌, ◌+◌, true, false, List, [], ◌++◌, Option, get_or, length, refl, sym, ap, subst, ◌∙◌, ⊎_elim, inl, inr}
-use Rattle.std.specs.List.{Contains}
-use Rattle.std.proofs.lemmas.List.{append_assoc, length-map}
-use Rattle.std.proofs.lemmas.List.Elements.{Contains-append_cases, Contains-append_left, Contains-append_right}
-use Rattle.npf_core.specs.History.{Legal, by}
-use Rattle.npf_core.proofs.HistoryLemmas.{IsPrefix-trans}
-use Rattle.npf_connections.specs.Entries.{free_entries}
-use Rattle.npf_connections.specs.Pass.{Pass, IsPass, all_places}
-use Rattle.npf_connections.proofs.AddLemmas.{adds_alone}
+use Rattle.std.{specs.List.Contains, proofs.lemmas.List.{append_assoc, length-map}}
+use Rattle.std.proofs.lemmas.{List.Elements.{Contains-append_cases, Contains-append_left, Contains-append_right}, Bool.false_from_ne_true}
+use Rattle.npf_shelf.proofs.ListLemmas.{Contains-nil}
+use Rattle.npf_core.{specs.History.{Legal, by}, proofs.HistoryLemmas.IsPrefix-trans}
+use Rattle.npf_connections.{specs.{Entries.free_entries, Pass.{Pass, IsPass, all_places}}, proofs.AddLemmas.adds_alone}
 use Rattle.npf_flow.specs.Flows.{flow_law}
 use Rattle.npf_model.specs.Configuration.{Configuration}
-use Rattle.npf_runner_dealing.specs.Lanes.{of_lane}
-use Rattle.npf_runner_dealing.proofs.LaneLemmas.{get_or-map}
+use Rattle.npf_runner_dealing.{specs.Lanes.of_lane, proofs.LaneLemmas.get_or-map}
 use Rattle.npf_publish.specs.ConfReader.{reader_range, least_number}
-use Rattle.npf_runner_passes.specs.Whole.{IsTakenIn}
-use Rattle.npf_runner_passes.specs.Parts.{IsGiven}
-use Rattle.npf_runner_passes.proofs.NumberLemmas.{in_none, none_added}
+use Rattle.npf_runner_passes.{specs.{Whole.IsTakenIn, Parts.IsGiven}, proofs.NumberLemmas.none_added}
 use Rattle.npf_engine.specs.Histories.{FlowEntry, History, carries}
-use Rattle.npf_traffic.specs.declared.packet.Packet.{Packet}
-use Rattle.npf_runner.specs.declared.phase.Command.{Command}
-use Rattle.npf_runner.specs.declared.phase.Spread.{Spread}
-use Rattle.npf_runner.specs.declared.worker.Lane.{Lane}
-use Rattle.npf_runner.specs.Crew.{jobs_of, jobs_of_lane, done_of_lane, worker_of_lane}
-use Rattle.npf_runner.specs.Job.{Handled, numbered_from}
-use Rattle.npf_runner.specs.Lanes.{HasWorked}
-use Rattle.npf_runner.specs.Task.{RunsPhase}
-use Rattle.npf_runner.proofs.CarryLemmas.{CarryNone, none_in_both, not_true, not_both}
-use Rattle.npf_runner.proofs.CommandLemmas.{commands_carry_none, frees_say}
-use Rattle.npf_runner.proofs.NumberingLemmas.{in_phase, apart_in_lane, in_one_lane}
-use Rattle.npf_runner.proofs.PairLemmas.{At, at_zip, at_all, at_left, at_right, at_same}
-use Rattle.npf_runner.proofs.SourceLemmas.{shown, of_lane_at, lane_went, source, OfLane}
+use Rattle.npf_traffic.specs.declared.{packet.Packet.Packet, phase.{Command.Command, Spread.Spread}}
+use Rattle.npf_runner.specs.{declared.worker.Lane.Lane, Crew.{jobs_of, jobs_of_lane, done_of_lane, worker_of_lane}, Job.{Handled, numbered_from}}
+use Rattle.npf_runner.{specs.{Lanes.HasWorked, Phase.RunsPhase}, proofs.CarryLemmas.{CarryNone, none_in_both, not_both}}
+use Rattle.npf_runner.proofs.{CommandLemmas.{commands_carry_none, frees_say}, NumberingLemmas.{in_phase, apart_in_lane, in_one_lane}}
+use Rattle.npf_runner.proofs.{PairLemmas.{At, at_zip, at_all, at_left, at_right, at_same}, SourceLemmas.{shown, of_lane_at, lane_went, source, OfLane}}
 use Rattle.npf_runner.proofs.WorksLemmas.{SaysOwn, TellsInLonger, WentOn, Shows, Answers, Covers, numbers_of, ReadsOn, own_entry, answers, Apart, InTurn, takes_in_turn}
 
 -- the phase's numbers
@@ -83,7 +69,8 @@ module _ (says : SaysOwn) {P : Type 0} (view : P → Pass FlowEntry) (configs : 
     module _ (history behind : History) (goes_on : history ≡ new.history ++ behind) (legal : Legal flow_law old.slots history)
         (before : CarryNone (InPhase first packets) old.history) (after : CarryNone (InPhase first packets) behind) where
       -- where an entry of the whole history stands
-      parts : (entry : FlowEntry) → Contains history entry → Contains old.history entry ⊎ (Contains r.ran.is_whole.added entry ⊎ (Contains (free_entries r.ran.whole r.ran.collects.frees.ids) entry ⊎ Contains behind entry))
+      parts : (entry : FlowEntry) → Contains history entry → Contains old.history entry ⊎
+          (Contains r.ran.is_whole.added entry ⊎ (Contains (free_entries r.ran.whole r.ran.collects.frees.ids) entry ⊎ Contains behind entry))
       parts entry c = ⊎_elim
           (λ d. ⊎_elim
           (λ w. ⊎_elim (λ x. inl x) (λ x. inr (inl x)) (Contains-append_cases old.history r.ran.is_whole.added entry (subst (λ (es : History). Contains es entry) r.ran.is_whole.goes_on w)))
@@ -100,7 +87,7 @@ module _ (says : SaysOwn) {P : Type 0} (view : P → Pass FlowEntry) (configs : 
         others entry n c apart mine = ⊎_elim
             (λ x. before entry n x (lane_in_phase i b e at n mine))
             (λ y. ⊎_elim
-            (λ x. not_true (carries n entry.act) (λ carry. by_source x (added_carries entry n x carry)))
+            (λ x. false_from_ne_true (carries n entry.act) (λ carry. by_source x (added_carries entry n x carry)))
             (λ z. ⊎_elim (λ x. freed_none entry n x) (λ x. after entry n x (lane_in_phase i b e at n mine)) z) y)
             (parts entry c)
           where
@@ -134,7 +121,7 @@ module _ (says : SaysOwn) {P : Type 0} (view : P → Pass FlowEntry) (configs : 
         between_none entry n c mine = others entry n
             (rw behind_lane (Contains-append_right (shown view e).history (taken.begins.rest ++ (free_entries r.ran.whole r.ran.collects.frees.ids ++ behind)) entry
             (Contains-append_left taken.begins.rest (free_entries r.ran.whole r.ran.collects.frees.ids ++ behind) entry c)))
-            (λ seat. in_none entry (subst (λ (es : History). Contains es entry) none_own (own_entry (shown view e).number taken.begins.rest entry c (seat ∙ sym went.number))))
+            (λ seat. Contains-nil entry (subst (λ (es : History). Contains es entry) none_own (own_entry (shown view e).number taken.begins.rest entry c (seat ∙ sym went.number))))
             mine
 
         pub shows : Shows says configs old.slots history new.history (shown view b).number (numbers_of (jobs_of_lane b)) (shown view e)
@@ -152,7 +139,7 @@ module _ (says : SaysOwn) {P : Type 0} (view : P → Pass FlowEntry) (configs : 
 
         -- before the lane's first packet none of them has an entry
         none_before : CarryNone (Contains (numbers_of (jobs_of_lane b))) (shown view b).history
-        none_before entry n c mine = not_true (carries n entry.act) (λ carry. not_both (carries n entry.act) carry (by_seat_of carry))
+        none_before entry n c mine = false_from_ne_true (carries n entry.act) (λ carry. not_both (carries n entry.act) carry (by_seat_of carry))
           where
             in_history : Contains history entry
             in_history = rw behind_lane (Contains-append_left (shown view e).history (taken.begins.rest ++ (free_entries r.ran.whole r.ran.collects.frees.ids ++ behind)) entry
@@ -161,7 +148,7 @@ module _ (says : SaysOwn) {P : Type 0} (view : P → Pass FlowEntry) (configs : 
             by_seat_of : carries n entry.act ≡ true → carries n entry.act ≡ false
             by_seat_of carry = others entry n in_history
                 (λ seat. let given = at_all (λ (lane : Lane P). IsGiven old (shown view lane)) r.ran.begun r.ran.ended i b e r.ran.given at in
-                in_none entry (subst (λ (es : History). Contains es entry) given.unused (own_entry (shown view b).number (shown view b).history entry c seat))) mine
+                Contains-nil entry (subst (λ (es : History). Contains es entry) given.unused (own_entry (shown view b).number (shown view b).history entry c seat))) mine
 
         -- each of its packets is explained
         pub lane_answers : TellsInLonger → (asked : List (Option ℕ)) × Answers says configs old.slots history new.history (shown view b).number (jobs_of_lane b) asked (done_of_lane e)

@@ -1,30 +1,21 @@
 -- Where the entries of a phase come from.
-use Rattle.std.proofs.Common.{◌≡◌, ◌⊎◌, ℕ, List, [], ◌∷◌, ◌++◌, All, map, sym, subst, ◌∙◌, ⊎_elim, inl, inr, zero, suc}
-use Rattle.std.specs.List.{Contains}
+use Rattle.std.{proofs.Common.{◌≡◌, ◌⊎◌, ℕ, List, [], ◌∷◌, ◌++◌, All, map, sym, subst, ◌∙◌, ⊎_elim, inl, inr, zero, suc}, specs.List.Contains}
 use Rattle.std.proofs.lemmas.List.Elements.{All-head, All-tail, Contains-append_cases, Contains-append_right}
+use Rattle.npf_shelf.proofs.ListLemmas.{Contains-first, Contains-later, Contains-nil, Contains-cons_cases}
 use Rattle.npf_connections.specs.Pass.{Pass}
 use Rattle.npf_model.specs.Configuration.{Configuration}
-use Rattle.npf_runner_passes.specs.Whole.{numbers, IsTakenIn}
-use Rattle.npf_runner_passes.specs.Parts.{IsGiven}
-use Rattle.npf_runner_passes.proofs.NumberLemmas.{in_none, first_of, later_of, first_or_later}
+use Rattle.npf_runner_passes.specs.{Whole.{numbers, IsTakenIn}, Parts.IsGiven}
 use Rattle.npf_engine.specs.Histories.{FlowEntry, History}
-use Rattle.npf_runner.specs.declared.phase.Command.{Command}
-use Rattle.npf_runner.specs.declared.worker.Lane.{Lane}
-use Rattle.npf_runner.specs.declared.worker.Worker.{Worker}
-use Rattle.npf_runner.specs.Crew.{done_of_lane, jobs_of_lane}
-use Rattle.npf_runner.specs.Job.{Handled}
-use Rattle.npf_runner.specs.Lanes.{HasWorked}
-use Rattle.npf_runner.specs.Task.{RunsCrew}
-use Rattle.npf_runner.proofs.CarryLemmas.{in_filter}
-use Rattle.npf_runner.proofs.CommandLemmas.{Grew, OfCommands, commands_grew}
-use Rattle.npf_runner.proofs.PairLemmas.{At, at_zip, at_all, finds}
+use Rattle.npf_traffic.specs.declared.phase.Command.{Command}
+use Rattle.npf_runner.specs.{declared.worker.{Lane.Lane, Worker.Worker}, Crew.{done_of_lane, jobs_of_lane}, Job.Handled, Lanes.HasWorked, Phase.RunsCrew}
+use Rattle.npf_runner.proofs.{CarryLemmas.in_filter, CommandLemmas.{Grew, OfCommands, commands_grew}, PairLemmas.{At, at_zip, at_all, finds}}
 use Rattle.npf_runner.proofs.WorksLemmas.{SaysOwn, WentOn, numbers_of, own_entry, went_on}
 
 -- an entry of a pass that was new stands in what its history went on by
 pub behind_given : (old given end : Pass FlowEntry) (rest : History) → IsGiven old given → end.history ≡ given.history ++ rest →
     (entry : FlowEntry) → Contains end.history entry → entry.seat ≡ given.number → Contains rest entry
 behind_given old given end rest g is entry c seat = ⊎_elim
-    (λ d. absurd (in_none entry (subst (λ (es : History). Contains es entry) g.unused (own_entry given.number given.history entry d seat))))
+    (λ d. absurd (Contains-nil entry (subst (λ (es : History). Contains es entry) g.unused (own_entry given.number given.history entry d seat))))
     (λ d. d)
     (Contains-append_cases given.history rest entry (subst (λ (es : History). Contains es entry) is c))
 
@@ -40,11 +31,12 @@ module _ {P : Type 0} (view : P → Pass FlowEntry) where
   -- the number is that of a worker's pass, or of the control task's
   pub whose_number : (ended : List (Lane P)) (last : Pass FlowEntry) (n : ℕ) → Contains (numbers (map shown ended ++ last ∷ [])) n →
       Contains (map (λ lane. (shown lane).number) ended) n ⊎ (last.number ≡ n)
-  whose_number [] last n c = ⊎_elim (λ (e : last.number ≡ n). inr e) (λ d. absurd (in_none n d)) (first_or_later last.number n [] c)
+  whose_number [] last n c = ⊎_elim (λ (e : last.number ≡ n). inr e) (λ d. absurd (Contains-nil n d)) (Contains-cons_cases last.number n [] c)
   whose_number (lane ∷ ended) last n c = ⊎_elim
-      (λ (e : (shown lane).number ≡ n). inl (subst (λ m. Contains ((shown lane).number ∷ map (λ l. (shown l).number) ended) m) e (first_of (shown lane).number (map (λ l. (shown l).number) ended))))
-      (λ d. ⊎_elim (λ l. inl (later_of (shown lane).number n (map (λ l. (shown l).number) ended) l)) (λ e. inr e) (whose_number ended last n d))
-      (first_or_later (shown lane).number n (numbers (map shown ended ++ last ∷ [])) c)
+      (λ (e : (shown lane).number ≡ n). inl (subst (λ m. Contains ((shown lane).number ∷ map (λ l. (shown l).number) ended) m) e
+      (Contains-first (shown lane).number (map (λ l. (shown l).number) ended))))
+      (λ d. ⊎_elim (λ l. inl (Contains-later (shown lane).number n (map (λ l. (shown l).number) ended) l)) (λ e. inr e) (whose_number ended last n d))
+      (Contains-cons_cases (shown lane).number n (numbers (map shown ended ++ last ∷ [])) c)
 
   pub of_last : (Q : Pass FlowEntry → Type 0) (ended : List (Lane P)) (last : Pass FlowEntry) → All Q (map shown ended ++ last ∷ []) → Q last
   of_last Q [] last all = All-head Q last [] all

@@ -1,25 +1,15 @@
 -- For each packet that the table had no node for, the count of sweeps rose.
 use Rattle.std.proofs.Common.{◌≡◌, ℕ, ◌≤◌, ◌<◌, ◌+◌, Bool, true, false, List, [], ◌∷◌, ◌++◌, cond, map, set, get_or, length, sum, refl, sym, ap, ◌∙◌, arith}
-use Rattle.std.specs.List.{AllZip, filter, sum_by}
-use Rattle.std.proofs.lemmas.List.Sums.{sum_by-cons, sum_by-set}
-use Rattle.std.proofs.lemmas.List.{get_or_default}
+use Rattle.std.{specs.List.{AllZip, filter, sum_by}, proofs.lemmas.List.{Sums.{sum_by-cons, sum_by-set}, get_or_default}}
 use Rattle.npf_connections.specs.Pass.{Pass}
 use Rattle.npf_model.specs.Configuration.{Configuration}
 use Rattle.npf_publish.specs.declared.conf_reader.ConfReader.{ConfReader}
-use Rattle.npf_runner_dealing.specs.Lanes.{IsDealt}
-use Rattle.npf_runner_dealing.proofs.LaneLemmas.{dealt_low, dealt_first, dealt_rest}
+use Rattle.npf_runner_dealing.{specs.Lanes.IsDealt, proofs.LaneLemmas.{dealt_low, dealt_first, dealt_rest}}
 use Rattle.npf_runner_passes.specs.Whole.{sweep_counts}
-use Rattle.npf_engine.specs.Histories.{FlowEntry}
-use Rattle.npf_engine.specs.Outcome.{lacks_node}
-use Rattle.npf_runner.specs.declared.phase.Command.{Command}
-use Rattle.npf_runner.specs.declared.phase.Spread.{Spread}
-use Rattle.npf_runner.specs.declared.worker.Lane.{Lane}
-use Rattle.npf_runner.specs.Crew.{done_of_lane, jobs_of_lane}
-use Rattle.npf_runner.specs.Job.{Handled, Job}
-use Rattle.npf_runner.specs.Lanes.{HasWorked}
-use Rattle.npf_runner.specs.Played.{outcomes_of}
-use Rattle.npf_runner.specs.Task.{RunsPhase}
-use Rattle.npf_runner.specs.Works.{WorksThrough}
+use Rattle.npf_engine.specs.{Histories.FlowEntry, Outcome.lacks_node}
+use Rattle.npf_traffic.specs.declared.phase.{Command.Command, Spread.Spread}
+use Rattle.npf_runner.specs.{declared.worker.Lane.Lane, Crew.{done_of_lane, jobs_of_lane}, Job.{Handled, Job}, Lanes.HasWorked, Played.outcomes_of}
+use Rattle.npf_runner.specs.{Phase.RunsPhase, Works.WorksThrough}
 
 -- how many of them lacked a node
 abbrev pub lacking : List Handled → ℕ
@@ -71,7 +61,8 @@ module _ {P : Type 0} (view : P → Pass FlowEntry) (configs : List Configuratio
     where
       one : (test : Bool) → lacks_node done.outcome ≡ test → w.0.sweeps + lacking dones ≤ new.sweeps → old.sweeps + lacking (done ∷ dones) ≤ new.sweeps
       one true is rest = let m : lacking (done ∷ dones) ≡ 1 + lacking dones = lacking_more done dones ∙ ap (λ t. cond t 1 0 + lacking dones) is in let s = w.2.sweep is in omega (arith, m, s, rest)
-      one false is rest = let m : lacking (done ∷ dones) ≡ 0 + lacking dones = lacking_more done dones ∙ ap (λ t. cond t 1 0 + lacking dones) is in let s = w.2.rested.later.sweeps in omega (arith, m, s, rest)
+      one false is rest = let m : lacking (done ∷ dones) ≡ 0 + lacking dones = lacking_more done dones ∙ ap (λ t. cond t 1 0 + lacking dones) is in
+          let s = w.2.rested.later.sweeps in omega (arith, m, s, rest)
 
   lanes_sweeps : (begun ended : List (Lane P)) (last : Pass FlowEntry) → AllZip (HasWorked view configs) begun ended →
       sum_by lacking (map done_of_lane ended) ≤ sum (sweep_counts (map (λ (lane : Lane P). view lane.pass) ended ++ last ∷ []))

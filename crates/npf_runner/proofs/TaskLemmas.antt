@@ -1,26 +1,17 @@
 -- What a phase needs of its lanes, and what they show when they are done.
 use Rattle.std.proofs.Common.{◌≡◌, ◌<◌, ℕ, Some, List, [], ◌∷◌, ◌++◌, All, map, length, get_or, refl, sym, ap, subst, ◌∙◌, arith, suc}
 use Rattle.std.specs.List.{AllZip, Contains}
-use Rattle.std.proofs.lemmas.List.Elements.{All-nil, All-cons, All-head, All-tail, All-append, All-contains, All-weaker, All-map, All-pop}
-use Rattle.std.proofs.lemmas.List.{length-map}
+use Rattle.std.proofs.lemmas.List.{Elements.{All-nil, All-cons, All-head, All-tail, All-append, All-contains, All-weaker, All-map, All-pop}, length-map}
 use Rattle.npf_core.proofs.HistoryLemmas.{IsPrefix-trans}
-use Rattle.npf_connections.specs.Pass.{Pass, IsPass, all_places}
-use Rattle.npf_connections.specs.Stay.{IsLater, IsOut}
+use Rattle.npf_connections.specs.{Pass.{Pass, IsPass, all_places}, Stay.{IsLater, IsOut}}
 use Rattle.npf_flow.specs.Flows.{flow_law}
 use Rattle.npf_model.specs.Configuration.{Configuration}
-use Rattle.npf_publish.specs.declared.conf_reader.ConfReader.{ConfReader}
-use Rattle.npf_publish.specs.ConfReader.{reader_range}
-use Rattle.npf_runner_passes.specs.Whole.{Gathers, IsWhole}
-use Rattle.npf_runner_passes.specs.Parts.{IsGiven, Spreads}
-use Rattle.npf_runner_passes.proofs.WholeLemmas.{gathers_all}
+use Rattle.npf_publish.specs.{declared.conf_reader.ConfReader.ConfReader, ConfReader.reader_range}
+use Rattle.npf_runner_passes.{specs.{Whole.{Gathers, IsWhole}, Parts.{IsGiven, Spreads}}, proofs.WholeLemmas.gathers_all}
 use Rattle.npf_engine.specs.Histories.{FlowEntry}
-use Rattle.npf_runner.specs.declared.worker.Lane.{Lane}
-use Rattle.npf_runner.specs.declared.worker.Worker.{Worker}
-use Rattle.npf_runner.specs.Commands.{Collects}
-use Rattle.npf_runner.specs.Crew.{HasJobs, IsEquipped, jobs_of_lane, done_of_lane, worker_of_lane, pass_of_lane}
-use Rattle.npf_runner.specs.Job.{Handled, Job}
-use Rattle.npf_runner.specs.Lanes.{CanWork, HasWorked}
-use Rattle.npf_runner.specs.Works.{IsRested, WorksThrough}
+use Rattle.npf_runner.specs.{declared.worker.{Lane.Lane, Worker.Worker}, Commands.Collects}
+use Rattle.npf_runner.specs.{Crew.{HasJobs, IsEquipped, jobs_of_lane, done_of_lane, worker_of_lane, pass_of_lane}, Job.{Handled, Job}}
+use Rattle.npf_runner.specs.{Lanes.{CanWork, HasWorked}, Works.{IsRested, WorksThrough}}
 
 -- place by place is all along
 pub zip_places : {X : Type 0} (R : X → X → Type 0) (xs ys : List X) → length ys ≡ length xs → ((i : ℕ) (d : X) → i < length xs → R (get_or xs i d) (get_or ys i d)) → AllZip R xs ys
@@ -54,7 +45,8 @@ zip_right R P Q f [] (y ∷ ys) z all = absurd z
 zip_right R P Q f (x ∷ xs) [] z all = absurd z
 zip_right R P Q f (x ∷ xs) (y ∷ ys) z all = All-cons Q y ys (f x y z.0 (All-head P x xs all)) (zip_right R P Q f xs ys z.1 (All-tail P x xs all))
 
-pub can_work : {P : Type 0} (fits : P → Type 0) (view : P → Pass FlowEntry) (old : Pass FlowEntry) (configs : ℕ) (lanes : List (Lane P)) → All (λ (lane : Lane P). IsOut flow_law fits view lane.pass) lanes →
+pub can_work : {P : Type 0} (fits : P → Type 0) (view : P → Pass FlowEntry) (old : Pass FlowEntry) (configs : ℕ) (lanes : List (Lane P)) →
+    All (λ (lane : Lane P). IsOut flow_law fits view lane.pass) lanes →
     All (λ (lane : Lane P). IsGiven old (view lane.pass)) lanes → All (λ (lane : Lane P). IsEquipped lane.worker) lanes → All (λ (lane : Lane P). HasJobs lane.worker) lanes →
     All (λ (lane : Lane P). (reader_range lane.worker.reader).last < configs) lanes → All (CanWork fits view configs) lanes
 can_work fits view old configs lanes out given ready jobs readers k d low =
@@ -131,7 +123,8 @@ is_back old whole new others w c =
       epoch = omega (arith, w.epoch, c.view.epoch);
     }
 
-module _ {P : Type 0} (view : P → Pass FlowEntry) (configs : List Configuration) (old : Pass FlowEntry) (passes left : List P) (crew : List Worker) (begun ended : List (Lane P)) (control controlled : P) where
+module _ {P : Type 0} (view : P → Pass FlowEntry) (configs : List Configuration) (old : Pass FlowEntry)
+    (passes left : List P) (crew : List Worker) (begun ended : List (Lane P)) (control controlled : P) where
   -- what the calls of a phase say of its passes
   pub record IsCrew : Type 0 where
     pub popped : passes ≡ left ++ control ∷ []

@@ -1,16 +1,11 @@
 -- From the turns of the lanes to those of the phase.
-use Rattle.std.proofs.Common.{◌≡◌, ℕ, ◌==◌, ◌<◌, ◌+◌, Bool, true, false, List, [], ◌∷◌, length, refl, sym, subst, arith, suc, zero}
-use Rattle.std.specs.Prelude.{slice_index}
-use Rattle.std.specs.List.{Contains}
-use Rattle.std.proofs.lemmas.Bool.Decides.{Decides-eqb}
-use Rattle.npf_runner_dealing.specs.Lanes.{of_lane}
-use Rattle.npf_runner_dealing.proofs.LaneLemmas.{of_lane-yes, of_lane-no}
+use Rattle.std.{proofs.Common.{◌≡◌, ℕ, ◌==◌, ◌<◌, ◌+◌, Bool, true, false, List, [], ◌∷◌, length, refl, sym, subst, arith, suc, zero}, specs.Prelude.slice_index}
+use Rattle.std.{specs.List.Contains, proofs.lemmas.Bool.Decides.Decides-eqb}
+use Rattle.npf_shelf.proofs.ListLemmas.{Contains-first, Contains-later}
+use Rattle.npf_runner_dealing.{specs.Lanes.of_lane, proofs.LaneLemmas.{of_lane-yes, of_lane-no}}
 use Rattle.npf_engine.specs.Histories.{History}
-use Rattle.npf_runner_passes.proofs.NumberLemmas.{first_of, later_of}
 use Rattle.npf_traffic.specs.declared.packet.Packet.{Packet}
-use Rattle.npf_runner.specs.Job.{Job, numbered_from}
-use Rattle.npf_runner.specs.Plays.{AreInTurn, IsBefore}
-use Rattle.npf_runner.proofs.WorksLemmas.{InTurn, numbers_of}
+use Rattle.npf_runner.{specs.{Job.{Job, numbered_from}, Plays.{AreInTurn, IsBefore}}, proofs.WorksLemmas.{InTurn, numbers_of}}
 
 abbrev job_at : ℕ → Packet → Job
 job_at n packet = record { number = n; packet = packet }
@@ -25,7 +20,7 @@ stands [] first packets j w n low at = absurd (omega (arith, low))
 stands (v ∷ order) first [] j w n low at = absurd (omega (arith, n))
 stands (v ∷ order) first (p ∷ packets) zero w n low at =
     let here = subst (λ js. Contains (numbers_of js) first) (sym (of_lane-yes v w order (job_at first p) (numbered_from (first + 1) packets) ((Decides-eqb v w).1 at)))
-    (first_of first (lane_numbers w order (first + 1) packets)) in
+    (Contains-first first (lane_numbers w order (first + 1) packets)) in
     subst (λ m. Contains (lane_numbers w (v ∷ order) first (p ∷ packets)) m) (let same : first ≡ first + 0 = omega arith in same) here
 stands (v ∷ order) first (p ∷ packets) (suc j) w n low at =
     let later = stands order (first + 1) packets j w (omega (arith, n)) (omega (arith, low)) at in
@@ -33,7 +28,7 @@ stands (v ∷ order) first (p ∷ packets) (suc j) w n low at =
   where
     by_test : (test : Bool) → (v == w) ≡ test → Contains (lane_numbers w order (first + 1) packets) (first + 1 + j) → Contains (lane_numbers w (v ∷ order) first (p ∷ packets)) (first + 1 + j)
     by_test true is c = subst (λ js. Contains (numbers_of js) (first + 1 + j)) (sym (of_lane-yes v w order (job_at first p) (numbered_from (first + 1) packets) is))
-        (later_of first (first + 1 + j) (lane_numbers w order (first + 1) packets) c)
+        (Contains-later first (first + 1 + j) (lane_numbers w order (first + 1) packets) c)
     by_test false is c = subst (λ js. Contains (numbers_of js) (first + 1 + j)) (sym (of_lane-no v w order (job_at first p) (numbered_from (first + 1) packets) is)) c
 
 module _ (history : History) where

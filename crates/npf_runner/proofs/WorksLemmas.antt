@@ -1,33 +1,23 @@
 -- What a worker's chain of packets adds to its pass's history.
 use Rattle.std.proofs.Common.{◌≡◌, ◌≢◌, ◌⊎◌, ℕ, ◌≤◌, Bool, true, false, List, [], ◌∷◌, ◌++◌, map, refl, sym, ap, subst, ◌∙◌, ⊎_elim, inl, inr, Option, Some, None}
-use Rattle.std.proofs.lemmas.List.{append_assoc, append-nil}
-use Rattle.std.specs.List.{Contains}
-use Rattle.std.specs.Prelude.{not}
-use Rattle.std.proofs.lemmas.List.Elements.{Contains-append_cases, Contains-append_left, Contains-append_right}
-use Rattle.npf_core.specs.History.{Legal, IsPrefix, by}
-use Rattle.npf_core.specs.declared.act.Act.TheVariants.{Claim, Look, Hold, Start, Step, Kill, Unhold, Free}
+use Rattle.std.{proofs.lemmas.List.{append_assoc, append-nil}, specs.{List.Contains, Prelude.not}}
+use Rattle.std.proofs.lemmas.{List.Elements.{Contains-append_cases, Contains-append_left, Contains-append_right}, Bool.false_from_ne_true}
+use Rattle.npf_shelf.proofs.ListLemmas.{Contains-first, Contains-later, Contains-filter_from, Contains-nil, Contains-cons_cases}
+use Rattle.npf_core.specs.{History.{Legal, IsPrefix, by}, declared.act.Act.TheVariants.{Claim, Look, Hold, Start, Step, Kill, Unhold, Free}}
 use Rattle.npf_core.proofs.HistoryLemmas.{IsPrefix-self, IsPrefix-trans, Legal-prefix, by-append}
-use Rattle.npf_connections.specs.Pass.{Pass, IsPass}
-use Rattle.npf_connections.specs.Said.{under}
+use Rattle.npf_connections.specs.{Pass.{Pass, IsPass}, Said.under}
 use Rattle.npf_flow.specs.Flows.{flow_law}
 use Rattle.npf_model.specs.Configuration.{Configuration}
-use Rattle.npf_publish.specs.declared.conf_reader.ConfReader.{ConfReader}
-use Rattle.npf_publish.specs.declared.number_range.NumberRange.{NumberRange}
-use Rattle.npf_publish.specs.ConfReader.{reader_range, least_number}
+use Rattle.npf_publish.specs.{declared.{conf_reader.ConfReader.ConfReader, number_range.NumberRange.NumberRange}, ConfReader.{reader_range, least_number}}
 use Rattle.npf_publish.specs.NumberRange.{IsInRange}
 use Rattle.npf_engine_opening.specs.Saying.{FlowSaid}
-use Rattle.npf_engine.specs.declared.outcome.Outcome.{Outcome}
-use Rattle.npf_engine.specs.Arrival.{Arrival}
-use Rattle.npf_engine.specs.Explains.{Explains, Sight}
+use Rattle.npf_engine.specs.{declared.outcome.Outcome.Outcome, Arrival.Arrival, Explains.{Explains, Sight}}
 use Rattle.npf_engine.specs.Handles.{Asks, Handles, IsExplained, CarryHereAlone}
-use Rattle.npf_engine.specs.Histories.{FlowAct, FlowEntry, History, carries, entries_after, entries_of, is_unhold, told}
-use Rattle.npf_engine.specs.Outcome.{passes, sent_of}
+use Rattle.npf_engine.specs.{Histories.{FlowAct, FlowEntry, History, carries, entries_after, entries_of, is_unhold, told}, Outcome.{passes, sent_of}}
 use Rattle.npf_engine.proofs.LongerLemmas.{none_in_front}
-use Rattle.npf_runner_passes.proofs.NumberLemmas.{in_none, first_of, later_of, first_or_later, stands_by}
-use Rattle.npf_runner.specs.Job.{Handled, Job, job_arrival}
-use Rattle.npf_runner.specs.Plays.{GivesBack, IsBefore}
-use Rattle.npf_runner.specs.Works.{IsHandled, WorksThrough}
-use Rattle.npf_runner.proofs.CarryLemmas.{CarryNone, none_carried, not_true, not_both, IsUnder, is_under, stands_in_filter}
+use Rattle.npf_runner_passes.proofs.NumberLemmas.{stands_by}
+use Rattle.npf_runner.specs.{Job.{Handled, Job, job_arrival}, Plays.{GivesBack, IsBefore}, Works.{IsHandled, WorksThrough}}
+use Rattle.npf_runner.proofs.CarryLemmas.{CarryNone, none_carried, not_both, IsUnder, is_under}
 
 abbrev pub numbers_of : List Job → List ℕ
 numbers_of = map (λ (job : Job). job.number)
@@ -61,7 +51,8 @@ SaysOwn =
     Explains configs sight arrival asked said outcome sent → (what : FlowSaid) (n : ℕ) → Contains said what → carries n what.act ≡ true → n ≡ arrival.number
 
 -- the explanation in a longer history, whose entries of the packet are those that were said
-pub record IsTold (configs : List Configuration) (slots seat : ℕ) (history end : History) (arrival : Arrival) (asked : Option ℕ) (said : List FlowSaid) (outcome : Outcome) (sent : Option (List ℕ)) : Type 0 where
+pub record IsTold (configs : List Configuration) (slots seat : ℕ) (history end : History) (arrival : Arrival)
+    (asked : Option ℕ) (said : List FlowSaid) (outcome : Outcome) (sent : Option (List ℕ)) : Type 0 where
   pub explained : IsExplained configs slots history end arrival asked outcome sent
   pub entries : entries_of arrival.number history ≡ under seat (told said)
 
@@ -100,7 +91,7 @@ module _ (says : SaysOwn) (configs : List Configuration) where
     rest = [];
     goes_on = ap (λ (p : Pass FlowEntry). p.history) (sym w.0) ∙ sym (append-nil old.history);
     number = ap (λ (p : Pass FlowEntry). p.number) (sym w.0);
-    own = λ entry n c seat carry. absurd (in_none entry c);
+    own = λ entry n c seat carry. absurd (Contains-nil entry c);
   }
   went_on old reader [] new next (done ∷ dones) w = absurd w
   went_on old reader (job ∷ jobs) new next [] w = absurd w
@@ -114,8 +105,8 @@ module _ (says : SaysOwn) (configs : List Configuration) where
         goes_on = later.goes_on ∙ (ap (λ (es : History). es ++ later.rest) first.adds.goes_on ∙ append_assoc old.history first.adds.rest later.rest);
         number = later.number ∙ first.later.number;
         own = λ entry n c seat carry. ⊎_elim
-            (λ d. subst (λ m. Contains (job.number ∷ numbers_of jobs) m) (sym (step_own old mid reader w.1 job done h entry n d seat carry)) (first_of job.number (numbers_of jobs)))
-            (λ d. later_of job.number n (numbers_of jobs) (later.own entry n d (seat ∙ sym first.later.number) carry))
+            (λ d. subst (λ m. Contains (job.number ∷ numbers_of jobs) m) (sym (step_own old mid reader w.1 job done h entry n d seat carry)) (Contains-first job.number (numbers_of jobs)))
+            (λ d. Contains-later job.number n (numbers_of jobs) (later.own entry n d (seat ∙ sym first.later.number) carry))
             (Contains-append_cases first.adds.rest later.rest entry c);
       }
 
@@ -151,12 +142,12 @@ module _ (says : SaysOwn) (configs : List Configuration) where
   unhold_gives entry (Free id) e is = absurd cc
 
   in_under : (seat : ℕ) (said : List FlowSaid) (what : FlowSaid) → Contains said what → Contains (under seat said) (record { seat = seat; act = what.act; reply = what.reply })
-  in_under seat [] what c = absurd (in_none what c)
+  in_under seat [] what c = absurd (Contains-nil what c)
   in_under seat (x ∷ xs) what c = ⊎_elim
       (λ (e : x ≡ what). subst (λ (w : FlowSaid). Contains (under seat (x ∷ xs)) (record { seat = seat; act = w.act; reply = w.reply })) e
-      (first_of (record { seat = seat; act = x.act; reply = x.reply }) (under seat xs)))
-      (λ d. later_of (record { seat = seat; act = x.act; reply = x.reply }) (record { seat = seat; act = what.act; reply = what.reply }) (under seat xs) (in_under seat xs what d))
-      (first_or_later x what xs c)
+      (Contains-first (record { seat = seat; act = x.act; reply = x.reply }) (under seat xs)))
+      (λ d. Contains-later (record { seat = seat; act = x.act; reply = x.reply }) (record { seat = seat; act = what.act; reply = what.reply }) (under seat xs) (in_under seat xs what d))
+      (Contains-cons_cases x what xs c)
 
   -- what was said for a packet is given back, or one of its entries
   said_covered : (slots : ℕ) (history end : History) (seat : ℕ) (ns : List ℕ) (arrival : Arrival) (asked : Option ℕ) (said : List FlowSaid) (outcome : Outcome) (sent : Option (List ℕ)) →
@@ -169,7 +160,7 @@ module _ (says : SaysOwn) (configs : List Configuration) where
       by_test : (test : Bool) → is_unhold u.what.act ≡ test → Covered history ns entry
       by_test true is = inl (unhold_gives entry u.what.act (ap (λ (e : FlowEntry). e.act) u.is) is)
       by_test false is =
-          let kept : Contains (told said) u.what = stands_in_filter (λ (w : FlowSaid). not (is_unhold w.act)) said u.what u.stands (ap not is) in
+          let kept : Contains (told said) u.what = Contains-filter_from (λ (w : FlowSaid). not (is_unhold w.act)) said u.what u.stands (ap not is) in
           inr (
             arrival.number,
             listed,
@@ -195,14 +186,14 @@ module _ (says : SaysOwn) (configs : List Configuration) where
       within = s.within;
       behind = s.behind;
       goes_on = s.goes_on;
-      quiet = λ entry m c is. s.quiet entry m c (later_of n m ns is);
-      others = λ entry m c apart is. s.others entry m c apart (later_of n m ns is);
+      quiet = λ entry m c is. s.quiet entry m c (Contains-later n m ns is);
+      others = λ entry m c apart is. s.others entry m c apart (Contains-later n m ns is);
     }
 
     -- an entry of a part of the history carries the number only where the seat's own do
     by_seat : (ns : List ℕ) (n : ℕ) (new : Pass FlowEntry) (entry : FlowEntry) → Shows slots history end seat ns new → Contains history entry → Contains ns n →
         (entry.seat ≡ seat → carries n entry.act ≡ false) → carries n entry.act ≡ false
-    by_seat ns n new entry s c is own = not_true (carries n entry.act)
+    by_seat ns n new entry s c is own = false_from_ne_true (carries n entry.act)
         (λ yes. not_both (carries n entry.act) yes (s.others entry n c (λ e. not_both (carries n entry.act) yes (own e)) is))
 
     module _ (old mid new : Pass FlowEntry) (reader between next : ConfReader) (job : Job) (jobs : List Job) (done : Handled) (dones : List Handled)
@@ -227,26 +218,26 @@ module _ (says : SaysOwn) (configs : List Configuration) where
 
       later_quiet : CarryNone (λ n. n ≡ job.number) (rest.rest ++ s.behind)
       later_quiet entry n c is = rw is (⊎_elim
-          (λ d. by_seat (job.number ∷ numbers_of jobs) job.number new entry s (in_rest entry d) (first_of job.number (numbers_of jobs))
-          (λ mine. not_true (carries job.number entry.act) (λ yes. apart (rest.own entry job.number d (mine ∙ (sym own ∙ sym h.handles.did.later.number)) yes))))
-          (λ d. s.quiet entry job.number d (first_of job.number (numbers_of jobs)))
+          (λ d. by_seat (job.number ∷ numbers_of jobs) job.number new entry s (in_rest entry d) (Contains-first job.number (numbers_of jobs))
+          (λ mine. false_from_ne_true (carries job.number entry.act) (λ yes. apart (rest.own entry job.number d (mine ∙ (sym own ∙ sym h.handles.did.later.number)) yes))))
+          (λ d. s.quiet entry job.number d (Contains-first job.number (numbers_of jobs)))
           (Contains-append_cases rest.rest s.behind entry c))
 
       alone : CarryNone (Contains (job.number ∷ numbers_of jobs)) old.history → CarryHereAlone job.number old mid history
       alone before = record {
         later = rest.rest ++ s.behind;
         goes_on = parts ∙ ap (λ (es : History). es ++ (rest.rest ++ s.behind)) (sym h.handles.did.adds.goes_on);
-        before = none_carried (Contains (job.number ∷ numbers_of jobs)) old.history job.number before (first_of job.number (numbers_of jobs));
+        before = none_carried (Contains (job.number ∷ numbers_of jobs)) old.history job.number before (Contains-first job.number (numbers_of jobs));
         behind = none_carried (λ n. n ≡ job.number) (rest.rest ++ s.behind) job.number later_quiet refl;
-        others = λ entry c other. s.others entry job.number (in_mid entry c) (λ e. other (e ∙ sym own)) (first_of job.number (numbers_of jobs));
+        others = λ entry c other. s.others entry job.number (in_mid entry c) (λ e. other (e ∙ sym own)) (Contains-first job.number (numbers_of jobs));
       }
 
       -- before the next packet no other of them has an entry
       before_next : CarryNone (Contains (job.number ∷ numbers_of jobs)) old.history → CarryNone (Contains (numbers_of jobs)) mid.history
       before_next before entry n c is = ⊎_elim
-          (λ d. before entry n d (later_of job.number n (numbers_of jobs) is))
-          (λ d. by_seat (job.number ∷ numbers_of jobs) n new entry s (in_step entry d) (later_of job.number n (numbers_of jobs) is)
-          (λ mine. not_true (carries n entry.act) (λ yes. apart
+          (λ d. before entry n d (Contains-later job.number n (numbers_of jobs) is))
+          (λ d. by_seat (job.number ∷ numbers_of jobs) n new entry s (in_step entry d) (Contains-later job.number n (numbers_of jobs) is)
+          (λ mine. false_from_ne_true (carries n entry.act) (λ yes. apart
           (subst (λ m. Contains (numbers_of jobs) m) (step_own old mid reader between job done h entry n d (mine ∙ sym own) yes) is))))
           (Contains-append_cases old.history h.handles.did.adds.rest entry (subst (λ (es : History). Contains es entry) h.handles.did.adds.goes_on c))
 
@@ -297,9 +288,9 @@ module _ (says : SaysOwn) (configs : List Configuration) where
     covers_more old mid new reader between job ns done h own t later entry c = ⊎_elim
         (λ d. ⊎_elim (λ o. inl o)
         (λ u. inr (said_covered slots history end seat (job.number ∷ ns) (job_arrival job) h.handles.asked h.handles.said done.outcome (sent_of done.outcome done.packet.bytes) t
-        (first_of job.number ns) entry u))
+        (Contains-first job.number ns) entry u))
         (Contains-append_cases (by seat old.history) (under seat h.handles.said) entry (subst (λ (es : History). Contains es entry) went d)))
-        (λ cov. inr (⊎_elim (λ b. inl b) (λ (x : (n : ℕ) × Contains ns n × Contains (entries_of n history) entry). inr (x.0, later_of job.number x.0 ns x.1, x.2)) cov))
+        (λ cov. inr (⊎_elim (λ b. inl b) (λ (x : (n : ℕ) × Contains ns n × Contains (entries_of n history) entry). inr (x.0, Contains-later job.number x.0 ns x.1, x.2)) cov))
         (later entry c)
       where
         went : by seat mid.history ≡ by seat old.history ++ under seat h.handles.said

@@ -6,8 +6,8 @@ use Rattle.npf_connections.specs.Pass.{Pass}
 use Rattle.npf_connections.specs.Stay.{GoesOn}
 use Rattle.npf_flow.specs.Flows.{flow_law}
 use Rattle.npf_engine.specs.Histories.{FlowEntry}
-use Rattle.npf_runner.specs.declared.phase.Command.{Command}
-use Rattle.npf_runner.specs.declared.phase.Command.TheVariants.{Publish, Expire}
+use Rattle.npf_traffic.specs.declared.phase.Command.{Command}
+use Rattle.npf_traffic.specs.declared.phase.Command.TheVariants.{Publish, Expire}
 use Rattle.npf_runner.specs.Works.{IsRested}
 
 -- the pass freed what may be freed

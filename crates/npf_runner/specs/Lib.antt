@@ -7,5 +7,5 @@ pub mod Order
 pub mod Played
 pub mod Plays
 pub mod Spread
-pub mod Task
+pub mod Phase
 pub mod Works

@@ -3,7 +3,7 @@ use Rattle.std.specs.Prelude.{◌≡◌, ◌<◌, ◌+◌, ℕ, List, [], ◌∷
 use Rattle.npf_runner_dealing.specs.Lanes.{IsDealt}
 use Rattle.npf_runner.specs.declared.order.Order.{Order}
 use Rattle.npf_runner.specs.declared.order.Order.TheVariants.{Only, Each}
-use Rattle.npf_runner.specs.declared.phase.Spread.{Spread}
+use Rattle.npf_traffic.specs.declared.phase.Spread.{Spread}
 use Rattle.npf_runner.specs.Plays.{arriving}
 use Rattle.npf_runner.specs.Spread.{IsWorkerOf}
 use Rattle.npf_traffic.specs.declared.packet.Packet.{Packet}

@@ -1,5 +1,5 @@
 -- What a run does, whatever the interleaving of its workers and of its control task.
-use Rattle.std.specs.Prelude.{◌≡◌, ◌≤◌, ◌<◌, ◌⊎◌, ◌+◌, ℕ, false, ◌==◌, if◌then◌else◌, List, [], ◌∷◌, ◌++◌, Option, Some, None, All, map, length, take, drop, filter, sum, slice_index, Contains}
+use Rattle.std.specs.Prelude.{◌≡◌, ◌≤◌, ◌<◌, ◌⊎◌, ◌+◌, ℕ, false, ◌==◌, if◌then◌else◌, List, [], ◌∷◌, ◌++◌, Option, Some, None, All, length, take, drop, filter, slice_index, Contains}
 use Rattle.std.specs.List.Sorted.{IsNonDecreasing}
 use Rattle.npf_types.specs.declared.key.Way.{Way}
 use Rattle.npf_core.specs.declared.act.Act.TheVariants.{Kill, Unhold, Free}
@@ -19,10 +19,11 @@ use Rattle.npf_engine.specs.Handles.{IsExplained}
 use Rattle.npf_engine.specs.Histories.{FlowEntry, History, carries, entries_of}
 use Rattle.npf_engine.specs.Outcome.{passes, sent_of, lacks_node}
 use Rattle.npf_traffic.specs.declared.packet.Packet.{Packet}
-use Rattle.npf_runner.specs.declared.phase.Command.{Command}
-use Rattle.npf_runner.specs.declared.phase.Command.TheVariants.{Publish, Expire}
-use Rattle.npf_runner.specs.declared.phase.Phase.{Phase}
-use Rattle.npf_runner.specs.declared.phase.Spread.{Spread}
+use Rattle.npf_traffic.specs.declared.phase.Command.{Command}
+use Rattle.npf_traffic.specs.declared.phase.Command.TheVariants.{Expire}
+use Rattle.npf_traffic.specs.declared.phase.Phase.{Phase}
+use Rattle.npf_traffic.specs.declared.phase.Spread.{Spread}
+use Rattle.npf_traffic.specs.Phases.{published_by}
 use Rattle.npf_runner.specs.Spread.{IsWorkerOf}
 
 -- a packet with its number as it arrives
@@ -40,30 +41,6 @@ arriving n packet = record {
 -- no entry of the history carries a number from 1 to this one
 abbrev pub IsUnnumbered : ℕ → History → Type 0
 IsUnnumbered last history = (n : ℕ) (entry : FlowEntry) → 1 ≤ n → n ≤ last → Contains history entry → carries n entry.act ≡ false
-
-abbrev pub packets_in : List Phase → ℕ
-packets_in phases = sum (map (λ phase. phase.packets) phases)
-
--- how many configurations are published by commands
-abbrev pub published_by : List Command → ℕ
-published_by [] = 0
-published_by (Publish place ∷ commands) = 1 + published_by commands
-published_by (Expire now ∷ commands) = published_by commands
-
--- commands publish the places behind this one, in order, each below the count of configurations
-abbrev pub PublishFrom : ℕ → ℕ → List Command → Type 0
-PublishFrom count last [] = Unit {0}
-PublishFrom count last (Publish place ∷ commands) = (place ≡ last + 1) × (place < count) × PublishFrom count (last + 1) commands
-PublishFrom count last (Expire now ∷ commands) = PublishFrom count last commands
-
-abbrev pub PhasesPublishFrom : ℕ → ℕ → List Phase → Type 0
-PhasesPublishFrom count last [] = Unit {0}
-PhasesPublishFrom count last (phase ∷ phases) =
-    PublishFrom count last phase.commands × PhasesPublishFrom count (last + published_by phase.commands) phases
-
--- there is a first configuration, and the publications name the places 1, 2 and so on
-abbrev pub AreInOrder : ℕ → List Phase → Type 0
-AreInOrder count phases = (0 < count) × PhasesPublishFrom count 0 phases
 
 -- the number is one of those from `first` to `last`
 pub record IsBetween (first last number : ℕ) : Type 0 where
@@ -155,8 +132,8 @@ pub record IsPhase (history start end : History) (first : ℕ) (phase : Phase) :
 
 module _ (configs : List Configuration) (workers : ℕ) (spread : Spread) (old new : Pass FlowEntry) where
   -- A phase that began at a point of the history, with the packet of this number as its first, and with this configuration as the last that
-  -- was published. At its end no connection is Dead, unless the run ends with the last epoch or one behind it, or a last incarnation was
-  -- claimed by the phase's end.
+  -- was published. At its end no connection is Dead, unless the run ends with the last epoch, or a last incarnation was claimed by the
+  -- phase's end.
   pub record PlaysPhase (start end : History) (first last : ℕ) (phase : Phase) (packets outputs : List Packet) (outcomes : List Outcome) : Type 0 where
     pub dealt : List ℕ
     pub asked : List (Option ℕ)

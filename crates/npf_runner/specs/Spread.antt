@@ -6,9 +6,9 @@ use Rattle.npf_key.specs.Key.{upper, lower}
 use Rattle.npf_key.specs.Port.{source_port, destination_port}
 use Rattle.npf_packet.specs.declared.decoded.Decoded.{Decoded}
 use Rattle.npf_packet.specs.declared.decoded.Decoded.TheVariants as Says
-use Rattle.npf_packet.specs.Decoding.{Decodes}
-use Rattle.npf_runner.specs.declared.phase.Spread.{Spread}
-use Rattle.npf_runner.specs.declared.phase.Spread.TheVariants.{Rr, Flow}
+use Rattle.npf_packet.specs.Decoder.{Decodes}
+use Rattle.npf_traffic.specs.declared.phase.Spread.{Spread}
+use Rattle.npf_traffic.specs.declared.phase.Spread.TheVariants.{Rr, Flow}
 
 -- a number that is the same with source and destination changed about: the exclusive or of the addresses' halves, of both ports and of
 -- the protocol

@@ -1,15 +1,16 @@
+// The control task: a phase's commands, one after the other.
 ghost use Rattle.std.specs.Prelude.{◌≡◌, ◌≤◌, ◌+◌, [], ◌∷◌, OnOk};
 ghost use Rattle.npf_connections.specs.Stay.{IsOut};
 ghost use Rattle.npf_flow.specs.Flows.{flow_law};
 ghost use Rattle.npf_publish.specs.Publisher.{published_number, publisher_range};
 ghost use Rattle.npf_runner.specs.Commands.{ExpiresDue, Runs};
-ghost use Rattle.npf_runner.specs.Plays.{published_by};
+ghost use Rattle.npf_traffic.specs.Phases.{published_by};
 ghost use Rattle.npf_runner.specs.Works.{IsRested};
 
-use crate::phase::Command;
 use npf_connections::Connections;
 use npf_flow::FlowLaw;
 use npf_publish::Publisher;
+use npf_traffic::Command;
 use npf_types::NoMemory;
 use std::sync::Wait;
 

@@ -1,3 +1,5 @@
+// Who is told when a worker begins and ends a packet.
+
 /// Is told when a worker, counted from 0, begins and ends the packet of a number.
 pub trait Gate: Sync {
     /// Before the packet is handled.

@@ -20,12 +20,10 @@ mod played;
 mod run;
 mod shared;
 mod spread;
-mod task;
 mod threads;
 mod worker;
 
 pub use gate::{Gate, NoGate};
-pub use npf_traffic::{FragWhy, Packet, PacketBytes};
-pub use phase::{Command, Phase, Spread};
+pub use npf_traffic::{Command, FragWhy, Packet, PacketBytes, Phase, Spread};
 pub use played::Played;
 pub use run::play;

@@ -7,10 +7,9 @@ ghost use Rattle.npf_runner.specs.Order.{IsDealtBy, IsOrder, workers_by};
 ghost use Rattle.npf_runner.specs.Spread.{IsWorkerOf};
 ghost use Rattle.npf_traffic.specs.Packet.{IsShortPacket};
 
-use crate::phase::Spread;
 use crate::spread::workers_of;
 use npf_runner_dealing::{append, gather};
-use npf_traffic::Packet;
+use npf_traffic::{Packet, Spread};
 use npf_types::NoMemory;
 use std::alloc::Global;
 use std::collections::VecDeque;

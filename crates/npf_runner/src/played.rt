@@ -1,3 +1,4 @@
+// What a run came to.
 use npf_engine::Outcome;
 use npf_traffic::Packet;
 use npf_types::List;

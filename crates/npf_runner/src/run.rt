@@ -1,21 +1,22 @@
+// A run, phase by phase.
 ghost use Rattle.std.specs.Prelude.{◌≡◌, ◌≤◌, All, length, take, drop, vec_len, IfOk};
 ghost use Rattle.npf_connections.specs.Pass.{all_places};
 ghost use Rattle.npf_connections.specs.Stay.{IsLater, IsOut};
 ghost use Rattle.npf_flow.specs.Flows.{flow_law};
 ghost use Rattle.npf_engine.specs.Handles.{configurations};
-ghost use Rattle.npf_runner.specs.Plays.{PlaysPhases, IsUnnumbered, AreInOrder, packets_in};
-ghost use Rattle.npf_runner.specs.Task.{LeavesNoDead};
+ghost use Rattle.npf_runner.specs.Plays.{PlaysPhases, IsUnnumbered};
+ghost use Rattle.npf_traffic.specs.Phases.{AreInOrder, packets_in};
+ghost use Rattle.npf_runner.specs.Phase.{LeavesNoDead};
 ghost use Rattle.npf_traffic.specs.Packet.{IsShortPacket};
 
 use crate::gate::Gate;
-use crate::phase::{Phase, Spread};
+use crate::phase::{Task, count_published, run_phase};
 use crate::played::{Answers, Played};
 use crate::shared::Shared;
-use crate::task::{Task, count_published, run_phase};
 use npf_connections::Connections;
 use npf_flow::FlowLaw;
 use npf_ruleset::Config;
-use npf_traffic::Packet;
+use npf_traffic::{Packet, Phase, Spread};
 use npf_types::{List, NoMemory};
 use std::alloc::Global;
 use std::collections::VecDeque;

@@ -1,3 +1,4 @@
+// What all workers share.
 use npf_ruleset::Config;
 use std::alloc::Global;
 

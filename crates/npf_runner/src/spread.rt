@@ -1,17 +1,17 @@
+// Which worker a packet goes to.
 ghost use Rattle.std.specs.Prelude.{◌≡◌, ◌≤◌, ◌<◌, ◌+◌, ◌^◌, All, IfOk, length, vec_len};
 ghost use Rattle.std.specs.List.{AllZip};
 ghost use Rattle.npf_key.specs.Port.{source_port, destination_port};
-ghost use Rattle.npf_packet.specs.Decoding.{Decodes};
+ghost use Rattle.npf_packet.specs.Decoder.{Decodes};
 ghost use Rattle.npf_runner.specs.Spread.{flow_number, IsWorkerOf, worker_by_flow};
 ghost use Rattle.npf_runner.specs.Job.{job_arrival, numbered_from};
 ghost use Rattle.npf_runner.specs.Order.{IsWorkerAt};
 ghost use Rattle.npf_runner.specs.Plays.{arriving};
 ghost use Rattle.npf_traffic.specs.Packet.{IsShortPacket};
 
-use crate::phase::Spread;
 use npf_key::key_of;
 use npf_packet::{Decoded, decode, one_decoding};
-use npf_traffic::Packet;
+use npf_traffic::{Packet, Spread};
 use npf_types::{Facts, IfId, Key, L4, NoMemory};
 use std::alloc::Global;
 use std::thread::{Threads, for_each_mut};
@@ -85,7 +85,7 @@ fn worker_by_flow(packet: &Packet<'_>, workers: u32) -> u8
 fn flow_number(facts: &Facts) -> u64
     ensures { result ≡ flow_number facts.now }
 {
-    let Key([_, source_upper, source_lower, upper, lower]) = key_of(facts, IfId(0));
+    let Key([_, source_upper, source_lower, upper, lower]) = key_of(facts, IfId::EVERY);
     let (source, destination) = ports_of(&facts.l4);
     ((source_upper ^ source_lower) ^ (upper ^ lower))
         ^ ((u64::from(source) ^ u64::from(destination)) ^ u64::from(facts.proto))

@@ -1,3 +1,4 @@
+// Workers beside each other.
 ghost use Rattle.std.specs.Prelude.{◌≡◌, ◌≤◌, ◌<◌, ◌+◌, ℕ, All, OnOk, length, vec_len, slice_index_or};
 ghost use Rattle.npf_connections.specs.Stay.{IsOut};
 ghost use Rattle.npf_flow.specs.Flows.{flow_law};
@@ -5,17 +6,17 @@ ghost use Rattle.npf_publish.specs.Publisher.{published_number, publisher_range}
 ghost use Rattle.npf_engine.specs.Handles.{configurations};
 ghost use Rattle.npf_runner.specs.Commands.{Runs};
 ghost use Rattle.npf_runner.specs.Lanes.{CanWork, HasWorked};
-ghost use Rattle.npf_runner.specs.Plays.{published_by};
+ghost use Rattle.npf_traffic.specs.Phases.{published_by};
 ghost use Rattle.npf_runner.specs.Works.{IsRested};
 
 use crate::control::control;
 use crate::gate::Gate;
-use crate::phase::Command;
 use crate::shared::Shared;
 use crate::worker::{Lane, work};
 use npf_connections::Connections;
 use npf_flow::FlowLaw;
 use npf_publish::Publisher;
+use npf_traffic::Command;
 use npf_types::NoMemory;
 use std::sync::Wait;
 use std::thread::{Threads, for_each_mut, join};

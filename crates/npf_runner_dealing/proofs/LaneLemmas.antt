@@ -1,7 +1,6 @@
 -- Items that go to lanes, one after the other.
 use Rattle.std.proofs.Common.{◌≡◌, ℕ, ◌==◌, ◌<◌, Bool, true, false, List, [], ◌∷◌, ◌++◌, All, refl, sym, ap, subst, ◌∙◌, map, drop, set, get_or, length, arith, suc, zero}
-use Rattle.std.proofs.lemmas.Bool.Decides.{Decides-eqb}
-use Rattle.std.proofs.lemmas.List.{append_assoc, get_or-set_same, get_or-set_other, length-set, get_or_default}
+use Rattle.std.proofs.lemmas.{Bool.Decides.Decides-eqb, List.{append_assoc, get_or-set_same, get_or-set_other, length-set, get_or_default}}
 use Rattle.std.proofs.lemmas.List.Elements.{All-head, All-tail}
 use Rattle.npf_runner_dealing.specs.Lanes.{of_lane, IsDealt}
 

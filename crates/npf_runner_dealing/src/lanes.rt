@@ -1,3 +1,4 @@
+// Items dealt to lanes and gathered again.
 ghost use Rattle.std.specs.Prelude.{◌≡◌, ◌≤◌, ◌<◌, ◌+◌, ◌++◌, List, [], All, IfOk, length, map, vec_len, vec_capacity};
 ghost use Rattle.npf_runner_dealing.specs.Lanes.{IsDealt, queue_items, vec_items};
 

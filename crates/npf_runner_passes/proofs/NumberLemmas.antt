@@ -1,41 +1,22 @@
 -- The entries of a number.
-use Rattle.std.proofs.Common.{◌≡◌, ◌⊎◌, ℕ, ◌==◌, Bool, true, false, List, [], ◌∷◌, ◌++◌, cond, refl, ap, sym, subst, ◌∙◌, ⊎_elim, inl, inr, arith}
-use Rattle.std.specs.List.{Contains}
-use Rattle.std.proofs.lemmas.Bool.Decides.{Decides-eqb}
-use Rattle.std.proofs.lemmas.List.{append_cancel_left, append-nil}
-use Rattle.std.proofs.lemmas.List.Elements.{Contains-append_left, Contains-append_right, Contains-append_cases, Contains-push, Contains-push_cases}
-use Rattle.npf_core.specs.declared.entry.Entry.{Entry}
-use Rattle.npf_core.specs.History.{by}
-use Rattle.npf_core.proofs.HistoryLemmas.{by-append}
-
-pub in_none : {X : Type 0} (x : X) → Contains [] x → ⊥
-in_none x c = absurd (omega (arith, c.1))
-
-pub first_of : {X : Type 0} (x : X) (xs : List X) → Contains (x ∷ xs) x
-first_of x xs = Contains-append_left (x ∷ []) xs x (Contains-push [] x)
-
-pub later_of : {X : Type 0} (x y : X) (xs : List X) → Contains xs y → Contains (x ∷ xs) y
-later_of x y xs c = Contains-append_right (x ∷ []) xs y c
-
-pub first_or_later : {X : Type 0} (x y : X) (xs : List X) → Contains (x ∷ xs) y → (x ≡ y) ⊎ Contains xs y
-first_or_later x y xs c = ⊎_elim
-    (λ (d : Contains (x ∷ []) y). ⊎_elim (λ (n : Contains [] y). absurd (in_none y n)) (λ (e : x ≡ y). inl e) (Contains-push_cases [] x y d))
-    (λ (d : Contains xs y). inr d)
-    (Contains-append_cases (x ∷ []) xs y c)
+use Rattle.std.{proofs.Common.{◌≡◌, ◌⊎◌, ℕ, ◌==◌, Bool, true, false, List, [], ◌∷◌, ◌++◌, cond, refl, ap, sym, subst, ◌∙◌, ⊎_elim}, specs.List.Contains}
+use Rattle.std.proofs.lemmas.{Bool.Decides.Decides-eqb, List.{append_cancel_left, append-nil}}
+use Rattle.npf_shelf.proofs.ListLemmas.{Contains-first, Contains-later, Contains-nil, Contains-cons_cases}
+use Rattle.npf_core.{specs.{declared.entry.Entry.Entry, History.by}, proofs.HistoryLemmas.by-append}
 
 -- each entry stands among those of its number
 pub stands_by : {S A R : Type 0} (xs : List (Entry S A R)) (entry : Entry S A R) → Contains xs entry → Contains (by entry.seat xs) entry
-stands_by [] entry c = absurd (in_none entry c)
-stands_by {S} {A} {R} (x ∷ xs) entry c = ⊎_elim at_first (λ d. at_later (x.seat == entry.seat) (stands_by xs entry d)) (first_or_later x entry xs c)
+stands_by [] entry c = absurd (Contains-nil entry c)
+stands_by {S} {A} {R} (x ∷ xs) entry c = ⊎_elim at_first (λ d. at_later (x.seat == entry.seat) (stands_by xs entry d)) (Contains-cons_cases x entry xs c)
   where
     at_first : x ≡ entry → Contains (by entry.seat (x ∷ xs)) entry
     at_first same =
         let here : (x.seat == entry.seat) ≡ true = (Decides-eqb x.seat entry.seat).1 (ap (λ (e : Entry S A R). e.seat) same) in
         subst (λ (test : Bool). Contains (cond test (x ∷ by entry.seat xs) (by entry.seat xs)) entry) (sym here)
-        (subst (λ (z : Entry S A R). Contains (z ∷ by entry.seat xs) entry) (sym same) (first_of entry (by entry.seat xs)))
+        (subst (λ (z : Entry S A R). Contains (z ∷ by entry.seat xs) entry) (sym same) (Contains-first entry (by entry.seat xs)))
 
     at_later : (test : Bool) → Contains (by entry.seat xs) entry → Contains (cond test (x ∷ by entry.seat xs) (by entry.seat xs)) entry
-    at_later true e = later_of x entry (by entry.seat xs) e
+    at_later true e = Contains-later x entry (by entry.seat xs) e
     at_later false e = e
 
 -- what goes on from a list without entries of a number has none of it

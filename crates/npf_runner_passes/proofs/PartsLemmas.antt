@@ -1,14 +1,8 @@
 -- Passes that are split off one after the other.
-use Rattle.std.proofs.Common.{◌≡◌, ℕ, ◌-◌, ◌<◌, List, [], ◌∷◌, ◌++◌, length, refl, sym, ap, ◌∙◌, subst, arith, append-nil}
-use Rattle.std.specs.List.{Contains}
-use Rattle.std.proofs.lemmas.List.{length_push}
-use Rattle.std.proofs.lemmas.List.Elements.{All-nil, All-push}
-use Rattle.npf_core.specs.declared.entry.Entry.{Entry}
-use Rattle.npf_core.specs.History.{by}
-use Rattle.npf_connections.specs.Adding.{Adds}
-use Rattle.npf_connections.specs.Joining.{IsSplit, new_pass}
-use Rattle.npf_connections.specs.Pass.{Pass}
-use Rattle.npf_connections.proofs.AddLemmas.{adds_more}
+use Rattle.std.{proofs.Common.{◌≡◌, ℕ, ◌-◌, ◌<◌, List, [], ◌∷◌, ◌++◌, length, refl, sym, ap, ◌∙◌, subst, arith, append-nil}, specs.List.Contains}
+use Rattle.std.proofs.lemmas.List.{length_push, Elements.{All-nil, All-push}}
+use Rattle.npf_core.specs.{declared.entry.Entry.Entry, History.by}
+use Rattle.npf_connections.{specs.{Adding.Adds, Joining.{IsSplit, new_pass}, Pass.Pass}, proofs.AddLemmas.adds_more}
 use Rattle.npf_runner_passes.specs.Parts.{IsGiven, Spreads, with_places}
 
 module _ {S A R : Type 0} where

@@ -1,18 +1,12 @@
 -- Passes that are taken in one after the other.
 use Rattle.std.proofs.Common.{◌≡◌, ◌⊎◌, ℕ, ◌≤◌, ◌+◌, max, List, [], ◌∷◌, ◌++◌, All, length, sum, refl, sym, ap, subst, ◌∙◌, ⊎_elim, inl, inr, arith}
-use Rattle.std.specs.List.{Contains}
-use Rattle.std.proofs.lemmas.List.{append_assoc}
-use Rattle.std.proofs.lemmas.List.Sums.{sum_by-cons}
+use Rattle.std.{specs.List.Contains, proofs.lemmas.List.{append_assoc, Sums.sum_by-cons}}
 use Rattle.std.proofs.lemmas.List.Elements.{All-nil, All-cons, All-head, All-tail, Contains-append_right}
-use Rattle.npf_core.specs.declared.entry.Entry.{Entry}
-use Rattle.npf_core.specs.History.{by}
-use Rattle.npf_core.specs.Meaning.{Meaning}
-use Rattle.npf_core.proofs.HistoryLemmas.{IsPrefix-self, IsPrefix-trans}
-use Rattle.npf_connections.specs.Joining.{IsJoined}
-use Rattle.npf_connections.specs.Pass.{Pass, IsOwn, all_places}
+use Rattle.npf_shelf.proofs.ListLemmas.{Contains-first, Contains-later, Contains-nil, Contains-cons_cases}
+use Rattle.npf_core.{specs.{declared.entry.Entry.Entry, History.by, Meaning.Meaning}, proofs.HistoryLemmas.{IsPrefix-self, IsPrefix-trans}}
+use Rattle.npf_connections.specs.{Joining.IsJoined, Pass.{Pass, IsOwn, all_places}}
 use Rattle.npf_runner_passes.specs.Whole.{numbers, reader_places, sweep_counts, joined_after, greatest_epoch, with_others, IsTakenIn, Gathers, GathersAll}
-use Rattle.npf_runner_passes.specs.Parts.{Spreads}
-use Rattle.npf_runner_passes.proofs.NumberLemmas.{in_none, first_of, later_of, first_or_later, stands_by, none_added, kept_by}
+use Rattle.npf_runner_passes.{specs.Parts.Spreads, proofs.NumberLemmas.{stands_by, none_added, kept_by}}
 
 -- the pass took them in one by one
 abbrev pub TakesIn : {S A R : Type 0} → Pass (Entry S A R) → List (Pass (Entry S A R)) → Pass (Entry S A R) → Type 0
@@ -44,10 +38,10 @@ module _ {S A R : Type 0} where
     mid_joined = ap (λ (p : Pass (Entry S A R)). p.joined) j.takes ∙ ap (λ (z : List ℕ). other.number ∷ (z ++ old.joined)) none
 
     listed_first : Contains mid.joined other.number
-    listed_first = rw mid_joined (first_of other.number old.joined)
+    listed_first = rw mid_joined (Contains-first other.number old.joined)
 
     listed_still : (n : ℕ) → Contains old.joined n → Contains mid.joined n
-    listed_still n c = rw mid_joined (later_of other.number n old.joined c)
+    listed_still n c = rw mid_joined (Contains-later other.number n old.joined c)
 
     more_takes : now ≡ with_others old now.history (old.places + (other.places + sum (reader_places others))) (joined_after (other.number ∷ old.joined) others)
         (old.sweeps + (other.sweeps + sum (sweep_counts others))) (greatest_epoch (max old.epoch other.epoch) others)
@@ -55,12 +49,15 @@ module _ {S A R : Type 0} where
         let places : mid.places + sum (reader_places others) ≡ old.places + (other.places + sum (reader_places others)) = let e = ap (λ (p : Pass (Entry S A R)). p.places) j.takes in omega arith in
         let sweeps : mid.sweeps + sum (sweep_counts others) ≡ old.sweeps + (other.sweeps + sum (sweep_counts others)) = let e = ap (λ (p : Pass (Entry S A R)). p.sweeps) j.takes in omega arith in
         let epoch : mid.epoch ≡ max old.epoch other.epoch = ap (λ (p : Pass (Entry S A R)). p.epoch) j.takes in
-        let rest = λ (p : Pass (Entry S A R)). with_others p now.history (mid.places + sum (reader_places others)) (joined_after mid.joined others) (mid.sweeps + sum (sweep_counts others)) (greatest_epoch mid.epoch others) in
+        let rest = λ (p : Pass (Entry S A R)). with_others p now.history (mid.places + sum (reader_places others))
+        (joined_after mid.joined others) (mid.sweeps + sum (sweep_counts others)) (greatest_epoch mid.epoch others) in
         g.takes ∙ (ap rest j.takes
         ∙ (ap (λ n. with_others old now.history n (joined_after mid.joined others) (mid.sweeps + sum (sweep_counts others)) (greatest_epoch mid.epoch others)) places
-        ∙ (ap (λ (js : List ℕ). with_others old now.history (old.places + (other.places + sum (reader_places others))) (joined_after js others) (mid.sweeps + sum (sweep_counts others)) (greatest_epoch mid.epoch others)) mid_joined
+        ∙ (ap (λ (js : List ℕ). with_others old now.history (old.places + (other.places + sum (reader_places others)))
+        (joined_after js others) (mid.sweeps + sum (sweep_counts others)) (greatest_epoch mid.epoch others)) mid_joined
         ∙ (ap (λ n. with_others old now.history (old.places + (other.places + sum (reader_places others))) (joined_after (other.number ∷ old.joined) others) n (greatest_epoch mid.epoch others)) sweeps
-        ∙ ap (λ n. with_others old now.history (old.places + (other.places + sum (reader_places others))) (joined_after (other.number ∷ old.joined) others) (old.sweeps + (other.sweeps + sum (sweep_counts others))) (greatest_epoch n others)) epoch))))
+        ∙ ap (λ n. with_others old now.history (old.places + (other.places + sum (reader_places others))) (joined_after (other.number ∷ old.joined) others)
+        (old.sweeps + (other.sweeps + sum (sweep_counts others))) (greatest_epoch n others)) epoch))))
 
     gathers_first : Gathers old now (other ∷ others)
     gathers_first = record {
@@ -81,18 +78,21 @@ module _ {S A R : Type 0} where
     }
 
   -- what stands then
-  pub gathers : (old : Pass (Entry S A R)) (others : List (Pass (Entry S A R))) (now : Pass (Entry S A R)) → All (λ (p : Pass (Entry S A R)). p.joined ≡ []) others → TakesIn old others now → Gathers old now others
+  pub gathers : (old : Pass (Entry S A R)) (others : List (Pass (Entry S A R))) (now : Pass (Entry S A R)) →
+      All (λ (p : Pass (Entry S A R)). p.joined ≡ []) others → TakesIn old others now → Gathers old now others
   gathers old [] now none same = subst (λ (p : Pass (Entry S A R)). Gathers old p []) same (gathers_none old)
   gathers old (other ∷ others) now none t =
-      gathers_first old other t.0 now others t.1 (All-head (λ (p : Pass (Entry S A R)). p.joined ≡ []) other others none) (gathers t.0 others now (All-tail (λ (p : Pass (Entry S A R)). p.joined ≡ []) other others none) t.2)
+      gathers_first old other t.0 now others t.1 (All-head (λ (p : Pass (Entry S A R)). p.joined ≡ []) other others none)
+      (gathers t.0 others now (All-tail (λ (p : Pass (Entry S A R)). p.joined ≡ []) other others none) t.2)
 
   -- a number that is listed then was listed before or is one of theirs
   joined_parts : (joined : List ℕ) (others : List (Pass (Entry S A R))) (n : ℕ) → Contains (joined_after joined others) n → Contains joined n ⊎ Contains (numbers others) n
   joined_parts joined [] n c = inl c
   joined_parts joined (other ∷ others) n c = ⊎_elim
-      (λ (d : Contains (other.number ∷ joined) n). ⊎_elim (λ (e : other.number ≡ n). inr (subst (λ m. Contains (other.number ∷ numbers others) m) e (first_of other.number (numbers others)))) (λ (e : Contains joined n). inl e)
-      (first_or_later other.number n joined d))
-      (λ (d : Contains (numbers others) n). inr (later_of other.number n (numbers others) d))
+      (λ (d : Contains (other.number ∷ joined) n).
+      ⊎_elim (λ (e : other.number ≡ n). inr (subst (λ m. Contains (other.number ∷ numbers others) m) e (Contains-first other.number (numbers others)))) (λ (e : Contains joined n). inl e)
+      (Contains-cons_cases other.number n joined d))
+      (λ (d : Contains (numbers others) n). inr (Contains-later other.number n (numbers others) d))
       (joined_parts (other.number ∷ joined) others n c)
 
   module _ (old mid now : Pass (Entry S A R)) (given others : List (Pass (Entry S A R))) (s : Spreads old mid given) (g : Gathers mid now others) where
@@ -130,7 +130,7 @@ module _ {S A R : Type 0} where
         mine : (entry.seat ≡ old.number) ⊎ Contains old.joined entry.seat → ⊥
         mine own =
             let none : by entry.seat added ≡ [] = none_added entry.seat old.history added now.history went_on (owned_same entry.seat own) in
-            in_none entry (subst (λ (xs : List (Entry S A R)). Contains xs entry) none (stands_by added entry c))
+            Contains-nil entry (subst (λ (xs : List (Entry S A R)). Contains xs entry) none (stands_by added entry c))
 
   one_each : (others : List (Pass (Entry S A R))) → All (λ (p : Pass (Entry S A R)). p.places ≡ 1) others → sum (reader_places others) ≡ length others
   one_each [] one = refl
@@ -153,7 +153,8 @@ module _ {S A R : Type 0} where
     left = g.takes ∙ (ap (λ (p : Pass (Entry S A R)). with_others p now.history (mid.places + sum (reader_places others)) (joined_after mid.joined others)
         (mid.sweeps + sum (sweep_counts others)) (greatest_epoch mid.epoch others)) s.left
         ∙ (ap (λ n. with_others old now.history n (joined_after mid.joined others) (mid.sweeps + sum (sweep_counts others)) (greatest_epoch mid.epoch others)) (sym places ∙ same)
-        ∙ (ap (λ (js : List ℕ). with_others old now.history old.places js (mid.sweeps + sum (sweep_counts others)) (greatest_epoch mid.epoch others)) (sym (ap (λ (p : Pass (Entry S A R)). p.joined) g.takes))
+        ∙ (ap (λ (js : List ℕ). with_others old now.history old.places js (mid.sweeps + sum (sweep_counts others)) (greatest_epoch mid.epoch others))
+        (sym (ap (λ (p : Pass (Entry S A R)). p.joined) g.takes))
         ∙ (ap (λ n. with_others old now.history old.places now.joined n (greatest_epoch mid.epoch others)) (sym (ap (λ (p : Pass (Entry S A R)). p.sweeps) g.takes))
         ∙ ap (λ n. with_others old now.history old.places now.joined now.sweeps n) (sym (ap (λ (p : Pass (Entry S A R)). p.epoch) g.takes))))));
     sweeps = ap (λ (p : Pass (Entry S A R)). p.sweeps) g.takes ∙ ap (λ n. n + sum (sweep_counts others)) (ap (λ (p : Pass (Entry S A R)). p.sweeps) s.left);

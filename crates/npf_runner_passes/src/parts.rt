@@ -1,3 +1,4 @@
+// A pass is split into one for each worker.
 ghost use Rattle.std.specs.Prelude.{◌≡◌, ◌≤◌, ◌<◌, All, map, length, vec_len, vec_capacity, IfOk, OnErr};
 ghost use Rattle.npf_connections.specs.Stay.{IsOut};
 ghost use Rattle.npf_runner_passes.specs.Parts.{Spreads};

@@ -1,3 +1,4 @@
+// Passes are joined again.
 ghost use Rattle.std.specs.Prelude.{◌≡◌, [], All, map};
 ghost use Rattle.npf_connections.specs.Stay.{IsOut};
 ghost use Rattle.npf_runner_passes.specs.Whole.{Gathers};

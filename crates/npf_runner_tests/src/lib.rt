@@ -9,6 +9,8 @@ mod answers;
 #[cfg(test)]
 mod expiry;
 #[cfg(test)]
+mod freeing;
+#[cfg(test)]
 mod gates;
 #[cfg(test)]
 mod meeting;

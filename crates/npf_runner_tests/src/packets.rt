@@ -38,6 +38,17 @@ pub fn one_datagram<'a>(alloc: Global) -> Result<Vec<Packet<'a>>, AllocError> {
     Ok(packets)
 }
 
+/// Datagrams of so many flows, each from an address of its own.
+pub fn datagrams_of<'a>(alloc: Global, flows: u8) -> Result<Vec<Packet<'a>>, AllocError> {
+    let mut packets = Vec::new(alloc);
+    for flow in 0..flows {
+        let mut bytes = DATAGRAM;
+        bytes[15] = flow;
+        packets.push(incoming(1, bytes.to_vec(alloc)?))?;
+    }
+    Ok(packets)
+}
+
 fn both<'a>(alloc: Global, first: &[u8], second: &[u8]) -> Result<Vec<Packet<'a>>, AllocError> {
     let mut packets = Vec::new(alloc);
     packets.push(incoming(1, first.to_vec(alloc)?))?;

@@ -3,7 +3,7 @@ ghost use Rattle.std.specs.Prelude.{◌≡◌, ◌<◌, [], IsTrue, All, IfOk, v
 ghost use Rattle.npf_connections.specs.Pass.{IsFirstPass};
 ghost use Rattle.npf_connections.specs.Stay.{IsOut};
 ghost use Rattle.npf_flow.specs.Flows.{flow_law};
-ghost use Rattle.npf_runner.specs.Plays.{PublishFrom};
+ghost use Rattle.npf_traffic.specs.Phases.{PublishFrom};
 ghost use Rattle.npf_traffic.specs.Packet.{IsShortPacket};
 
 use crate::packets::one_datagram;
@@ -102,6 +102,23 @@ pub fn publishing<'a>(alloc: Global, published: Published) -> Result<Case<'a>, F
     Ok(Case {
         configs,
         packets: one_datagram(alloc)?,
+        commands,
+    })
+}
+
+/// Packets under one configuration, with two expiries beside them: of all connections, and then of none.
+pub fn expiring<'a>(alloc: Global, text: &str, packets: Vec<Packet<'a>>) -> Result<Case<'a>, Fail>
+    ensures { IfOk result (λ case. PublishFrom (vec_len case.configs) 0 case.commands.items ×
+        (0 < vec_len case.configs)) }
+{
+    let mut configs = Vec::new(alloc);
+    configs.push(config_of(alloc, text)?)?;
+    let mut commands = Vec::new(alloc);
+    commands.push(Command::Expire(u64::MAX))?;
+    commands.push(Command::Expire(0))?;
+    Ok(Case {
+        configs,
+        packets,
         commands,
     })
 }

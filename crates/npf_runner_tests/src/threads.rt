@@ -1,10 +1,11 @@
 // Workers are on threads of their own, and meet in one table.
 use crate::answers::{put, same};
 use crate::expiry::Expiry;
+use crate::freeing::Freeing;
 use crate::gates::{HoldUntil, Notes};
 use crate::meeting::Meeting;
-use crate::packets::{datagrams, syns};
-use crate::run::{Published, SLOTS, publishing, run, under};
+use crate::packets::{datagrams, datagrams_of, syns};
+use crate::run::{Published, SLOTS, expiring, publishing, run, under};
 use crate::watched::Watched;
 use npf_conndb::{Conns, Fnv};
 use npf_connections_fixtures::NewTable;
@@ -157,6 +158,35 @@ fn tell_commands<R: Threads + Wait + Sync, C: NewTable<FlowLaw>>(
     Ok(told)
 }
 
+// As many packets as there are slots open a connection each, an expiry kills these, and a packet that comes while the phase still runs opens
+// one in a slot that came back.
+fn tell_freed<R: Threads + Wait + Sync, C: NewTable<FlowLaw>>(
+    rt: &R,
+    alloc: Global,
+) -> Result<String, Fail> {
+    let (table, mut pass) = C::new_table(alloc, SLOTS)?;
+    let conns = Watched::new(table, Freeing::new());
+    let case = expiring(alloc, STATEFUL, datagrams_of(alloc, 5)?)?;
+    let outcomes = run(rt, alloc, case, &conns, &mut pass, &conns.watch)?;
+    let mut told = String::new(alloc);
+    put(&mut told, &conns.watch.gave_up())?;
+    for outcome in &outcomes {
+        put(&mut told, &opens_one(outcome))?;
+    }
+    Ok(told)
+}
+
+// Whether the packet opened a connection.
+fn opens_one(outcome: &Outcome) -> bool {
+    matches!(
+        outcome,
+        Outcome::ByRule {
+            opened: Some(_),
+            ..
+        }
+    )
+}
+
 // All that is told of workers over tables of this kind.
 fn tell_workers<R: Threads + Wait + Sync, C: NewTable<FlowLaw>>(
     rt: &R,
@@ -165,6 +195,7 @@ fn tell_workers<R: Threads + Wait + Sync, C: NewTable<FlowLaw>>(
     let mut told = tell_shared::<R, C>(rt, alloc)?;
     told.push_str(tell_gate::<R, C>(rt, alloc)?.as_str())?;
     told.push_str(tell_commands::<R, C>(rt, alloc)?.as_str())?;
+    told.push_str(tell_freed::<R, C>(rt, alloc)?.as_str())?;
     Ok(told)
 }
 
@@ -184,6 +215,12 @@ false
 [ByRule { decision: Pass, log: None, rule: Some(0), config: 1, opened: None }]
 false
 [ByRule { decision: Block(Nothing), log: None, rule: Some(0), config: 0, opened: None }]
+false
+true
+true
+true
+true
+true
 ";
 
 #[test]

@@ -1,11 +1,8 @@
 -- A text that is a word, a mark and a rest is cut into the word and the rest, where the word lacks the mark.
-use Rattle.std.proofs.Common.{◌≡◌, ◌≤◌, ◌<◌, ◌+◌, ◌-◌, ◌==◌, ℕ, Bool, true, false, cond, not, ◌&&◌, Some, None, position, List, [], ◌∷◌, ◌++◌, length, take, drop, get_or, refl, sym, ap, ◌∙◌, arith}
-use Rattle.std.specs.List.{list_all, before_first, after_first, position_or_len, prefix_len}
-use Rattle.std.proofs.lemmas.Bool.{and_parts, ltb-false}
-use Rattle.std.proofs.lemmas.List.{drop_all, length-drop, take_all}
-use Rattle.std.proofs.lemmas.List.Quantifiers.{position-Some}
-use Rattle.std.proofs.lemmas.List.Sums.{position_or_len_is}
-use Rattle.std.proofs.Math.Seq.{take-append_seam, drop-append-add}
+use Rattle.std.proofs.Common.{◌≡◌, ◌<◌, ◌+◌, ◌-◌, ◌==◌, ℕ, Bool, true, not, ◌&&◌, Some, None, position, List, [], ◌∷◌, ◌++◌, length, take, drop, get_or, refl, sym, ap, ◌∙◌, arith}
+use Rattle.std.{specs.List.{list_all, before_first, after_first, position_or_len, prefix_len}, proofs.lemmas.Bool.and_parts}
+use Rattle.std.proofs.{lemmas.List.{drop_all, length-drop, take_all}, Math.Seq.{take-append_seam, drop-append-add}}
+use Rattle.npf_shelf.proofs.PositionLemmas.{position-some_or_len, position-none_or_len}
 
 -- no byte of the word is the mark
 abbrev pub lacks : ℕ → List ℕ → Bool
@@ -38,31 +35,11 @@ rest_behind mark text word rest is lack =
     ∙ ap (λ n. drop (n + 1) (word ++ mark ∷ rest)) (first_mark mark word rest lack)
     ∙ drop-append-add word (mark ∷ rest) 1
 
--- the place that `position` finds ends the word
-place_is : (p : ℕ → Bool) (text : List ℕ) (at : ℕ) → position p text ≡ Some at → position_or_len p text ≡ at
-place_is p text at found =
-    let is = position-Some p text at 0 found in
-    position_or_len_is p text at 0 (omega (arith, is.0)) is.2 (λ _. is.1)
-
-pub found_before : (p : ℕ → Bool) (text : List ℕ) (at : ℕ) → position p text ≡ Some at → take at text ≡ before_first p text
-found_before p text at found = ap (λ n. take n text) (sym (place_is p text at found))
-
 pub found_behind : (p : ℕ → Bool) (text : List ℕ) (at : ℕ) → position p text ≡ Some at
     → take (length text - (at + 1)) (drop (at + 1) text) ≡ after_first p text
 found_behind p text at found =
     let long = length-drop (at + 1) text in
-    take_all (length text - (at + 1)) (drop (at + 1) text) (omega (arith, long)) ∙ ap (λ n. drop (n + 1) text) (sym (place_is p text at found))
-
-not_found : {X : Type 0} (answer : Bool) (x : X) → cond answer (Some x) None ≡ None → answer ≡ false
-not_found true x none = cc
-not_found false x none = refl
-
--- where it finds none, all is the word
-nothing_found : (p : ℕ → Bool) (text : List ℕ) → position p text ≡ None → length text ≤ position_or_len p text
-nothing_found p text none = ltb-false _ _ (not_found _ _ none)
-
-pub none_before : (p : ℕ → Bool) (text : List ℕ) → position p text ≡ None → text ≡ before_first p text
-none_before p text none = sym (take_all (position_or_len p text) text (nothing_found p text none))
+    take_all (length text - (at + 1)) (drop (at + 1) text) (omega (arith, long)) ∙ ap (λ n. drop (n + 1) text) (sym (position-some_or_len p text at found))
 
 pub none_behind : (p : ℕ → Bool) (text : List ℕ) → position p text ≡ None → [] ≡ after_first p text
-none_behind p text none = let all = nothing_found p text none in sym (drop_all (position_or_len p text + 1) text (omega (arith, all)))
+none_behind p text none = let all = position-none_or_len p text none in sym (drop_all (position_or_len p text + 1) text (omega (arith, all)))

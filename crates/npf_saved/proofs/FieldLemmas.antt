@@ -1,28 +1,15 @@
 -- What the texts of a line's words lack: the marks by which the line, and the word that they stand in, are parted.
 use Rattle.std.proofs.Common.{◌≡◌, ◌<◌, ◌/◌, ◌%◌, ◌^◌, ◌==◌, ◌≤◌, ◌&&◌, ℕ, Bool, true, false, not, Option, Some, None, IfSome, List, [], ◌∷◌, ◌++◌, slice_index, refl, sym, ap, ◌∙◌, arith, lit≤}
-use Rattle.std.specs.Fmt.{decimal}
-use Rattle.std.specs.Int.{w16, w32, w64}
-use Rattle.std.specs.List.{list_all}
-use Rattle.std.specs.Char.{digit_value}
-use Rattle.std.proofs.lemmas.List.Folds.{list_all-append}
+use Rattle.std.{specs.{Fmt.decimal, Int.{w16, w32, w64}, List.list_all, Char.digit_value}, proofs.lemmas.List.Folds.list_all-append}
 use Rattle.hex.specs.Hex.{is_hex_digit}
-use Rattle.npf_types.specs.declared.address.Addr.{Addr}
-use Rattle.npf_types.specs.declared.address.Addr.TheVariants.{V4, V6}
-use Rattle.npf_types.specs.declared.change.Change.{Change}
-use Rattle.npf_types.specs.declared.change.End.{End}
-use Rattle.npf_types.specs.declared.key.Key.{Key}
-use Rattle.npf_tcp.specs.declared.state.Known.{Known}
+use Rattle.npf_types.specs.declared.{address.Addr.{Addr, TheVariants.{V4, V6}}, change.{Change.Change, End.End}, key.Key.Key}
+use Rattle.npf_tcp.specs.declared.state.{Known.Known, TcpPhase.TcpPhase, TcpSide.TcpSide, TcpState.TcpState}
 use Rattle.npf_tcp.specs.declared.state.Known.TheVariants as Knowns
-use Rattle.npf_tcp.specs.declared.state.TcpPhase.{TcpPhase}
 use Rattle.npf_tcp.specs.declared.state.TcpPhase.TheVariants as Phases
-use Rattle.npf_tcp.specs.declared.state.TcpSide.{TcpSide}
-use Rattle.npf_tcp.specs.declared.state.TcpState.{TcpState}
-use Rattle.npf_flow.specs.declared.flow.FlowKind.{FlowKind}
-use Rattle.npf_flow.specs.declared.flow.FlowKind.TheVariants.{Tcp, Other}
+use Rattle.npf_flow.specs.declared.flow.FlowKind.{FlowKind, TheVariants.{Tcp, Other}}
 use Rattle.npf_saved.specs.Fields.{FitsAddrText, FitsChange, FitsEnd, FitsKeyText, FitsKind, FitsSide}
 use Rattle.npf_saved.specs.Spelling.{addr_text, bit_text, change_text, end_text, hex_text, key_text, kind_text, known_number, or_dash, phase_number, side_text, state_text}
-use Rattle.npf_saved.proofs.CutLemmas.{lacks, lacks_both}
-use Rattle.npf_saved.proofs.WordLemmas.{bit_lacks, decimal_lacks, number_lacks, or_dash_lacks}
+use Rattle.npf_saved.proofs.{CutLemmas.{lacks, lacks_both}, WordLemmas.{bit_lacks, decimal_lacks, number_lacks, or_dash_lacks}}
 
 -- the numbers of phases and of what is known are short
 pub known_small : (known : Known) → known_number known < 2 ^ 64

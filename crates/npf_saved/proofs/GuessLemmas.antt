@@ -1,12 +1,8 @@
 -- What a word spells, from what its parts spell.
-use Rattle.std.proofs.Common.{◌≡◌, ◌+◌, ◌==◌, ◌<◌, ◌^◌, ◌&&◌, ℕ, Bool, true, false, not, Option, Some, None, IfSome, IsTrue, ◌↔◌, List, [], ◌∷◌, ◌++◌, length, slice_index, codes, refl, sym, ap, ◌∙◌, true≢false, arith}
-use Rattle.std.specs.List.{before_first}
-use Rattle.npf_types.specs.declared.change.End.{End}
-use Rattle.npf_types.specs.declared.key.Key.{Key}
-use Rattle.npf_saved.specs.Fields.{FitsKeyText}
-use Rattle.npf_saved.specs.Spelling.{addr_text, end_text, or_dash}
-use Rattle.npf_saved.proofs.CutLemmas.{lacks, word_before}
-use Rattle.npf_saved.proofs.FieldLemmas.{addr_lacks}
+use Rattle.std.proofs.Common.{◌≡◌, ◌+◌, ◌==◌, ◌<◌, ◌^◌, ◌&&◌, ℕ, Bool, true, false, not, Option, Some, None, IfSome, IsTrue, ◌↔◌, List, [], ◌∷◌}
+use Rattle.std.{proofs.Common.{◌++◌, length, slice_index, codes, refl, sym, ap, ◌∙◌, true≢false, arith}, specs.List.before_first}
+use Rattle.npf_types.specs.declared.{change.End.End, key.Key.Key}
+use Rattle.npf_saved.{specs.{Fields.FitsKeyText, Spelling.{addr_text, end_text, or_dash}}, proofs.{CutLemmas.{lacks, word_before}, FieldLemmas.addr_lacks}}
 
 -- a list of five is its elements
 five_of : (ks : List ℕ) → length ks ≡ 5

@@ -1,13 +1,8 @@
 -- A name is read from its own bytes, and from a dash none.
 use Rattle.std.proofs.Common.{◌≡◌, ◌≤◌, ◌-◌, ◌+◌, ◌↔◌, ℕ, Bool, true, false, Option, Some, None, IfSome, IsSome, IsTrue, List, [], ◌∷◌, length, take, drop, replicate, refl, sym, ap, subst, ◌∙◌, arith}
 use Rattle.std.proofs.lemmas.List.{length-drop, length-replicate, length-take-le}
-use Rattle.npf_types.specs.declared.name.Name.{Name}
-use Rattle.npf_types.specs.Name.{name_bytes}
-use Rattle.npf_types.specs.NameText.{is_name}
-use Rattle.npf_types.specs.Named.{named}
-use Rattle.npf_types.proofs.NameLemmas.{named_is}
-use Rattle.npf_saved.specs.Fields.{FitsName}
-use Rattle.npf_saved.specs.Spelling.{or_dash}
+use Rattle.npf_types.{specs.{declared.name.Name.Name, Name.name_bytes, NameText.is_name, Named.named}, proofs.NameLemmas.named_is}
+use Rattle.npf_saved.specs.{Fields.FitsName, Spelling.or_dash}
 
 -- a name is the one of its bytes
 pub named_of_bytes : (name : Name) → FitsName name → name ≡ named (name_bytes name)

@@ -1,19 +1,12 @@
 -- What words lack, and what hexadecimal digits are read to.
-use Rattle.std.proofs.Common.{◌≡◌, ◌<◌, ◌≤◌, ◌^◌, ◌/◌, zero, suc, ◌==◌, ◌&&◌, ◌⊎◌, inl, inr, ℕ, Bool, true, false, not, Result, Ok, Err, MatchResult, Option, Some, None, IfSome, List, [], ◌∷◌, ◌++◌, length, slice_index, refl, sym, ap, subst, ◌∙◌, true≢false, arith}
-use Rattle.std.specs.Int.{Width, byte_at, byte_len, bytes_high_first, to_be_bytes}
-use Rattle.std.proofs.Math.Nat.{mod-lt}
-use Rattle.std.specs.Char.{digit_value}
-use Rattle.std.specs.Str.Parse.{AllDigits}
-use Rattle.npf_saved.specs.Spelling.{bit_text, hex_text, or_dash}
-use Rattle.std.specs.Fmt.{decimal}
-use Rattle.std.specs.List.{AllPass, list_all}
-use Rattle.std.proofs.lemmas.Bool.{and_parts, eqb-true}
-use Rattle.std.proofs.lemmas.Fmt.{decimal_is_IsNumeral}
+use Rattle.std.proofs.Common.{◌≡◌, ◌<◌, ◌≤◌, ◌^◌, ◌/◌, zero, suc, ◌==◌, ◌&&◌, ◌⊎◌, inl, inr, ℕ, Bool, true, false, not, Result, Ok, Err, MatchResult, Option, Some, None}
+use Rattle.std.proofs.Common.{IfSome, List, [], ◌∷◌, ◌++◌, length, slice_index, refl, sym, ap, subst, ◌∙◌, true≢false, arith}
+use Rattle.std.{specs.{Int.{Width, byte_at, byte_len, bytes_high_first, to_be_bytes}, Char.digit_value, Str.Parse.AllDigits}, proofs.Math.Nat.mod-lt}
+use Rattle.npf_saved.{specs.Spelling.{bit_text, hex_text, or_dash}, proofs.CutLemmas.lacks}
+use Rattle.std.{specs.{Fmt.decimal, List.{AllPass, list_all}}, proofs.lemmas.{Bool.{and_parts, eqb-true}, Fmt.decimal_is_IsNumeral}}
 use Rattle.std.proofs.lemmas.List.Sums.{list_all-from_AllPass}
-use Rattle.hex.specs.declared.error.FromHexError.{FromHexError}
-use Rattle.hex.specs.Hex.{IsBytes, decode_sized, is_hex_digit, encode_lower}
+use Rattle.hex.specs.{declared.error.FromHexError.FromHexError, Hex.{IsBytes, decode_sized, is_hex_digit, encode_lower}}
 use Rattle.hex.proofs.HexLemmas.{decode_of-encode_lower, decode_of-ok, decode_sized-encode_lower}
-use Rattle.npf_saved.proofs.CutLemmas.{lacks}
 
 -- a byte that passes a test is no mark that doesn't
 differs : (test : ℕ → Bool) (mark byte : ℕ) → test mark ≡ false → test byte ≡ true → not (byte == mark) ≡ true

@@ -16,8 +16,8 @@ mod line;
 mod saved;
 mod spelling;
 mod words;
-mod writing;
+mod write;
 
 pub use line::{conn_of_line, if_of_line};
 pub use saved::Saved;
-pub use writing::saved_text;
+pub use write::saved_text;

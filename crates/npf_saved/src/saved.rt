@@ -1,3 +1,4 @@
+// A connection as a file has it.
 use npf_flow::Flow;
 use npf_types::Key;
 

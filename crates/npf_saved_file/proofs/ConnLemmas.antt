@@ -1,11 +1,8 @@
 -- What may stand behind good connections.
 use Rattle.std.proofs.Common.{◌≡◌, ◌<◌, ℕ, Bool, true, false, List, [], ◌∷◌, ◌++◌, Contains, refl, sym, ap, subst, ◌∙◌, append-nil}
-use Rattle.std.specs.List.{All, flat_map}
-use Rattle.std.proofs.lemmas.List.Concat.{flat_map-append}
-use Rattle.std.proofs.lemmas.List.Elements.{All-contains, All-push, Contains-push}
+use Rattle.std.{specs.List.{All, flat_map}, proofs.lemmas.List.{Concat.flat_map-append, Elements.{All-contains, All-push, Contains-push}}}
 use Rattle.npf_types.specs.declared.key.Key.{Key}
-use Rattle.npf_saved.specs.declared.saved.Saved.{Saved}
-use Rattle.npf_saved.specs.Fields.{FitsSaved}
+use Rattle.npf_saved.specs.{declared.saved.Saved.Saved, Fields.FitsSaved}
 use Rattle.npf_saved_file.specs.Conns.{AreDistinct, AreRising, AreSavedConns, HasKeys, HasKeysOfItsWays, TakesKeys, saved_keys}
 
 keys_more : (conns : List Saved) (saved : Saved) → flat_map saved_keys (conns ++ saved ∷ []) ≡ flat_map saved_keys conns ++ saved_keys saved

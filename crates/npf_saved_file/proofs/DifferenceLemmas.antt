@@ -1,16 +1,9 @@
 -- The first place where two lists of names differ.
 use Rattle.std.proofs.Common.{◌≡◌, ◌≢◌, ◌<◌, ◌≤◌, ◌+◌, ◌==◌, ◌&&◌, ℕ, Bool, true, false, min, Some, None, List, [], ◌∷◌, ◌++◌, length, take, get_or, refl, sym, ap, ◌∙◌, true≢false, inl, inr, arith}
-use Rattle.std.specs.Prelude.{◌⊎◌, slice_get}
-use Rattle.std.specs.Str.{bytes_eq}
-use Rattle.std.proofs.lemmas.Bool.{and_parts}
-use Rattle.std.proofs.lemmas.List.{take_all, take_more}
-use Rattle.std.proofs.lemmas.Map.Views.{exact_unsigned_eq}
-use Rattle.std.proofs.lemmas.Option.{slice_get_past, slice_get_read, slice_get-get_or}
-use Rattle.std.proofs.lemmas.Slice.Eq.{bytes_eq-Decides}
-use Rattle.npf_types.specs.declared.name.Name.{Name}
+use Rattle.std.{specs.{Prelude.{◌⊎◌, slice_get}, Str.bytes_eq}, proofs.lemmas.{Bool.and_parts, List.{take_all, take_more}, Map.Views.exact_unsigned_eq}}
+use Rattle.std.proofs.lemmas.{Option.{slice_get_past, slice_get_read, slice_get-get_or}, Slice.Eq.bytes_eq-Decides}
+use Rattle.npf_types.{specs.{declared.name.Name.Name, contracts.name.NameEq.TheImpl.Laws.laws-law}, proofs.NameLemmas.Name-same}
 use Rattle.npf_types.specs.contracts.name.NamePartialEq.TheImpl as name_eq
-use Rattle.npf_types.specs.contracts.name.NameEq.TheImpl.Laws.{laws-law}
-use Rattle.npf_types.proofs.NameLemmas.{Name-same}
 use Rattle.npf_saved_file.specs.Refusal.{IsFirstDifference}
 
 -- names are told apart by `==`

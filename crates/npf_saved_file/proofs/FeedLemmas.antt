@@ -1,20 +1,9 @@
 -- No line feed stands in a line.
 use Rattle.std.proofs.Common.{◌≡◌, ◌<◌, ◌≤◌, ◌^◌, ◌==◌, ◌&&◌, ℕ, Bool, true, false, not, Option, Some, None, IfSome, List, [], ◌∷◌, ◌++◌, length, take, refl, sym, ap, ◌∙◌, lit≤, arith}
-use Rattle.std.specs.Prelude.{nat_le, nat_lt, slice_index}
-use Rattle.std.specs.Char.{digit_value}
-use Rattle.std.specs.Fmt.{decimal}
-use Rattle.std.specs.List.{before_first, list_all}
-use Rattle.std.proofs.lemmas.Bool.{and_parts}
-use Rattle.npf_types.specs.declared.action.Action.{Action}
-use Rattle.npf_types.specs.declared.change.Change.{Change}
-use Rattle.npf_types.specs.declared.name.Name.{Name}
-use Rattle.npf_types.specs.Name.{name_bytes}
-use Rattle.npf_types.specs.NameText.{is_name_byte}
-use Rattle.npf_flow.specs.declared.flow.FlowKind.{FlowKind}
-use Rattle.npf_flow.specs.declared.flow.FlowKind.TheVariants.{Tcp, Other}
-use Rattle.npf_saved.specs.declared.saved.Saved.{Saved}
-use Rattle.npf_saved.specs.Fields.{FitsAction, FitsKind, FitsName, FitsSaved}
-use Rattle.npf_saved.specs.File.{ended_line}
+use Rattle.std.{specs.{Prelude.{nat_le, nat_lt, slice_index}, Char.digit_value, Fmt.decimal, List.{before_first, list_all}}, proofs.lemmas.Bool.and_parts}
+use Rattle.npf_types.specs.{declared.{action.Action.Action, change.Change.Change, name.Name.Name}, Name.name_bytes, NameText.is_name_byte}
+use Rattle.npf_flow.specs.declared.flow.FlowKind.{FlowKind, TheVariants.{Tcp, Other}}
+use Rattle.npf_saved.specs.{declared.saved.Saved.Saved, Fields.{FitsAction, FitsKind, FitsName, FitsSaved}, File.ended_line}
 use Rattle.npf_saved.specs.Spelling.{action_text, bit_text, change_text, conn_line, end_text, if_line, key_text, kind_text, or_dash, phase_number, side_text, state_text}
 use Rattle.npf_saved.proofs.CutLemmas.{lacks, lacks_both, word_before}
 use Rattle.npf_saved.proofs.FieldLemmas.{byte_lacks, end_lacks, key_lacks, optional_key_lacks, phase_small, side_lacks, size_lacks}

@@ -1,17 +1,11 @@
 -- Keys that are taken into a set.
-use Rattle.std.proofs.Common.{◌≡◌, ◌≢◌, ◌<◌, ◌+◌, ◌↔◌, ℕ, Bool, true, false, not, cond, Option, Some, None, List, [], ◌∷◌, ◌++◌, Contains, length, get_or, refl, sym, ap, subst, ◌∙◌, ◌||◌, true≢false, append-nil, append_assoc, inl, inr, arith}
-use Rattle.std.specs.Prelude.{◌⊎◌}
-use Rattle.std.specs.Cmp.{IsEquivalence}
-use Rattle.std.specs.List.{AllPairs, list_any}
-use Rattle.std.specs.Str.{bytes_eq}
-use Rattle.std.proofs.lemmas.List.{get_or_append_left, get_or_push, length-append, get_or_default}
-use Rattle.std.proofs.lemmas.List.Elements.{Contains-append_left, Contains-push, Contains-push_cases}
-use Rattle.std.proofs.lemmas.List.Quantifiers.{all_pairs_push}
-use Rattle.std.proofs.lemmas.Map.Views.{Contains-from_any, list_any-from_Contains}
-use Rattle.std.proofs.lemmas.Slice.Eq.{bytes_eq-Decides}
-use Rattle.npf_types.specs.declared.key.Key.{Key}
+use Rattle.std.proofs.Common.{◌≡◌, ◌≢◌, ◌<◌, ◌+◌, ◌↔◌, ℕ, Bool, true, false, not, cond, Option, Some, None, List, [], ◌∷◌, ◌++◌, Contains, length, get_or}
+use Rattle.std.{proofs.Common.{refl, sym, ap, subst, ◌∙◌, ◌||◌, true≢false, append-nil, append_assoc, inl, inr, arith}, specs.{Prelude.◌⊎◌, Cmp.IsEquivalence}}
+use Rattle.std.{specs.{List.{AllPairs, list_any}, Str.bytes_eq}, proofs.lemmas.List.{get_or_append_left, get_or_push, length-append, get_or_default}}
+use Rattle.std.proofs.lemmas.List.{Elements.{Contains-append_left, Contains-push, Contains-push_cases}, Quantifiers.all_pairs_push}
+use Rattle.std.proofs.lemmas.{Map.Views.{Contains-from_any, list_any-from_Contains}, Slice.Eq.bytes_eq-Decides}
+use Rattle.npf_types.specs.{declared.key.Key.Key, contracts.key.KeyEq.TheImpl.Laws.laws-law}
 use Rattle.npf_types.specs.contracts.key.KeyPartialEq.TheImpl as key_eq
-use Rattle.npf_types.specs.contracts.key.KeyEq.TheImpl.Laws.{laws-law}
 use Rattle.npf_saved_file.specs.Conns.{AreDistinct, HasKeys, TakesKeys, key_list}
 
 -- keys are told apart by `==`

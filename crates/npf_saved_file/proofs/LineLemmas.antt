@@ -1,10 +1,8 @@
 -- The first line of a text.
 use Rattle.std.proofs.Common.{◌≡◌, ◌<◌, ◌≤◌, ◌+◌, ◌-◌, ◌==◌, ℕ, Bool, true, false, Some, None, List, [], ◌∷◌, ◌++◌, length, take, drop, get_or, position, refl, sym, ap, ◌∙◌, append_assoc, arith}
-use Rattle.std.specs.List.{before_first}
-use Rattle.std.proofs.lemmas.Bool.{eqb-true}
-use Rattle.std.proofs.lemmas.List.{append_cancel_left, drop_more, length-append, length-drop, take-append-drop, take_all}
-use Rattle.std.proofs.lemmas.List.Quantifiers.{position-Some}
-use Rattle.npf_saved.proofs.CutLemmas.{found_before, none_before}
+use Rattle.std.{specs.List.before_first, proofs.lemmas.Bool.eqb-true}
+use Rattle.std.proofs.lemmas.List.{append_cancel_left, drop_more, length-append, length-drop, take-append-drop, take_all, Quantifiers.position-Some}
+use Rattle.npf_shelf.proofs.PositionLemmas.{position-some_before, position-none_before}
 use Rattle.npf_saved.specs.File.{ended_line}
 use Rattle.npf_saved_file.specs.File.{IsFirstLine, is_line_feed}
 
@@ -20,13 +18,13 @@ line_at text at found =
       spelled = sym (take-append-drop at text)
           ∙ ap (λ rest. take at text ++ rest) (drop_more text at 0 is.0 ∙ ap (λ byte. byte ∷ drop (at + 1) text) feed ∙ ap (λ rest. 10 ∷ rest) (sym all))
           ∙ sym (append_assoc (take at text) (10 ∷ []) (take (length text - (at + 1)) (drop (at + 1) text)));
-      whole = found_before is_line_feed text at found;
+      whole = position-some_before is_line_feed text at found;
     }
 
 -- and there is none without one
 pub no_line : (text : List ℕ) → position is_line_feed text ≡ None → (line behind : List ℕ) → ¬ IsFirstLine text line behind
 no_line text none line behind first =
-    let same : line ≡ text = first.whole ∙ sym (none_before is_line_feed text none) in
+    let same : line ≡ text = first.whole ∙ sym (position-none_before is_line_feed text none) in
     let long : length text ≡ length line + 1 + length behind =
     ap length first.spelled ∙ length-append (ended_line line) behind ∙ ap (λ n. n + length behind) (length-append line (10 ∷ [])) in
     let short = ap length same in

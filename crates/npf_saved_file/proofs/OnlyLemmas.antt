@@ -1,21 +1,12 @@
 -- Whatever a text is the file of, it begins with what was taken.
 use Rattle.std.proofs.Common.{◌≡◌, ◌≢◌, ◌<◌, ◌≤◌, ◌+◌, ℕ, List, [], ◌∷◌, ◌++◌, length, get_or, refl, sym, ap, subst, ◌∙◌, append_assoc, append-nil, inl, inr, arith}
-use Rattle.std.specs.Prelude.{◌⊎◌}
-use Rattle.std.specs.List.{All, AllPairs, flat_map}
-use Rattle.std.proofs.lemmas.List.{append_cancel_left, get_or_append_left, length-append}
-use Rattle.std.proofs.lemmas.List.Concat.{flat_map-append}
-use Rattle.std.proofs.lemmas.List.Elements.{All-contains, Contains-append_right}
-use Rattle.npf_types.specs.declared.name.Name.{Name}
-use Rattle.npf_types.specs.Reading.{IsOnly}
-use Rattle.npf_saved.specs.declared.saved.Saved.{Saved}
-use Rattle.npf_saved.specs.Fields.{FitsName, FitsSaved}
-use Rattle.npf_saved.specs.File.{IsConnLine, IsIfLine, conn_lines, ended_line, name_lines, saved_text}
-use Rattle.npf_saved.specs.Spelling.{conn_line, head_line, if_line}
-use Rattle.npf_saved_file.specs.Conns.{AreDistinct, AreSavedConns, ComesBefore, HasKeysOfItsWays, saved_keys}
-use Rattle.npf_saved_file.specs.File.{IsFirstLine, IsNoSavedFile, IsSavedFile}
-use Rattle.npf_saved_file.specs.Lines.{IsBadSavedLine, IsNoInterface}
-use Rattle.npf_saved_file.proofs.FeedLemmas.{conn_lacks, ends_there, if_lacks}
-use Rattle.npf_saved_file.proofs.KeyLemmas.{distinct_front}
+use Rattle.std.{specs.{Prelude.◌⊎◌, List.{All, AllPairs, flat_map}}, proofs.lemmas.List.{append_cancel_left, get_or_append_left, length-append}}
+use Rattle.std.proofs.lemmas.List.{Concat.flat_map-append, Elements.{All-contains, Contains-append_right}}
+use Rattle.npf_types.specs.{declared.name.Name.Name, Reading.IsOnly}
+use Rattle.npf_saved.specs.{declared.saved.Saved.Saved, Fields.{FitsName, FitsSaved}}
+use Rattle.npf_saved.specs.{File.{IsConnLine, IsIfLine, conn_lines, ended_line, name_lines, saved_text}, Spelling.{conn_line, head_line, if_line}}
+use Rattle.npf_saved_file.specs.{Conns.{AreDistinct, AreSavedConns, ComesBefore, HasKeysOfItsWays, saved_keys}, File.{IsFirstLine, IsNoSavedFile, IsSavedFile}}
+use Rattle.npf_saved_file.{specs.Lines.{IsBadSavedLine, IsNoInterface}, proofs.{FeedLemmas.{conn_lacks, ends_there, if_lacks}, KeyLemmas.distinct_front}}
 use Rattle.npf_saved_file.proofs.LineLemmas.{one_line}
 
 -- these interfaces and connections begin with those, and the rest of them is the rest of the text

@@ -1,12 +1,7 @@
 -- Connections that rise by their forward keys.
 use Rattle.std.proofs.Common.{◌≡◌, ◌<◌, ◌≤◌, ◌+◌, ◌-◌, ℕ, Bool, true, false, List, [], ◌∷◌, ◌++◌, length, get_or, refl, sym, ap, subst, ◌∙◌, inl, inr, arith}
-use Rattle.std.specs.Prelude.{◌⊎◌, Some, slice_get}
-use Rattle.std.specs.Cmp.Lexicographic.{slice_cmp}
-use Rattle.std.specs.List.{AllPairs}
-use Rattle.std.specs.Ordering.{nat_cmp}
-use Rattle.std.specs.declared.cmp.Ordering.TheVariants.{Less}
-use Rattle.std.proofs.lemmas.List.{get_or_append_left, get_or_push, get_or_default, length-append}
-use Rattle.std.proofs.lemmas.Option.{get_or_from_slice_get, slice_get_within}
+use Rattle.std.specs.{Prelude.{◌⊎◌, Some, slice_get}, Cmp.Lexicographic.slice_cmp, List.AllPairs, Ordering.nat_cmp, declared.cmp.Ordering.TheVariants.Less}
+use Rattle.std.proofs.lemmas.{List.{get_or_append_left, get_or_push, get_or_default, length-append}, Option.{get_or_from_slice_get, slice_get_within}}
 use Rattle.std.proofs.lemmas.List.Quantifiers.{all_pairs_push}
 use Rattle.npf_types.specs.contracts.key.KeyOrd.TheImpl.Laws.{total-law}
 use Rattle.npf_saved.specs.declared.saved.Saved.{Saved}

@@ -1,16 +1,10 @@
 -- One line more is taken.
 use Rattle.std.proofs.Common.{◌≡◌, ◌≢◌, ◌<◌, ◌≤◌, ◌+◌, ◌==◌, ℕ, Bool, true, false, List, [], ◌∷◌, ◌++◌, length, refl, sym, ap, subst, ◌∙◌, true≢false, append-nil, inl, inr, arith}
-use Rattle.std.specs.Prelude.{◌⊎◌}
-use Rattle.std.proofs.lemmas.Bool.{eqb-true}
-use Rattle.std.proofs.lemmas.List.{length_push}
+use Rattle.std.{specs.Prelude.◌⊎◌, proofs.lemmas.{Bool.eqb-true, List.length_push}}
 use Rattle.npf_types.specs.declared.name.Name.{Name}
-use Rattle.npf_saved.specs.declared.saved.Saved.{Saved}
-use Rattle.npf_saved.specs.File.{saved_text}
-use Rattle.npf_saved_file.specs.declared.lines.Lines.{Lines}
-use Rattle.npf_saved_file.specs.File.{IsFirstLine, IsNoSavedFile, IsOnlySavedFile}
-use Rattle.npf_saved_file.specs.Lines.{AreTaken, IsBadSavedLine, TakesConn, TakesName}
-use Rattle.npf_saved_file.specs.Refusal.{IsFirstBadSaved}
-use Rattle.npf_saved_file.proofs.LineLemmas.{one_line, shorter}
+use Rattle.npf_saved.specs.{declared.saved.Saved.Saved, File.saved_text}
+use Rattle.npf_saved_file.specs.{declared.lines.Lines.Lines, File.{IsFirstLine, IsNoSavedFile, IsOnlySavedFile}}
+use Rattle.npf_saved_file.{specs.{Lines.{AreTaken, IsBadSavedLine, TakesConn, TakesName}, Refusal.IsFirstBadSaved}, proofs.LineLemmas.{one_line, shorter}}
 use Rattle.npf_saved_file.proofs.OnlyLemmas.{Follows, IsSoFar, after_conn, after_name, no_file, no_file_behind, nothing_left}
 use Rattle.npf_saved_file.proofs.TextLemmas.{onward_conn, onward_name}
 

@@ -1,12 +1,8 @@
 -- The text of what was taken, and of one line more.
 use Rattle.std.proofs.Common.{◌≡◌, ◌<◌, ◌≤◌, ◌+◌, ℕ, List, [], ◌∷◌, ◌++◌, length, refl, sym, ap, subst, ◌∙◌, append_assoc, append-nil, arith}
-use Rattle.std.specs.List.{flat_map}
-use Rattle.std.proofs.lemmas.List.{length-append}
-use Rattle.std.proofs.lemmas.List.Concat.{flat_map-append}
+use Rattle.std.{specs.List.flat_map, proofs.lemmas.List.{length-append, Concat.flat_map-append}}
 use Rattle.npf_types.specs.declared.name.Name.{Name}
-use Rattle.npf_saved.specs.declared.saved.Saved.{Saved}
-use Rattle.npf_saved.specs.File.{conn_lines, ended_line, name_lines, saved_text}
-use Rattle.npf_saved.specs.Spelling.{conn_line, head_line, if_line}
+use Rattle.npf_saved.specs.{declared.saved.Saved.Saved, File.{conn_lines, ended_line, name_lines, saved_text}, Spelling.{conn_line, head_line, if_line}}
 use Rattle.npf_saved_file.specs.File.{IsFirstLine}
 
 name_more : (names : List Name) (name : Name) → name_lines (names ++ name ∷ []) ≡ name_lines names ++ ended_line (if_line name)

@@ -1,3 +1,4 @@
+// Why a file of connections is refused.
 ghost use Rattle.std.specs.Prelude.{◌≡◌};
 
 use npf_types::NoMemory;

@@ -14,7 +14,7 @@
 mod conns;
 mod fault;
 mod lines;
-mod reading;
+mod read;
 
 pub use fault::SavedFault;
-pub use reading::{MAX_SAVED_BYTES, read_saved};
+pub use read::read_saved;

@@ -9,8 +9,8 @@ ghost use Rattle.npf_saved_file.specs.Refusal.{RefusesLines};
 
 use crate::conns::add_conn;
 use crate::fault::SavedFault;
-use crate::reading::MAX_SAVED_BYTES;
 use npf_saved::{Saved, conn_of_line, if_of_line};
+use npf_types::limits::MAX_SAVED_BYTES;
 use npf_types::{Key, Name, NoMemory};
 use std::alloc::Global;
 use std::collections::HashSet;

@@ -3,7 +3,8 @@ use crate::setting::Setting;
 use crate::texts::{HEAD, file_text};
 use anyhow::{Result, bail};
 use npf_saved::{conn_of_line, if_of_line, saved_text};
-use npf_saved_file::{MAX_SAVED_BYTES, read_saved};
+use npf_saved_file::read_saved;
+use npf_types::limits::MAX_SAVED_BYTES;
 use std::alloc::Global;
 
 /// Prints the row of a line, if it has one, and its answer.

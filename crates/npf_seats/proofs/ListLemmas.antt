@@ -1,9 +1,8 @@
 -- How often numbers stand in lists.
 use Rattle.std.specs.List.{Contains}
-use Rattle.std.proofs.Common.{◌≡◌, ◌≢◌, ◌⊎◌, ℕ, zero, suc, ◌+◌, ◌<◌, ◌≤◌, Bool, true, false, cond, eqb, eq-eqb, ne_eqb, List, [], ◌∷◌, length, slice_index_or, refl, sym, ap, ◌∙◌, subst, ⊎_elim, inl, inr, arith}
-use Rattle.std.proofs.lemmas.Bool.Decides.{Decides-eqb}
-use Rattle.std.proofs.lemmas.List.Elements.{Contains-append_left, Contains-append_right, Contains-push}
-use Rattle.std.proofs.lemmas.List.Sums.{sum_by-cons}
+use Rattle.std.proofs.Common.{◌≡◌, ◌≢◌, ◌⊎◌, ℕ, zero, suc, ◌+◌, ◌<◌, ◌≤◌, Bool, true, false, cond, eqb, eq-eqb, ne_eqb, List, [], ◌∷◌, length}
+use Rattle.std.proofs.{Common.{slice_index_or, refl, sym, ap, ◌∙◌, subst, ⊎_elim, inl, inr, arith}, lemmas.Bool.Decides.Decides-eqb}
+use Rattle.std.proofs.lemmas.List.{Elements.{Contains-append_left, Contains-append_right, Contains-push}, Sums.sum_by-cons}
 use Rattle.npf_seats.specs.Sums.{others_than, occurs}
 
 abbrev pub one_where : Bool → ℕ

@@ -1,28 +1,14 @@
 -- Histories that begin with one another.
 use Rattle.std.specs.List.{Contains}
-use Rattle.std.proofs.Common.{◌≡◌, ◌⊎◌, ℕ, Bool, true, false, cond, eq-eqb, ne_eqb, arith, ◌==◌, List, [], ◌∷◌, ◌++◌, refl, sym, ap, ◌∙◌, ⊎_elim, inl, inr, append_assoc, append-nil}
-use Rattle.std.proofs.lemmas.Bool.Decides.{Decides-eqb}
-use Rattle.std.proofs.lemmas.List.{append_cancel_left}
-use Rattle.std.proofs.lemmas.List.Elements.{Contains-append_cases, Contains-push_cases, filter-append}
-use Rattle.npf_core.specs.History.{IsPrefix}
-use Rattle.npf_core.proofs.HistoryLemmas.{IsPrefix-self}
+use Rattle.std.proofs.Common.{◌≡◌, ◌⊎◌, ℕ, Bool, true, false, cond, eq-eqb, ne_eqb, ◌==◌, List, [], ◌∷◌, ◌++◌, refl, sym, ap, ◌∙◌, ⊎_elim, inl, inr, append_assoc, append-nil}
+use Rattle.std.proofs.lemmas.{Bool.Decides.Decides-eqb, List.{append_cancel_left, Elements.filter-append}}
+pub use Rattle.npf_shelf.proofs.ListLemmas.{Contains-nil as none_listed, Contains-cons_cases as cons_cases}
+use Rattle.npf_shelf.proofs.ListLemmas.{nil_from_append_left}
+use Rattle.npf_core.{specs.History.IsPrefix, proofs.HistoryLemmas.IsPrefix-self}
 use Rattle.npf_seats.specs.Seats.{by_seat}
-
-pub none_listed : {X : Type 0} (x : X) → Contains [] x → ⊥
-none_listed x c = let below = c.1 in omega (arith, below)
-
-pub cons_cases : {X : Type 0} (x y : X) (xs : List X) → Contains (x ∷ xs) y → (x ≡ y) ⊎ Contains xs y
-cons_cases x y xs c = ⊎_elim
-    (λ (d : Contains (x ∷ []) y). ⊎_elim (λ (n : Contains [] y). absurd (none_listed y n)) (λ (e : x ≡ y). inl e) (Contains-push_cases [] x y d))
-    (λ (d : Contains xs y). inr d)
-    (Contains-append_cases (x ∷ []) xs y c)
 
 pub prefix_of_none : {E : Type 0} (xs : List E) → IsPrefix [] xs
 prefix_of_none xs = record { rest = xs; goes_on = refl }
-
-front_of_none : {X : Type 0} (as' bs : List X) → as' ++ bs ≡ [] → as' ≡ []
-front_of_none [] bs e = refl
-front_of_none (x ∷ xs) bs e = absurd cc
 
 -- what a number has in two parts
 pub by_seat-append : {E : Type 0} (seat_of : E → ℕ) (n : ℕ) (xs ys : List E) → by_seat seat_of n (xs ++ ys) ≡ by_seat seat_of n xs ++ by_seat seat_of n ys
@@ -30,7 +16,8 @@ by_seat-append seat_of n xs ys = filter-append (λ entry. seat_of entry == n) xs
 
 -- a number without entries has none in a part
 pub none_in_prefix : {E : Type 0} (seat_of : E → ℕ) (n : ℕ) (xs ys : List E) → IsPrefix xs ys → by_seat seat_of n ys ≡ [] → by_seat seat_of n xs ≡ []
-none_in_prefix seat_of n xs ys p none = front_of_none (by_seat seat_of n xs) (by_seat seat_of n p.rest) (sym (by_seat-append seat_of n xs p.rest) ∙ (ap (by_seat seat_of n) (sym p.goes_on) ∙ none))
+none_in_prefix seat_of n xs ys p none =
+    nil_from_append_left (by_seat seat_of n xs) (by_seat seat_of n p.rest) (sym (by_seat-append seat_of n xs p.rest) ∙ (ap (by_seat seat_of n) (sym p.goes_on) ∙ none))
 
 -- of two prefixes of one list the one is a prefix of the other
 comparable : {E : Type 0} (xs ys zs : List E) → IsPrefix xs zs → IsPrefix ys zs → IsPrefix xs ys ⊎ IsPrefix ys xs
@@ -55,13 +42,16 @@ comparable (x ∷ xs) (y ∷ ys) (z ∷ zs) p q = ⊎_elim
     y-is = sym (head q.goes_on) ∙ head p.goes_on
 
 -- what a whole history has of a number, a part has that goes on from all of it
-pub between_same : {E : Type 0} (seat_of : E → ℕ) (n : ℕ) (xs ys zs : List E) → IsPrefix xs ys → IsPrefix ys zs → by_seat seat_of n zs ≡ by_seat seat_of n xs → by_seat seat_of n ys ≡ by_seat seat_of n xs
+pub between_same : {E : Type 0} (seat_of : E → ℕ) (n : ℕ) (xs ys zs : List E) → IsPrefix xs ys → IsPrefix ys zs →
+    by_seat seat_of n zs ≡ by_seat seat_of n xs → by_seat seat_of n ys ≡ by_seat seat_of n xs
 between_same seat_of n xs ys zs p q same =
     let all : by_seat seat_of n xs ++ (by_seat seat_of n p.rest ++ by_seat seat_of n q.rest) ≡ by_seat seat_of n xs =
     sym (append_assoc (by_seat seat_of n xs) (by_seat seat_of n p.rest) (by_seat seat_of n q.rest))
-    ∙ (ap (λ h. h ++ by_seat seat_of n q.rest) (sym (by_seat-append seat_of n xs p.rest) ∙ ap (by_seat seat_of n) (sym p.goes_on)) ∙ (sym (by_seat-append seat_of n ys q.rest) ∙ (ap (by_seat seat_of n) (sym q.goes_on) ∙ same))) in
+    ∙ (ap (λ h. h ++ by_seat seat_of n q.rest) (sym (by_seat-append seat_of n xs p.rest) ∙ ap (by_seat seat_of n) (sym p.goes_on))
+    ∙ (sym (by_seat-append seat_of n ys q.rest) ∙ (ap (by_seat seat_of n) (sym q.goes_on) ∙ same))) in
     let none : by_seat seat_of n p.rest ++ by_seat seat_of n q.rest ≡ [] = append_cancel_left (by_seat seat_of n xs) _ [] (all ∙ sym (append-nil (by_seat seat_of n xs))) in
-    ap (by_seat seat_of n) p.goes_on ∙ (by_seat-append seat_of n xs p.rest ∙ (ap (λ h. by_seat seat_of n xs ++ h) (front_of_none (by_seat seat_of n p.rest) (by_seat seat_of n q.rest) none) ∙ append-nil (by_seat seat_of n xs)))
+    ap (by_seat seat_of n) p.goes_on
+    ∙ (by_seat-append seat_of n xs p.rest ∙ (ap (λ h. by_seat seat_of n xs ++ h) (nil_from_append_left (by_seat seat_of n p.rest) (by_seat seat_of n q.rest) none) ∙ append-nil (by_seat seat_of n xs)))
 
 -- the longer of the history that a pass has seen and the one that it was told
 pub record Longer {E : Type 0} (seen told log : List E) : Type 0 where
@@ -82,7 +72,8 @@ pub seen_entry : {E : Type 0} (seat_of : E → ℕ) (xs : List E) (e : E) → by
 seen_entry seat_of [] e none c = none_listed e c
 seen_entry {E} seat_of (x ∷ xs) e none c = by_test (λ n d. seen_entry seat_of xs e n d) (seat_of x == seat_of e) refl none
   where
-    by_test : (by_seat seat_of (seat_of e) xs ≡ [] → Contains xs e → ⊥) → (test : Bool) → (seat_of x == seat_of e) ≡ test → cond test (x ∷ by_seat seat_of (seat_of e) xs) (by_seat seat_of (seat_of e) xs) ≡ [] → ⊥
+    by_test : (by_seat seat_of (seat_of e) xs ≡ [] → Contains xs e → ⊥) → (test : Bool) → (seat_of x == seat_of e) ≡ test →
+        cond test (x ∷ by_seat seat_of (seat_of e) xs) (by_seat seat_of (seat_of e) xs) ≡ [] → ⊥
     by_test rest true is none = cc
     by_test rest false is none = ⊎_elim
         (λ (same : x ≡ e). let one : (seat_of x == seat_of e) ≡ true = (Decides-eqb (seat_of x) (seat_of e)).1 (ap seat_of same) in cc)
@@ -99,10 +90,5 @@ one_of seat_of n entry e = ap (λ b. cond b (entry ∷ []) []) (eq-eqb (seat_of 
 -- a number of which all was seen has none in the rest
 pub rest_none : {E : Type 0} (seat_of : E → ℕ) (n : ℕ) (xs ys : List E) (p : IsPrefix xs ys) → by_seat seat_of n ys ≡ by_seat seat_of n xs → by_seat seat_of n p.rest ≡ []
 rest_none seat_of n xs ys p same =
-    append_cancel_left (by_seat seat_of n xs) (by_seat seat_of n p.rest) [] (sym (by_seat-append seat_of n xs p.rest) ∙ (ap (by_seat seat_of n) (sym p.goes_on) ∙ (same ∙ sym (append-nil (by_seat seat_of n xs)))))
-
--- a list of one item ends with it
-pub ends_alone : {E : Type 0} (x last : E) (init : List E) → x ∷ [] ≡ init ++ last ∷ [] → x ≡ last
-ends_alone x last [] e = cc
-ends_alone x last (y ∷ []) e = absurd cc
-ends_alone x last (y ∷ z ∷ zs) e = absurd cc
+    append_cancel_left (by_seat seat_of n xs) (by_seat seat_of n p.rest) [] (sym (by_seat-append seat_of n xs p.rest)
+    ∙ (ap (by_seat seat_of n) (sym p.goes_on) ∙ (same ∙ sym (append-nil (by_seat seat_of n xs)))))

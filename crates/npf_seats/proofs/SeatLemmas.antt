@@ -1,20 +1,16 @@
 -- The part on seats stays through the base's moves.
 use Rattle.std.specs.List.{Contains}
-use Rattle.std.proofs.Common.{◌≡◌, ◌≢◌, ◌⊎◌, ℕ, zero, suc, ◌+◌, ◌-◌, ◌<◌, ◌≤◌, true, false, true≢false, List, [], ◌∷◌, ◌++◌, set, length, sum_by, refl, sym, ap, ◌∙◌, subst, ⊎_elim, inl, inr, arith, append-nil, length-set, length-append}
-use Rattle.std.proofs.lemmas.Bool.{cases_eq}
-use Rattle.std.proofs.lemmas.List.{length-drop, length-take-le}
-use Rattle.std.proofs.lemmas.List.Elements.{Contains-append_cases, Contains-append_left, Contains-append_right, Contains-push}
+use Rattle.std.proofs.Common.{◌≡◌, ◌≢◌, ◌⊎◌, ℕ, zero, suc, ◌+◌, ◌-◌, ◌<◌, ◌≤◌, true, false, true≢false, List, [], ◌∷◌, ◌++◌, set, length, sum_by, refl}
+use Rattle.std.proofs.{Common.{sym, ap, ◌∙◌, subst, ⊎_elim, inl, inr, arith, append-nil, length-set, length-append}, lemmas.Bool.cases_eq}
+use Rattle.std.proofs.lemmas.List.{length-drop, length-take-le, Elements.{Contains-append_cases, Contains-append_left, Contains-append_right, Contains-push}}
 use Rattle.std.proofs.lemmas.List.Sums.{sum_by-append, sum_by-cons, sum_by_push, sum_by-take-drop}
 use mathlib.Core.Option.{some, some-injective, some-ne-none}
 use lib.ListN.{get_elem?}
 use Rattle.atomic_table.proofs.Lists.{at_set, set_else, at_longer}
-use Rattle.npf_core.specs.History.{IsPrefix}
-use Rattle.npf_core.proofs.HistoryLemmas.{IsPrefix-self, IsPrefix-append, IsPrefix-trans}
-use Rattle.npf_seats.specs.declared.side.SeatSide.{SeatSide}
-use Rattle.npf_seats.specs.Moves.{first_seat, givers_seat, given_seat, taking_seat, spent_seat}
+use Rattle.npf_core.{specs.History.IsPrefix, proofs.HistoryLemmas.{IsPrefix-self, IsPrefix-append, IsPrefix-trans}}
+use Rattle.npf_seats.specs.{declared.side.SeatSide.SeatSide, Moves.{first_seat, givers_seat, given_seat, taking_seat, spent_seat}}
 use Rattle.npf_seats.specs.Seats.{by_seat, IsSpentSeat, IsWhollySeen, FitsSeats, AnswersFor, HasSeat, Seats, owners, places_owned}
-use Rattle.npf_seats.specs.SeatsLaw.{OwnsPlaceAlone, AnswersForAll}
-use Rattle.npf_seats.specs.Sums.{occurs}
+use Rattle.npf_seats.specs.{SeatsLaw.{OwnsPlaceAlone, AnswersForAll}, Sums.occurs}
 use Rattle.npf_seats.proofs.PrefixLemmas.{by_seat-append, none_listed, cons_cases, prefix_of_none, none_in_prefix, not_of, between_same, Longer, longer_of}
 use Rattle.npf_seats.proofs.SumLemmas.{sum-set, one_of_sum, two_of_sum, set_there, one_there, there_within, there_pushed}
 
@@ -40,7 +36,8 @@ module _ {K E : Type 0} (seat_of : E → ℕ) (about : K) (all : ℕ) (readers :
     theirs = λ n c. absurd (none_listed n c);
   }
 
-  pub seats-first : ((reader : ℕ) → reader < all → occurs reader readers ≡ 1) → ((reader : ℕ) → all ≤ reader → occurs reader readers ≡ 0) → length readers ≡ all → Seats seat_of about all [] (opener ∷ [])
+  pub seats-first : ((reader : ℕ) → reader < all → occurs reader readers ≡ 1) → ((reader : ℕ) → all ≤ reader → occurs reader readers ≡ 0) →
+      length readers ≡ all → Seats seat_of about all [] (opener ∷ [])
   seats-first once never long = record {
     each = each;
     owned = λ reader h. let a = single (λ (u : SeatSide K E). occurs reader u.readers) in let b = once reader h in omega (arith, a, b);

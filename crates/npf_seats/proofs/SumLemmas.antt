@@ -1,7 +1,6 @@
 -- Sums over seats, and lists that are read by places.
-use Rattle.std.proofs.Common.{◌≡◌, ◌≢◌, ◌⊎◌, ℕ, zero, suc, ◌+◌, ◌<◌, ◌≤◌, Bool, eqb, eq-eqb, ne_eqb, cond, List, [], ◌∷◌, ◌++◌, map, length, set, slice_index, sum_by, refl, sym, ap, ◌∙◌, ⊎_elim, inl, inr, arith, length-append}
-use Rattle.std.proofs.lemmas.Bool.{cases_eq}
-use Rattle.std.proofs.lemmas.List.{map-set}
+use Rattle.std.proofs.Common.{◌≡◌, ◌≢◌, ◌⊎◌, ℕ, zero, suc, ◌+◌, ◌<◌, ◌≤◌, Bool, eqb, eq-eqb, ne_eqb, cond, List, [], ◌∷◌, ◌++◌, map, length, set}
+use Rattle.std.proofs.{Common.{slice_index, sum_by, refl, sym, ap, ◌∙◌, ⊎_elim, inl, inr, arith, length-append}, lemmas.{Bool.cases_eq, List.map-set}}
 use Rattle.std.proofs.lemmas.List.Sums.{sum_by-cons, sum_by_push}
 use mathlib.Core.Option.{some, some-injective, some-ne-none}
 use lib.ListN.{get_elem?}

@@ -1,3 +1,4 @@
+// What each pass of a shared table knows of seats.
 use std::collections::LinkedList;
 
 /// Who a pass of an object is, what it has seen, and which of the object's places it owns.

@@ -1,8 +1,6 @@
 -- What is written behind what was written.
-use Rattle.std.proofs.Common.{◌≡◌, ◌∙◌, ◌++◌, ◌+◌, ◌<◌, ℕ, List, length, take, get_or, ap, sym, append_assoc}
-use Rattle.std.proofs.lemmas.Grind.{flat_map-append}
-use Rattle.std.proofs.lemmas.List.{flat_map_more, take_more}
-use Rattle.std.specs.List.{flat_map}
+use Rattle.std.proofs.{Common.{◌≡◌, ◌∙◌, ◌++◌, ◌+◌, ◌<◌, ℕ, List, length, take, get_or, ap, sym, append_assoc}, lemmas.Grind.flat_map-append}
+use Rattle.std.{proofs.lemmas.List.{flat_map_more, take_more}, specs.List.flat_map}
 use Rattle.npf_show.specs.Piece.{Piece, piece_text, spelled}
 
 -- pieces behind pieces

@@ -1,14 +1,10 @@
 -- The address that a text writes fits its family.
 use Rattle.std.proofs.Common.{◌≡◌, ◌≤◌, ◌<◌, ◌^◌, ℕ, zero, suc, ◌-◌, Bool, inl, inr, List, [], ◌∷◌, ◌++◌, length, replicate, codes, sym, ap, subst, ◌∙◌, arith, lt_of_lt_of_le}
-use Rattle.std.proofs.lemmas.List.{length-append, length-replicate}
-use Rattle.std.proofs.lemmas.Int.Digits.{digits_value-lt}
-use Rattle.std.specs.Int.{from_be_bytes, w32, w128}
-use Rattle.std.specs.declared.net.ip_addr.IpAddr.{IpAddr}
+use Rattle.std.{proofs.lemmas.{List.{length-append, length-replicate}, Int.Digits.digits_value-lt}, specs.Int.{from_be_bytes, w32, w128}}
+use Rattle.std.specs.{declared.net.ip_addr.IpAddr.IpAddr, Net.Addr.{ipv4_bits, ipv6_bits, octets_of, segments_of}}
 use Rattle.std.specs.declared.net.ip_addr.IpAddr.TheVariants as Ip
-use Rattle.std.specs.Net.Addr.{ipv4_bits, ipv6_bits, octets_of, segments_of}
 use Rattle.std.specs.Net.Grammar.{IsDotted, IsGroup, IsGroupsAfter, IsElided, IsColonHex, IsIpText}
-use Rattle.npf_types.specs.declared.address.Addr.{Addr}
-use Rattle.npf_types.specs.AddressText.{IsAddressText, addr_of}
+use Rattle.npf_types.specs.{declared.address.Addr.Addr, AddressText.{IsAddressText, addr_of}}
 use Rattle.npf_show_tokens.specs.Showable.{FitsAddr}
 use Rattle.npf_show_law.proofs.Gives.{Every}
 
@@ -53,8 +49,11 @@ elided_small text segments is =
     let one = length-append (head ++ zeros) tail in
     let two = length-append head zeros in
     let three : length zeros ≡ 8 - length head - length tail = length-replicate (8 - length head - length tail) 0 in
-    let count : length ((head ++ zeros) ++ tail) ≡ 8 = omega (arith, one, two, three, room) in
-    (ap length is.value ∙ count, subst (Every IsSegment) (sym is.value) (every_behind (head ++ zeros) tail (every_behind head zeros (groups_small _ [] is.head_text head is.head_groups) (zeros_small (8 - length head - length tail))) (groups_small _ [] is.tail_text tail is.tail_groups)))
+    let count : length ((head ++ zeros) ++ tail) ≡ 8 = omega (arith, one, two, three, room) in (
+      ap length is.value ∙ count,
+      subst (Every IsSegment) (sym is.value) (every_behind (head ++ zeros) tail
+          (every_behind head zeros (groups_small _ [] is.head_text head is.head_groups) (zeros_small (8 - length head - length tail))) (groups_small _ [] is.tail_text tail is.tail_groups)),
+    )
 
 eight_small : (text segments : List ℕ) → IsColonHex text segments → (length segments ≡ 8) × Every IsSegment segments
 eight_small text segments (inl is) = (is.1, groups_small _ [] text segments is.0)

@@ -1,52 +1,27 @@
 -- What the names and the values of a configuration without a fault stand for.
-use Rattle.std.proofs.Common.{◌≡◌, ◌≤◌, ◌<◌, ℕ, Bool, true, false, not, ◌||◌, if◌then◌else◌, cond, Option, Some, None, IfSome, List, [], ◌∷◌, ◌++◌, length, flat_map, filter, refl, sym, ap, subst, ◌∙◌, arith, append-nil}
-use Rattle.std.proofs.lemmas.Bool.{leb-true}
-use Rattle.std.proofs.lemmas.List.{length-append}
-use Rattle.std.proofs.lemmas.List.Elements.{All-head, All-tail}
-use Rattle.std.specs.List.{All}
-use Rattle.std.specs.Str.{bytes_eq}
-use Rattle.npf_types.specs.declared.address.Addr.{Addr}
-use Rattle.npf_types.specs.declared.span.Span.{Span}
-use Rattle.npf_types.specs.Name.{name_bytes}
-use Rattle.npf_types.specs.NameText.{is_name}
-use Rattle.npf_faults.specs.declared.fault.ConfFault.{ConfFault}
-use Rattle.npf_faults.specs.declared.fault.Fault.TheVariants.{Expected, UnknownInterface, UnknownTable}
-use Rattle.npf_syntax.specs.declared.value.Function.{Function}
-use Rattle.npf_syntax.specs.declared.value.Iface.{Iface as WrittenIface}
-use Rattle.npf_syntax.specs.declared.value.Value.{Value}
-use Rattle.npf_syntax.specs.declared.value.Values.{Values}
-use Rattle.npf_syntax.specs.declared.word.Number.{Number}
+use Rattle.std.proofs.Common.{◌≡◌, ◌≤◌, ◌<◌, ℕ, Bool, true, false, not, ◌||◌, if◌then◌else◌, cond, Option, Some, None, IfSome, List, [], ◌∷◌}
+use Rattle.std.proofs.{Common.{◌++◌, length, flat_map, filter, refl, sym, ap, subst, ◌∙◌, arith, append-nil}, lemmas.{Bool.leb-true, List.length-append}}
+use Rattle.std.{proofs.lemmas.List.Elements.{All-head, All-tail}, specs.{List.All, Str.bytes_eq}}
+use Rattle.npf_types.specs.{declared.{address.Addr.Addr, span.Span.Span}, Name.name_bytes, NameText.is_name}
+use Rattle.npf_shelf.proofs.ListLemmas.{nil_from_append_left, nil_from_append_right}
+use Rattle.npf_faults.specs.{declared.fault.{ConfFault.ConfFault, Fault.TheVariants.{Expected, UnknownInterface, UnknownTable}}, First.fault_if}
+use Rattle.npf_syntax.specs.declared.{value.{Function.Function, IfaceTree.IfaceTree as WrittenIface, Value.Value, Values.Values}, word.Number.Number}
 use Rattle.npf_model.specs.declared.iface.Iface.{Iface}
-use Rattle.npf_faults.specs.First.{fault_if}
 use Rattle.npf_check.specs.Undefined.{table_faults, tables_of_values}
 use Rattle.npf_expand_values.specs.Atom.{Atom, NumberAtom, RangeAtom, WordAtom, StringAtom, BlockAtom, TableAtom, AddressesAtom, Binding, Env}
 use Rattle.npf_expand_values.specs.Iface.{iface_binding, iface_span, iface_faults, name_text, only_name, bound_name, iface_name, addresses_of_first, addresses_of, is_of, has_none, address_faults}
 use Rattle.npf_expand_values.specs.Use.{atoms_of, undefined_faults}
-use Rattle.npf_expand_values.specs.Variable.{Definition, number_atom, length_of_block, empty_list_at, binding_of, own_faults, spliced, definition_faults, is_bound_to_list, is_list, unless_refused, defined, env_of}
+use Rattle.npf_expand_values.specs.Variable.{Definition, number_atom, length_of_block, empty_list_at, binding_of, own_faults, spliced}
+use Rattle.npf_expand_values.specs.Variable.{definition_faults, is_bound_to_list, is_list, unless_refused, defined, env_of}
 use Rattle.npf_expand.proofs.ElementLemmas.{untold}
 use Rattle.npf_parser_values.specs.Value.{is_range}
-use Rattle.npf_show_tokens.specs.Showable.{FitsAddr}
-use Rattle.npf_show_tokens.specs.Tokens.{is_run_word}
-use Rattle.npf_show_law.proofs.Gives.{Every}
-use Rattle.npf_show_law.proofs.Sound.{IsSoundValue, AreSoundValues}
-
--- lists of faults that have none
-pub front_none : {X : Type 0} (xs ys : List X) → xs ++ ys ≡ [] → xs ≡ []
-front_none [] ys none = refl
-front_none (x ∷ xs) ys none = cc
-
-pub back_none : {X : Type 0} (xs ys : List X) → xs ++ ys ≡ [] → ys ≡ []
-back_none [] ys none = none
-back_none (x ∷ xs) ys none = cc
+use Rattle.npf_show_tokens.specs.{Showable.FitsAddr, Tokens.is_run_word}
+use Rattle.npf_show_law.proofs.{Gives.Every, Sound.{IsSoundValue, AreSoundValues}}
 
 -- the faults of one atom that is used
 pub split : (unfit : Bool) (span : Span) (words : List ConfFault) → fault_if (unfit || false) span Expected ++ (words ++ []) ≡ [] → (unfit ≡ false) × (words ≡ [])
 split true span words none = cc
-split false span words none = (refl, front_none words [] none)
-
-pub either_off : (a b : Bool) → (a || b) ≡ false → (a ≡ false) × (b ≡ false)
-either_off true b off = cc
-either_off false b off = (refl, off)
+split false span words none = (refl, nil_from_append_left words [] none)
 
 pub is_on : (b : Bool) → not b ≡ false → b ≡ true
 is_on true off = refl
@@ -185,8 +160,9 @@ module _ (ifaces : List Iface) (fit : All (λ i. All FitsAddr i.addrs) ifaces) (
   value_sound env sound (Value.Address a len span) is own none = alone_sound (BlockAtom a.addr (length_of_block len)) is
   value_sound env sound (Value.Table name span) is own none = alone_sound (TableAtom name.text) (is.0, is.1, is_on (is_defined name.text) (untold (not (is_defined name.text)) span UnknownTable none))
   value_sound env sound (Value.Function f i span) is own none =
-      let named = iface_named env sound i (front_none (iface_faults env i) (address_faults ifaces f (iface_name env i) span) own) in
-      alone_sound (AddressesAtom (addresses_of ifaces f (iface_name env i))) (function_sound f (iface_name env i) span named (back_none (iface_faults env i) (address_faults ifaces f (iface_name env i) span) own))
+      let named = iface_named env sound i (nil_from_append_left (iface_faults env i) (address_faults ifaces f (iface_name env i) span) own) in
+      alone_sound (AddressesAtom (addresses_of ifaces f (iface_name env i)))
+      (function_sound f (iface_name env i) span named (nil_from_append_right (iface_faults env i) (address_faults ifaces f (iface_name env i) span) own))
 
   pub bound_atoms : (o : Option Binding) → Bound o → Every IsSoundAtom (atoms_of o) × (0 < length (atoms_of o))
   bound_atoms None bound = absurd bound
@@ -197,15 +173,19 @@ module _ (ifaces : List Iface) (fit : All (λ i. All FitsAddr i.addrs) ifaces) (
       → Every IsSoundAtom (spliced ifaces env vs)
   values_sound env sound [] every own none = tt
   values_sound env sound (v ∷ vs) every own none =
-      let first = bound_atoms (binding_of ifaces env v) (value_sound env sound v every.0 (front_none (own_faults ifaces env v) (flat_map (own_faults ifaces env) vs) own) (front_none (table_faults is_defined v) (flat_map (table_faults is_defined) vs) none)) in
+      let first = bound_atoms (binding_of ifaces env v) (value_sound env sound v every.0 (nil_from_append_left (own_faults ifaces env v) (flat_map (own_faults ifaces env) vs) own)
+      (nil_from_append_left (table_faults is_defined v) (flat_map (table_faults is_defined) vs) none)) in
       every_both IsSoundAtom (atoms_of (binding_of ifaces env v)) (spliced ifaces env vs) first.0
-      (values_sound env sound vs every.1 (back_none (own_faults ifaces env v) (flat_map (own_faults ifaces env) vs) own) (back_none (table_faults is_defined v) (flat_map (table_faults is_defined) vs) none))
+      (values_sound env sound vs every.1 (nil_from_append_right (own_faults ifaces env v) (flat_map (own_faults ifaces env) vs) own)
+      (nil_from_append_right (table_faults is_defined v) (flat_map (table_faults is_defined) vs) none))
 
-  pub values_some : (env : Env) → IsSoundEnv env → (span : Span) (vs : List Value) → empty_list_at span vs ≡ [] → Every IsSoundValue vs → flat_map (own_faults ifaces env) vs ≡ [] → flat_map (table_faults is_defined) vs ≡ []
+  pub values_some : (env : Env) → IsSoundEnv env → (span : Span) (vs : List Value) → empty_list_at span vs ≡ [] →
+      Every IsSoundValue vs → flat_map (own_faults ifaces env) vs ≡ [] → flat_map (table_faults is_defined) vs ≡ []
       → 0 < length (spliced ifaces env vs)
   values_some env sound span [] some every own none = cc
   values_some env sound span (v ∷ vs) some every own none =
-      let first = bound_atoms (binding_of ifaces env v) (value_sound env sound v every.0 (front_none (own_faults ifaces env v) (flat_map (own_faults ifaces env) vs) own) (front_none (table_faults is_defined v) (flat_map (table_faults is_defined) vs) none)) in
+      let first = bound_atoms (binding_of ifaces env v) (value_sound env sound v every.0 (nil_from_append_left (own_faults ifaces env v) (flat_map (own_faults ifaces env) vs) own)
+      (nil_from_append_left (table_faults is_defined v) (flat_map (table_faults is_defined) vs) none)) in
       some_left (atoms_of (binding_of ifaces env v)) (spliced ifaces env vs) first.1
 
   -- definitions
@@ -224,11 +204,12 @@ module _ (ifaces : List Iface) (fit : All (λ i. All FitsAddr i.addrs) ifaces) (
       → IsSoundBinding (defined ifaces env values)
   definition_sound env sound (Values.One v span) is own none =
       let clean : own_faults ifaces env v ≡ [] = sym (append-nil (own_faults ifaces env v)) ∙ own in
-      subst (λ atoms. IsSoundBinding (record { many = is_list ifaces env (Values.One v span); atoms = atoms })) (sym (refused_none (definition_faults ifaces env (Values.One v span)) (spliced ifaces env (v ∷ [])) own))
+      subst (λ atoms. IsSoundBinding (record { many = is_list ifaces env (Values.One v span); atoms = atoms }))
+      (sym (refused_none (definition_faults ifaces env (Values.One v span)) (spliced ifaces env (v ∷ [])) own))
       (one_defined env v (binding_of ifaces env v) refl (value_sound env sound v is clean none))
   definition_sound env sound (Values.List list span) is own none =
-      let filled = front_none (empty_list_at list.span list.values) (flat_map (own_faults ifaces env) list.values) own in
-      let clean = back_none (empty_list_at list.span list.values) (flat_map (own_faults ifaces env) list.values) own in
+      let filled = nil_from_append_left (empty_list_at list.span list.values) (flat_map (own_faults ifaces env) list.values) own in
+      let clean = nil_from_append_right (empty_list_at list.span list.values) (flat_map (own_faults ifaces env) list.values) own in
       subst (λ atoms. IsSoundBinding (record { many = true; atoms = atoms })) (sym (refused_none (definition_faults ifaces env (Values.List list span)) (spliced ifaces env list.values) own))
       (record {
         atoms = values_sound env sound list.values is clean none;
@@ -245,7 +226,8 @@ module _ (ifaces : List Iface) (fit : All (λ i. All FitsAddr i.addrs) ifaces) (
   pub env_sound : (older : List Definition) → AreCleanDefinitions older → IsSoundEnv (env_of ifaces older)
   env_sound [] clean name = tt
   env_sound (newest ∷ older) clean name =
-      by (bytes_eq newest.name name) (env_of ifaces older name) (definition_sound (env_of ifaces older) (env_sound older clean.1) newest.values clean.0.0 clean.0.1 clean.0.2) (env_sound older clean.1 name) where
+      by (bytes_eq newest.name name) (env_of ifaces older name)
+      (definition_sound (env_of ifaces older) (env_sound older clean.1) newest.values clean.0.0 clean.0.1 clean.0.2) (env_sound older clean.1 name) where
         by : {binding : Binding} (b : Bool) (before : Option Binding) → IsSoundBinding binding → IfSome before IsSoundBinding → IfSome (if b then Some binding else before) IsSoundBinding
         by true before one other = one
         by false before one other = other

@@ -1,53 +1,31 @@
 -- What the filters of a configuration without a fault are.
-use Rattle.std.proofs.Common.{◌≡◌, ◌<◌, ◌^◌, ℕ, ◌-◌, Bool, true, false, ◌==◌, ◌||◌, if◌then◌else◌, Option, Some, None, IfSome, option_map, List, [], ◌∷◌, ◌++◌, length, replicate, flat_map, filter_map, refl, sym, subst, ◌∙◌, arith, append-nil, lt_of_lt_of_le}
-use Rattle.std.proofs.Math.Seq.{take-append_seam}
-use Rattle.std.proofs.lemmas.Bool.{and_parts}
-use Rattle.std.proofs.lemmas.List.Elements.{All-cons, All-head, All-nil, All-tail}
-use Rattle.std.proofs.lemmas.Nat.{or_lt, le_or_l}
-use Rattle.std.specs.List.{All, list_all}
-use Rattle.npf_types.specs.declared.address.Addr.{Addr}
-use Rattle.npf_types.specs.declared.span.Span.{Span}
-use Rattle.npf_types.specs.Block.{block}
-use Rattle.npf_types.specs.Name.{name_bytes}
-use Rattle.npf_types.specs.Named.{named, name_where}
-use Rattle.npf_types.specs.NameText.{is_name}
+use Rattle.std.proofs.Common.{◌≡◌, ◌<◌, ◌^◌, ℕ, ◌-◌, Bool, true, false, ◌==◌, ◌||◌, if◌then◌else◌, Option, Some, None, IfSome, option_map, List, [], ◌∷◌, ◌++◌}
+use Rattle.std.proofs.{Common.{length, replicate, flat_map, filter_map, refl, sym, subst, ◌∙◌, arith, append-nil, lt_of_lt_of_le}, Math.Seq.take-append_seam}
+use Rattle.std.{proofs.lemmas.{Bool.and_parts, List.Elements.{All-cons, All-head, All-nil, All-tail}, Nat.{or_lt, le_or_l}}, specs.List.{All, list_all}}
+use Rattle.npf_types.specs.{declared.{address.Addr.Addr, span.Span.Span}, Block.block, Name.name_bytes, Named.{named, name_where}, NameText.is_name}
+use Rattle.npf_shelf.proofs.ListLemmas.{nil_from_append_left, nil_from_append_right}
 use Rattle.npf_faults.specs.declared.fault.ConfFault.{ConfFault}
 use Rattle.npf_lexer.specs.Run.{is_word}
-use Rattle.npf_syntax.specs.declared.filter.Addresses.{Addresses}
-use Rattle.npf_syntax.specs.declared.filter.Detail.{Detail}
-use Rattle.npf_syntax.specs.declared.filter.Ends.{Ends as WrittenEnds}
-use Rattle.npf_syntax.specs.declared.filter.Filter.{Filter}
-use Rattle.npf_syntax.specs.declared.filter.ProtoPart.{ProtoPart}
-use Rattle.npf_syntax.specs.declared.filter.Protocols.{Protocols}
-use Rattle.npf_syntax.specs.declared.filter.Where.{Where}
-use Rattle.npf_syntax.specs.declared.value.One.{One}
-use Rattle.npf_syntax.specs.declared.value.Value.{Value}
-use Rattle.npf_syntax.specs.declared.value.Values.{Values}
-use Rattle.npf_syntax.specs.declared.word.Number.{Number}
-use Rattle.npf_syntax.specs.declared.word.Word.{Word}
-use Rattle.npf_model.specs.declared.ends.AddrItem.{AddrItem}
-use Rattle.npf_model.specs.declared.ends.AddrItem.TheVariants.{Net, InTable}
-use Rattle.npf_model.specs.declared.iface.Iface.{Iface}
-use Rattle.npf_model.specs.declared.model.Model.{Model}
+use Rattle.npf_syntax.specs.declared.filter.{Addresses.Addresses, Detail.Detail, EndsTree.EndsTree as WrittenEnds, Filter.Filter, ProtoPart.ProtoPart}
+use Rattle.npf_syntax.specs.declared.{filter.{Protocols.Protocols, Where.Where}, value.{One.One, Value.Value, Values.Values}, word.{Number.Number, Word.Word}}
+use Rattle.npf_model.specs.declared.{ends.AddrItem.{AddrItem, TheVariants.{Net, InTable}}, iface.Iface.Iface, model.Model.Model}
 use Rattle.npf_check.specs.Undefined.{table_faults, tables_of_addresses, tables_of_ends, tables_of_target, tables_of_where}
-use Rattle.npf_expand_values.specs.Address.{items_of, addresses_faults, address_items}
-use Rattle.npf_expand_values.specs.Atom.{Atom, Binding, Env}
-use Rattle.npf_expand_values.specs.Declarations.{table_number}
+use Rattle.npf_expand_values.specs.{Address.{items_of, addresses_faults, address_items}, Atom.{Atom, Binding, Env}, Declarations.table_number}
 use Rattle.npf_expand_values.specs.Port.{atom_ports, ports_faults, ports_of}
 use Rattle.npf_expand_values.specs.Protocol.{one_span, one_binding, protocol_of, written_ones, protocol_faults, protocols_faults, spliced_ones, protocols_of}
-use Rattle.npf_expand_values.specs.Use.{undefined_faults, atoms_of}
-use Rattle.npf_expand_values.specs.Variable.{value_span, empty_list_at, binding_of, own_faults, spliced}
-use Rattle.npf_expand.specs.Rule.{flag_bit, flag_bits, mask_bits, flags_of_detail, as_byte, icmp_of_detail, detail_of_part, source_ends, destination_ends, ends_faults, part_faults, filter_faults, part_protocols, ends_of_written, filter_rule}
+use Rattle.npf_expand_values.specs.{Use.{undefined_faults, atoms_of}, Variable.{value_span, empty_list_at, binding_of, own_faults, spliced}}
+use Rattle.npf_expand.specs.Rule.{flag_bit, flag_bits, mask_bits, flags_of_detail, as_byte, icmp_of_detail, detail_of_part, source_ends, destination_ends}
+use Rattle.npf_expand.specs.Rule.{ends_faults, part_faults, filter_faults, part_protocols, ends_of_written, filter_rule}
 use Rattle.npf_parser_values.specs.Token.{nowhere, is_flag}
 use Rattle.npf_show.specs.Filter.{flag_text}
 use Rattle.npf_show_tokens.specs.Showable.{FitsByte, FitsAddr, IsShowableRange, IsShowableItem, AreShowableEnds, AreShowableFlags, IsShowableFilter}
-use Rattle.npf_show_tokens.specs.Tokens.{is_run_word}
-use Rattle.npf_show_tokens.proofs.Values.{values_come_back_lem}
+use Rattle.npf_show_tokens.{specs.Tokens.is_run_word, proofs.Values.values_come_back_lem}
 use Rattle.npf_show_meaning.specs.Regular.{IsRegularItem, IsForward, AreRegularEnds, IsOneDetail, IsRegularFilter}
 use Rattle.npf_show_law.proofs.Gives.{Every, IfThere}
 use Rattle.npf_show_law.proofs.Sound.{IsSoundValue, IsSoundPort, AreSoundPorts, IsRunWord, IsSoundDetail, AreSomeProtocols, IsSoundPart, AreSoundAddresses, AreSoundEnds, IsSoundWhere, IsSoundFilter}
-use Rattle.npf_show_law.proofs.Atoms.{IsSoundAtom, IsSoundBinding, IsSoundEnv, front_none, back_none, every_both, some_left, values_sound, values_some}
-use Rattle.npf_show_law.proofs.Meant.{IsPortAtom, IsAddressAtom, IsProtocolAtom, uses, usable, block_shows, kept_all, GivesSome, IsGoodRange, port_given, protocol_given, every_pairs, all_given, some_given}
+use Rattle.npf_show_law.proofs.Atoms.{IsSoundAtom, IsSoundBinding, IsSoundEnv, every_both, some_left, values_sound, values_some}
+use Rattle.npf_show_law.proofs.Meant.{IsPortAtom, IsAddressAtom, IsProtocolAtom, uses, usable, block_shows, kept_all, GivesSome, IsGoodRange}
+use Rattle.npf_show_law.proofs.Meant.{port_given, protocol_given, every_pairs, all_given, some_given}
 
 pub every_all : {X : Type 0} (P : X → Type 0) (xs : List X) → Every P xs → All P xs
 every_all P [] every = All-nil P
@@ -84,7 +62,8 @@ flag_small letter = by (letter == 70) (letter == 83) (letter == 82) (letter == 8
 
 flag_some : (letter : ℕ) → is_flag letter ≡ true → 0 < flag_bit letter
 flag_some letter is = by (letter == 70) (letter == 83) (letter == 82) (letter == 80) (letter == 65) (letter == 85) (letter == 69) (letter == 87) is where
-  by : (a b c d e f g h : Bool) → (a || b || c || d || e || f || g || h) ≡ true → 0 < (if a then 1 else (if b then 2 else (if c then 4 else (if d then 8 else (if e then 16 else (if f then 32 else (if g then 64 else (if h then 128 else 0))))))))
+  by : (a b c d e f g h : Bool) → (a || b || c || d || e || f || g || h) ≡ true →
+      0 < (if a then 1 else (if b then 2 else (if c then 4 else (if d then 8 else (if e then 16 else (if f then 32 else (if g then 64 else (if h then 128 else 0))))))))
   by true b c d e f g h is = omega arith
   by false true c d e f g h is = omega arith
   by false false true d e f g h is = omega arith
@@ -144,15 +123,19 @@ module _ (ifaces : List Iface) (fit : All (λ i. All FitsAddr i.addrs) ifaces) (
   abbrev each_uses : (Atom → Bool) → (Atom → List ConfFault) → Value → List ConfFault
   each_uses unfit words v = own_faults ifaces env v ++ uses unfit words (value_span v) (atoms_of (binding_of ifaces env v))
 
-  each_use : (unfit : Atom → Bool) (words : Atom → List ConfFault) (vs : List Value) → flat_map (each_uses unfit words) vs ≡ [] → (flat_map (own_faults ifaces env) vs ≡ []) × Every (λ atom. uses unfit words nowhere (atom ∷ []) ≡ []) (spliced ifaces env vs)
+  each_use : (unfit : Atom → Bool) (words : Atom → List ConfFault) (vs : List Value) → flat_map (each_uses unfit words) vs ≡ [] →
+      (flat_map (own_faults ifaces env) vs ≡ []) × Every (λ atom. uses unfit words nowhere (atom ∷ []) ≡ []) (spliced ifaces env vs)
   each_use unfit words [] none = (refl, tt)
   each_use unfit words (v ∷ vs) none =
       let here = each_uses unfit words v in
-      let first = front_none here (flat_map (each_uses unfit words) vs) none in
-      let rest = each_use unfit words vs (back_none here (flat_map (each_uses unfit words) vs) none) in
+      let first = nil_from_append_left here (flat_map (each_uses unfit words) vs) none in
+      let rest = each_use unfit words vs (nil_from_append_right here (flat_map (each_uses unfit words) vs) none) in
       let own = own_faults ifaces env v in
-      let used = uses unfit words (value_span v) (atoms_of (binding_of ifaces env v)) in
-      (rw (front_none own used first) rest.0, every_both (λ atom. uses unfit words nowhere (atom ∷ []) ≡ []) (atoms_of (binding_of ifaces env v)) (spliced ifaces env vs) (usable unfit words (value_span v) (atoms_of (binding_of ifaces env v)) (back_none own used first)) rest.1)
+      let used = uses unfit words (value_span v) (atoms_of (binding_of ifaces env v)) in (
+        rw (nil_from_append_left own used first) rest.0,
+        every_both (λ atom. uses unfit words nowhere (atom ∷ []) ≡ []) (atoms_of (binding_of ifaces env v))
+            (spliced ifaces env vs) (usable unfit words (value_span v) (atoms_of (binding_of ifaces env v)) (nil_from_append_right own used first)) rest.1,
+      )
 
   -- ports
   port_values : (vs : List Value) → Every IsSoundPort vs → Every IsSoundValue vs × (flat_map (table_faults d) vs ≡ [])
@@ -165,12 +148,13 @@ module _ (ifaces : List Iface) (fit : All (λ i. All FitsAddr i.addrs) ifaces) (
   listed_ports : (unfit : Atom → Bool) (words : Atom → List ConfFault) (span : Span) (vs : List Value) → Every IsSoundPort vs → empty_list_at span vs ++ flat_map (each_uses unfit words) vs ≡ []
       → ((atom : Atom) → uses unfit words nowhere (atom ∷ []) ≡ [] → IsPortAtom atom) → AreGoodRanges (filter_map atom_ports (spliced ifaces env vs))
   listed_ports unfit words span vs every none turn =
-      let filled = front_none (empty_list_at span vs) (flat_map (each_uses unfit words) vs) none in
+      let filled = nil_from_append_left (empty_list_at span vs) (flat_map (each_uses unfit words) vs) none in
       let parts = port_values vs every in
-      let used = each_use unfit words vs (back_none (empty_list_at span vs) (flat_map (each_uses unfit words) vs) none) in
+      let used = each_use unfit words vs (nil_from_append_right (empty_list_at span vs) (flat_map (each_uses unfit words) vs) none) in
       let atoms = values_sound ifaces fit d env sound vs parts.0 used.0 parts.1 in
       let some = values_some ifaces fit d env sound span vs filled parts.0 used.0 parts.1 in
-      let kept = kept_all IsGoodRange atom_ports (spliced ifaces env vs) (every_pairs (IsSoundAtom ifaces fit d) IsPortAtom (λ atom. GivesSome IsGoodRange (atom_ports atom)) (port_given ifaces fit d) (spliced ifaces env vs) atoms (every_step _ IsPortAtom turn (spliced ifaces env vs) used.1)) in
+      let kept = kept_all IsGoodRange atom_ports (spliced ifaces env vs) (every_pairs (IsSoundAtom ifaces fit d) IsPortAtom (λ atom. GivesSome IsGoodRange (atom_ports atom))
+      (port_given ifaces fit d) (spliced ifaces env vs) atoms (every_step _ IsPortAtom turn (spliced ifaces env vs) used.1)) in
       (subst (λ n. 0 < n) (sym kept.1) some, kept.0)
 
   ports_meant : (o : Option Values) → IfThere AreSoundPorts o → ports_faults ifaces env o ≡ [] → IfSome (ports_of ifaces env o) AreGoodRanges
@@ -179,7 +163,8 @@ module _ (ifaces : List Iface) (fit : All (λ i. All FitsAddr i.addrs) ifaces) (
   ports_meant (Some (Values.List list span)) is none = listed_ports _ _ list.span list.values is none (λ atom is. is)
 
   -- protocols
-  bound_usable : (unfit : Atom → Bool) (words : Atom → List ConfFault) (o : Option Binding) (span : Span) → IfSome o (IsSoundBinding ifaces fit d) → undefined_faults span o ++ uses unfit words span (atoms_of o) ≡ []
+  bound_usable : (unfit : Atom → Bool) (words : Atom → List ConfFault) (o : Option Binding) (span : Span) →
+      IfSome o (IsSoundBinding ifaces fit d) → undefined_faults span o ++ uses unfit words span (atoms_of o) ≡ []
       → ((atom : Atom) → uses unfit words nowhere (atom ∷ []) ≡ [] → IsProtocolAtom atom) → Every IsProtocolAtom (atoms_of o) × (0 < length (atoms_of o))
   bound_usable unfit words None span is none turn = cc
   bound_usable unfit words (Some b) span is none turn = (every_step _ IsProtocolAtom turn b.atoms (usable unfit words span b.atoms none), is.some)
@@ -199,11 +184,13 @@ module _ (ifaces : List Iface) (fit : All (λ i. All FitsAddr i.addrs) ifaces) (
   ones_usable [] none = tt
   ones_usable (one ∷ list) none =
       every_both IsProtocolAtom (atoms_of (one_binding env one)) (atoms_of_ones list)
-      (one_usable one (front_none (protocol_faults env one) (flat_map (protocol_faults env) list) none)).0 (ones_usable list (back_none (protocol_faults env one) (flat_map (protocol_faults env) list) none))
+      (one_usable one (nil_from_append_left (protocol_faults env one) (flat_map (protocol_faults env) list) none)).0
+      (ones_usable list (nil_from_append_right (protocol_faults env one) (flat_map (protocol_faults env) list) none))
 
   ones_some : (list : List One) → 0 < length list → flat_map (protocol_faults env) list ≡ [] → 0 < length (atoms_of_ones list)
   ones_some [] some none = some
-  ones_some (one ∷ list) some none = some_left (atoms_of (one_binding env one)) (atoms_of_ones list) (one_usable one (front_none (protocol_faults env one) (flat_map (protocol_faults env) list) none)).1
+  ones_some (one ∷ list) some none = some_left (atoms_of (one_binding env one)) (atoms_of_ones list)
+      (one_usable one (nil_from_append_left (protocol_faults env one) (flat_map (protocol_faults env) list) none)).1
 
   some_ones : (p : Protocols) → AreSomeProtocols p → 0 < length (written_ones p)
   some_ones (Protocols.One one span) is = omega arith
@@ -219,14 +206,16 @@ module _ (ifaces : List Iface) (fit : All (λ i. All FitsAddr i.addrs) ifaces) (
   if_detail protos None some is = tt
   if_detail protos (Some x) some is = (some, is)
 
-  part_meant : (o : Option ProtoPart) → IfThere IsSoundPart o → part_faults ifaces env o ≡ [] → All FitsByte (part_protocols ifaces env o) × IsGoodDetail (part_protocols ifaces env o) (detail_of_part o)
+  part_meant : (o : Option ProtoPart) → IfThere IsSoundPart o → part_faults ifaces env o ≡ [] →
+      All FitsByte (part_protocols ifaces env o) × IsGoodDetail (part_protocols ifaces env o) (detail_of_part o)
   part_meant None is none = (All-nil FitsByte, detail_meant [] None tt)
   part_meant (Some part) is none =
       let protos = protocols_meant part.protocols is.protocols none in
       (protos.1, detail_meant (protocols_of env part.protocols) part.detail (if_detail (protocols_of env part.protocols) part.detail protos.0 is.detail))
 
   module _ (model : Model) (tables : List (List ℕ))
-      (numbered : (name : List ℕ) → is_run_word name ≡ true → is_name name ≡ true → d name ≡ true → IsShowableItem model (InTable (table_number tables name)) × IsRegularItem model (InTable (table_number tables name))) where
+      (numbered : (name : List ℕ) → is_run_word name ≡ true → is_name name ≡ true → d name ≡ true →
+      IsShowableItem model (InTable (table_number tables name)) × IsRegularItem model (InTable (table_number tables name))) where
     abbrev IsGoodItem : AddrItem → Type 0
     IsGoodItem item = IsShowableItem model item × IsRegularItem model item
 
@@ -236,23 +225,32 @@ module _ (ifaces : List Iface) (fit : All (λ i. All FitsAddr i.addrs) ifaces) (
     net_good : (addr : Addr) (len : ℕ) → FitsAddr addr → IsGoodItem (Net (block addr len))
     net_good addr len fits = (block_shows addr len fits, tt)
 
-    listed_items : (unfit : Atom → Bool) (words : Atom → List ConfFault) (span : Span) (vs : List Value) → empty_list_at span vs ≡ [] → Every IsSoundValue vs → flat_map (each_uses unfit words) vs ≡ [] → flat_map (table_faults d) vs ≡ []
+    listed_items : (unfit : Atom → Bool) (words : Atom → List ConfFault) (span : Span) (vs : List Value) → empty_list_at span vs ≡ [] →
+        Every IsSoundValue vs → flat_map (each_uses unfit words) vs ≡ [] → flat_map (table_faults d) vs ≡ []
         → ((atom : Atom) → uses unfit words nowhere (atom ∷ []) ≡ [] → IsAddressAtom atom) → AreGoodItems (flat_map (items_of tables) (spliced ifaces env vs))
     listed_items unfit words span vs filled every none defined turn =
         let used = each_use unfit words vs none in
         let atoms = values_sound ifaces fit d env sound vs every used.0 defined in
         let some = values_some ifaces fit d env sound span vs filled every used.0 defined in
-        let fits = every_step _ IsAddressAtom turn (spliced ifaces env vs) used.1 in
-        (some_given ifaces fit d tables IsGoodItem net_good numbered (spliced ifaces env vs) some atoms fits, all_given ifaces fit d tables IsGoodItem net_good numbered (spliced ifaces env vs) atoms fits)
+        let fits = every_step _ IsAddressAtom turn (spliced ifaces env vs) used.1 in (
+          some_given ifaces fit d tables IsGoodItem net_good numbered (spliced ifaces env vs) some atoms fits,
+          all_given ifaces fit d tables IsGoodItem net_good numbered (spliced ifaces env vs) atoms fits,
+        )
 
-    one_item : (unfit : Atom → Bool) (words : Atom → List ConfFault) (v : Value) → IsSoundValue v → each_uses unfit words v ≡ [] → table_faults d v ≡ [] → ((atom : Atom) → uses unfit words nowhere (atom ∷ []) ≡ [] → IsAddressAtom atom)
+    one_item : (unfit : Atom → Bool) (words : Atom → List ConfFault) (v : Value) → IsSoundValue v → each_uses unfit words v ≡ [] →
+        table_faults d v ≡ [] → ((atom : Atom) → uses unfit words nowhere (atom ∷ []) ≡ [] → IsAddressAtom atom)
         → AreGoodItems (flat_map (items_of tables) (spliced ifaces env (v ∷ [])))
-    one_item unfit words v is none defined turn = listed_items unfit words (value_span v) (v ∷ []) refl (is, tt) (append-nil (each_uses unfit words v) ∙ none) (append-nil (table_faults d v) ∙ defined) turn
+    one_item unfit words v is none defined turn = listed_items unfit words (value_span v) (v ∷ []) refl (
+      is,
+      tt,
+    ) (append-nil (each_uses unfit words v) ∙ none) (append-nil (table_faults d v) ∙ defined) turn
 
-    list_items : (unfit : Atom → Bool) (words : Atom → List ConfFault) (span : Span) (vs : List Value) → Every IsSoundValue vs → empty_list_at span vs ++ flat_map (each_uses unfit words) vs ≡ [] → flat_map (table_faults d) vs ≡ []
+    list_items : (unfit : Atom → Bool) (words : Atom → List ConfFault) (span : Span) (vs : List Value) → Every IsSoundValue vs →
+        empty_list_at span vs ++ flat_map (each_uses unfit words) vs ≡ [] → flat_map (table_faults d) vs ≡ []
         → ((atom : Atom) → uses unfit words nowhere (atom ∷ []) ≡ [] → IsAddressAtom atom) → AreGoodItems (flat_map (items_of tables) (spliced ifaces env vs))
     list_items unfit words span vs every none defined turn =
-        listed_items unfit words span vs (front_none (empty_list_at span vs) (flat_map (each_uses unfit words) vs) none) every (back_none (empty_list_at span vs) (flat_map (each_uses unfit words) vs) none) defined turn
+        listed_items unfit words span vs (nil_from_append_left (empty_list_at span vs) (flat_map (each_uses unfit words) vs) none) every
+        (nil_from_append_right (empty_list_at span vs) (flat_map (each_uses unfit words) vs) none) defined turn
 
     addresses_meant : (a : Addresses) → AreSoundAddresses a → addresses_faults ifaces env a ≡ [] → tables_of_addresses d a ≡ [] → IfSome (address_items ifaces env tables a) AreGoodItems
     addresses_meant (Addresses.Any span) is none defined = tt
@@ -275,8 +273,8 @@ module _ (ifaces : List Iface) (fit : All (λ i. All FitsAddr i.addrs) ifaces) (
     ends_meant : (o : Option WrittenEnds) → IfThere AreSoundEnds o → ends_faults ifaces env o ≡ [] → tables_of_target d o ≡ [] → AreGoodEnds o
     ends_meant None is none defined = record { shown = record { addrs = tt; ports = tt }; regular = record { addrs = tt; ports = tt } }
     ends_meant (Some (WrittenEnds.Addresses a o span)) is none defined =
-        let items = split_items (address_items ifaces env tables a) (addresses_meant a is.0 (front_none (addresses_faults ifaces env a) (ports_faults ifaces env o) none) defined) in
-        let ports = split_ports (ports_of ifaces env o) (ports_meant o is.1 (back_none (addresses_faults ifaces env a) (ports_faults ifaces env o) none)) in
+        let items = split_items (address_items ifaces env tables a) (addresses_meant a is.0 (nil_from_append_left (addresses_faults ifaces env a) (ports_faults ifaces env o) none) defined) in
+        let ports = split_ports (ports_of ifaces env o) (ports_meant o is.1 (nil_from_append_right (addresses_faults ifaces env a) (ports_faults ifaces env o) none)) in
         record { shown = record { addrs = items.0; ports = ports.0 }; regular = record { addrs = items.1; ports = ports.1 } }
     ends_meant (Some (WrittenEnds.Ports p span)) is none defined =
         let ports = split_ports (ports_of ifaces env (Some p)) (ports_meant (Some p) is none) in
@@ -284,12 +282,12 @@ module _ (ifaces : List Iface) (fit : All (λ i. All FitsAddr i.addrs) ifaces) (
 
     source_sound : (w : Where) → IsSoundWhere w → tables_of_where d w ≡ [] → IfThere AreSoundEnds (source_ends w) × (tables_of_target d (source_ends w) ≡ [])
     source_sound (Where.All span) is none = (tt, refl)
-    source_sound (Where.From from to span) is none = (is.0, front_none (tables_of_ends d from) (tables_of_target d to) none)
+    source_sound (Where.From from to span) is none = (is.0, nil_from_append_left (tables_of_ends d from) (tables_of_target d to) none)
     source_sound (Where.To to span) is none = (tt, refl)
 
     destination_sound : (w : Where) → IsSoundWhere w → tables_of_where d w ≡ [] → IfThere AreSoundEnds (destination_ends w) × (tables_of_target d (destination_ends w) ≡ [])
     destination_sound (Where.All span) is none = (tt, refl)
-    destination_sound (Where.From from to span) is none = (is.1, back_none (tables_of_ends d from) (tables_of_target d to) none)
+    destination_sound (Where.From from to span) is none = (is.1, nil_from_append_right (tables_of_ends d from) (tables_of_target d to) none)
     destination_sound (Where.To to span) is none = (is, none)
 
     pub filter_meant : (f : Filter) → IsSoundFilter f → filter_faults ifaces env f ≡ [] → tables_of_where d f.ends ≡ []
@@ -298,10 +296,10 @@ module _ (ifaces : List Iface) (fit : All (λ i. All FitsAddr i.addrs) ifaces) (
         let of_part = part_faults ifaces env f.proto in
         let of_source = ends_faults ifaces env (source_ends f.ends) in
         let of_destination = ends_faults ifaces env (destination_ends f.ends) in
-        let before = front_none (of_part ++ of_source) of_destination none in
-        let part = part_meant f.proto is.proto (front_none of_part of_source before) in
+        let before = nil_from_append_left (of_part ++ of_source) of_destination none in
+        let part = part_meant f.proto is.proto (nil_from_append_left of_part of_source before) in
         let source = source_sound f.ends is.ends defined in
         let destination = destination_sound f.ends is.ends defined in
-        let from = ends_meant (source_ends f.ends) source.0 (back_none of_part of_source before) source.1 in
-        let to = ends_meant (destination_ends f.ends) destination.0 (back_none (of_part ++ of_source) of_destination none) destination.1 in
+        let from = ends_meant (source_ends f.ends) source.0 (nil_from_append_right of_part of_source before) source.1 in
+        let to = ends_meant (destination_ends f.ends) destination.0 (nil_from_append_right (of_part ++ of_source) of_destination none) destination.1 in
         (record { protos = part.0; flags = part.1.flags; icmp = part.1.icmp; from = from.shown; to = to.shown }, record { detail = part.1.one; from = from.regular; to = to.regular })

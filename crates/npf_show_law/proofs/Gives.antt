@@ -1,8 +1,9 @@
 -- What holds of a tree whose tokens are those of a text.
-use Rattle.std.proofs.Common.{◌≡◌, ◌<◌, Bool, true, false, Option, Some, None, List, [], ◌∷◌, ◌++◌, length, refl, sym, subst, arith}
+use Rattle.std.proofs.Common.{◌≡◌, ◌<◌, Bool, true, Option, Some, None, List, [], ◌∷◌, ◌++◌, length, refl, sym, subst, arith}
 use Rattle.npf_lexer.specs.declared.token.Token.{Token}
-use Rattle.npf_phrase.specs.Phrase.{Test, chosen, are_items}
+use Rattle.npf_phrase.specs.Phrase.{Test, are_items}
 use Rattle.npf_phrase.specs.Grammar.{Grammar, meaning, token, pure, both, making, either, any_number, fitted, preceded, terminated, optional, list_of, block_of, unless, those_there}
+use Rattle.npf_phrase.proofs.ReadingLemmas.{by_choice}
 use Rattle.npf_show_law.specs.Sound.{IsSoundKind, AreSoundTokens}
 
 pub sound_parts : (one other : List Token) → AreSoundTokens (one ++ other) → AreSoundTokens one × AreSoundTokens other
@@ -37,10 +38,6 @@ both_gives one other = record {
 pub making_gives : {A B : Type 0} {f : List Token → A → B} {g : Grammar Token A} {P : A → Type 0} {Q : B → Type 0} → ((ts : List Token) (a : A) → P a → Q (f ts a)) → Gives g P → Gives (making f g) Q
 making_gives {Q = Q} step one = record { gives = λ ts b n sound is. subst Q (sym is.2) (step ts is.0 (one.gives ts is.0 n sound is.1)) }
 
-by_choice : (b : Bool) (P Q G : Type 0) → (P → G) → (Q → G) → chosen b P Q → G
-by_choice true P Q G one other is = one is
-by_choice false P Q G one other is = other is
-
 pub either_gives : {A : Type 0} {test : Option Token → Bool} {g h : Grammar Token A} {P : A → Type 0} → Gives g P → Gives h P → Gives (either test g h) P
 either_gives {g = g} {h = h} {P = P} one other = record {
   gives = λ ts a n sound. by_choice _ ((meaning g).Is ts a n) ((meaning h).Is ts a n) (P a) (one.gives ts a n sound) (other.gives ts a n sound);
@@ -49,7 +46,8 @@ either_gives {g = g} {h = h} {P = P} one other = record {
 pub fitted_gives : {A : Type 0} {fits : A → Bool} {g : Grammar Token A} {P : A → Type 0} → Gives g P → Gives (fitted fits g) (λ a. P a × (fits a ≡ true))
 fitted_gives one = record { gives = λ ts a n sound is. (one.gives ts a n sound is.0, is.1) }
 
-items_give : {A : Type 0} (g : Grammar Token A) (P : A → Type 0) → Gives g P → (items : List A) (ts : List Token) (n : Option Token) → AreSoundTokens ts → are_items (meaning g) ts items n → Every P items
+items_give : {A : Type 0} (g : Grammar Token A) (P : A → Type 0) → Gives g P → (items : List A) (ts : List Token) (n : Option Token) →
+    AreSoundTokens ts → are_items (meaning g) ts items n → Every P items
 items_give g P one [] ts n sound is = tt
 items_give g P one (a ∷ items) ts n sound (first, other, parts, begins, is, onward) =
     let both = sound_parts first other (subst AreSoundTokens parts sound) in

@@ -1,14 +1,10 @@
 -- The addresses of interfaces that a file says fit their families.
-use Rattle.std.proofs.Common.{ℕ, List, [], ◌∷◌}
-use Rattle.std.proofs.lemmas.List.Elements.{All-cons, All-nil}
-use Rattle.std.specs.List.{All}
-use Rattle.npf_types.specs.declared.address.Addr.{Addr}
-use Rattle.npf_types.specs.AddressText.{IsAddressText}
+use Rattle.std.{proofs.{Common.{ℕ, List, [], ◌∷◌}, lemmas.List.Elements.{All-cons, All-nil}}, specs.List.All}
+use Rattle.npf_types.specs.{declared.address.Addr.Addr, AddressText.IsAddressText}
 use Rattle.npf_model.specs.declared.iface.Iface.{Iface}
 use Rattle.npf_expand_interfaces.specs.IfaceFile.{Each, IsInterface, written_lines, file_lines}
 use Rattle.npf_show_tokens.specs.Showable.{FitsAddr}
-use Rattle.npf_show_law.specs.Law.{InterfacesFit}
-use Rattle.npf_show_law.proofs.AddressFits.{address_fits}
+use Rattle.npf_show_law.{specs.Law.InterfacesFit, proofs.AddressFits.address_fits}
 
 addrs_fit : (words : List (List ℕ)) (addrs : List Addr) → Each IsAddressText words addrs → All FitsAddr addrs
 addrs_fit [] [] each = All-nil FitsAddr

@@ -1,28 +1,19 @@
 -- The tokens of a text: words that are one run, strings without quotes and line feeds, addresses that fit.
-use Rattle.std.proofs.Common.{◌≡◌, ◌≤◌, ◌^◌, ℕ, zero, suc, ◌+◌, ◌-◌, ◌==◌, ◌&&◌, ◌||◌, Bool, true, false, not, nat_le, nat_lt, MatchBool, inl, inr, if◌then◌else◌, cond, Option, Some, None, Ok, Err, List, [], ◌∷◌, length, take, drop, slice_index, refl, sym, ap, subst, ◌∙◌, arith}
-use Rattle.std.proofs.lemmas.Bool.{and_parts}
-use Rattle.std.proofs.lemmas.Bool.Decides.{nat_tests}
-use Rattle.std.proofs.lemmas.List.{length-take}
-use Rattle.std.specs.Char.{is_ascii_alphabetic, is_ascii_alphanumeric}
-use Rattle.std.specs.List.{list_all, prefix_len}
-use Rattle.std.specs.Str.Parse.{digits_value}
-use Rattle.npf_lexer.specs.declared.token.Sign.{Sign}
-use Rattle.npf_lexer.specs.declared.token.Sign.TheVariants.{Colon}
-use Rattle.npf_faults.specs.declared.fault.Fault.{Fault}
-use Rattle.npf_faults.specs.declared.fault.Fault.TheVariants.{BadByte, OpenString, NumberTooLarge}
-use Rattle.npf_lexer.specs.declared.token.Token.{Token}
-use Rattle.npf_lexer.specs.declared.token.TokenKind.{TokenKind}
+use Rattle.std.proofs.Common.{◌≡◌, ◌≤◌, ◌^◌, ℕ, zero, suc, ◌+◌, ◌-◌, ◌==◌, ◌&&◌, ◌||◌, Bool, true, false, not, nat_le, nat_lt, MatchBool, inl, inr, if◌then◌else◌, cond, Option}
+use Rattle.std.proofs.Common.{Some, None, Ok, Err, List, [], ◌∷◌, length, take, drop, slice_index, refl, sym, ap, subst, ◌∙◌, arith}
+use Rattle.std.proofs.lemmas.{Bool.{and_parts, or_parts, and_from, Decides.nat_tests}, List.length-take}
+use Rattle.std.specs.{Char.{is_ascii_alphabetic, is_ascii_alphanumeric}, List.{list_all, prefix_len}, Str.Parse.digits_value}
+use Rattle.npf_lexer.specs.declared.token.{Sign.{Sign, TheVariants.Colon}, Token.Token, TokenKind.TokenKind}
+use Rattle.npf_faults.specs.declared.fault.Fault.{Fault, TheVariants.{BadByte, OpenString, NumberTooLarge}}
 use Rattle.npf_lexer.specs.declared.token.TokenKind.TheVariants as Kind
 use Rattle.npf_lexer.specs.ByteClass.{byte_class, is_run_byte, is_string_byte, is_variable_start, is_variable_byte}
-use Rattle.npf_lexer.specs.Front.{Advances, AdvancesWithin, Begins, BeginsWith, IsRunFront, token_front, run_front, sign_front, string_front, variable_front, backslash_front, line_feed, faulty, skipped}
-use Rattle.npf_lexer.specs.Lexer.{Lexed, Lexes, IsLexed, end, skip, token, fault, onto}
-use Rattle.npf_lexer.specs.Place.{text_start, span_of}
+use Rattle.npf_lexer.specs.Front.{Advances, AdvancesWithin, Begins, BeginsWith, IsRunFront, token_front, run_front, sign_front}
+use Rattle.npf_lexer.specs.Front.{string_front, variable_front, backslash_front, line_feed, faulty, skipped}
+use Rattle.npf_lexer.specs.{Lexer.{Lexed, Lexes, IsLexed, end, skip, token, fault, onto}, Place.{text_start, span_of}}
 use Rattle.npf_lexer.specs.Run.{goes_on, longest_run, ends_in_colon, run_len, is_decimal, number_run, is_word, word_run, IsAddressOrWord, ReadsRun}
 use Rattle.npf_lexer.specs.Sign.{sign_at}
-use Rattle.npf_show_tokens.specs.Showable.{IsPlain}
-use Rattle.npf_show_tokens.specs.Tokens.{is_run_word}
-use Rattle.npf_show_law.proofs.AddressFits.{address_fits}
-use Rattle.npf_show_law.specs.Sound.{IsSoundKind, AreSoundTokens}
+use Rattle.npf_show_tokens.specs.{Showable.IsPlain, Tokens.is_run_word}
+use Rattle.npf_show_law.{proofs.AddressFits.address_fits, specs.Sound.{IsSoundKind, AreSoundTokens}}
 
 abbrev TypeOf : {A : Type 0} → A → Type 0
 TypeOf {A} a = A
@@ -56,23 +47,16 @@ if_told P false x y one other = other refl
 one_more : (n : ℕ) → suc n ≡ 1 + n
 one_more n = omega arith
 
-both_on : (a b : Bool) → a ≡ true → b ≡ true → (a && b) ≡ true
-both_on true b is other = other
-both_on false b is other = is
-
 -- a string ends before its quote
 plain_front : (xs : List ℕ) → IsPlain (take (prefix_len is_string_byte xs) xs)
 plain_front [] = refl
 plain_front (x ∷ xs) = by (is_string_byte x) refl (plain_front xs) where
   by : (b : Bool) → is_string_byte x ≡ b → IsPlain (take (prefix_len is_string_byte xs) xs) → IsPlain (take (cond b (1 + prefix_len is_string_byte xs) 0) (x ∷ xs))
-  by true is later = subst (λ n. IsPlain (take n (x ∷ xs))) (one_more (prefix_len is_string_byte xs)) (both_on (is_string_byte x) (list_all is_string_byte (take (prefix_len is_string_byte xs) xs)) is later)
+  by true is later = subst (λ n. IsPlain (take n (x ∷ xs))) (one_more (prefix_len is_string_byte xs))
+      (and_from (is_string_byte x) (list_all is_string_byte (take (prefix_len is_string_byte xs) xs)) is later)
   by false is later = refl
 
 -- a run that stands in a text is one by itself, where it is cut before what is no letter and no digit
-off_parts : (a b : Bool) → (a || b) ≡ false → (a ≡ false) × (b ≡ false)
-off_parts true b off = cc
-off_parts false b off = (refl, off)
-
 is_end : ℕ → Bool
 is_end b = not (is_ascii_alphanumeric b)
 
@@ -103,13 +87,13 @@ run_stops [] = refl
 run_stops (b ∷ bs) = by (goes_on true (b ∷ bs)) refl (run_stops bs) where
   by : (on : Bool) → goes_on true (b ∷ bs) ≡ on → is_run_byte (slice_index bs (longest_run true bs)) ≡ false → is_run_byte (slice_index (b ∷ bs) (if on then 1 + longest_run true bs else 0)) ≡ false
   by true is later = subst (λ n. is_run_byte (slice_index (b ∷ bs) n) ≡ false) (one_more (longest_run true bs)) later
-  by false is later = (off_parts (is_run_byte b) _ is).0
+  by false is later = (or_parts (is_run_byte b) _ is).0
 
 no_letter : (b : ℕ) → is_run_byte b ≡ false → is_ascii_alphanumeric b ≡ false
 no_letter b is =
-    let three = off_parts (is_ascii_alphanumeric b || b == 95 || b == 46) (b == 58) is in
-    let two = off_parts (is_ascii_alphanumeric b || b == 95) (b == 46) three.0 in
-    (off_parts (is_ascii_alphanumeric b) (b == 95) two.0).0
+    let three = or_parts (is_ascii_alphanumeric b || b == 95 || b == 46) (b == 58) is in
+    let two = or_parts (is_ascii_alphanumeric b || b == 95) (b == 46) three.0 in
+    (or_parts (is_ascii_alphanumeric b) (b == 95) two.0).0
 
 colon_there : (n : ℕ) (text : List ℕ) → ends_in_colon n text ≡ true → is_ascii_alphanumeric (slice_index text (n - 1)) ≡ false
 colon_there n text ends =

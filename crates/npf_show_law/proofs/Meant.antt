@@ -1,40 +1,22 @@
 -- What the values, filters and rules of a configuration without a fault mean.
-use Rattle.std.proofs.Common.{◌≡◌, ◌≤◌, ◌<◌, ◌^◌, ℕ, suc, ◌-◌, min, Bool, true, false, not, is_some, ◌||◌, nat_lt, nat_le, if◌then◌else◌, Option, Some, None, unwrap_or, List, [], ◌∷◌, ◌++◌, length, map, flat_map, filter_map, refl, sym, ap, subst, arith, div-mul-le_self, lt_of_le_of_lt}
-use Rattle.std.proofs.lemmas.Bool.{and_parts, leb-true}
-use Rattle.std.proofs.lemmas.Bool.Decides.{nat_tests}
-use Rattle.std.proofs.lemmas.List.{length-map}
-use Rattle.std.proofs.lemmas.List.Elements.{All-append, All-cons, All-nil}
-use Rattle.std.specs.List.{All, list_any, list_all, cons_option}
-use Rattle.std.specs.Str.{bytes_eq}
-use Rattle.npf_types.specs.declared.address.Addr.{Addr}
-use Rattle.npf_types.specs.declared.address.Addr.TheVariants.{V4, V6}
-use Rattle.npf_types.specs.declared.span.Span.{Span}
-use Rattle.npf_types.specs.Address.{width, kept_bits}
-use Rattle.npf_types.specs.Block.{block}
-use Rattle.npf_types.specs.NameText.{is_name}
-use Rattle.npf_faults.specs.declared.fault.ConfFault.{ConfFault}
-use Rattle.npf_faults.specs.declared.fault.Fault.TheVariants.{Expected, UnknownService}
-use Rattle.npf_model.specs.declared.ends.AddrItem.{AddrItem}
-use Rattle.npf_model.specs.declared.ends.AddrItem.TheVariants.{Net, InTable}
-use Rattle.npf_model.specs.declared.iface.Iface.{Iface}
-use Rattle.npf_faults.specs.First.{fault_if}
-use Rattle.npf_syntax.specs.declared.filter.Addresses.{Addresses}
-use Rattle.npf_syntax.specs.declared.value.One.{One}
-use Rattle.npf_syntax.specs.declared.value.Value.{Value}
+use Rattle.std.proofs.Common.{◌≡◌, ◌≤◌, ◌<◌, ◌^◌, ℕ, suc, ◌-◌, min, Bool, true, false, not, is_some, ◌||◌, nat_lt, nat_le, if◌then◌else◌, Option, Some, None, unwrap_or, List, []}
+use Rattle.std.proofs.Common.{◌∷◌, ◌++◌, length, map, flat_map, filter_map, refl, sym, ap, subst, arith, div-mul-le_self, lt_of_le_of_lt}
+use Rattle.std.proofs.lemmas.{Bool.{and_parts, leb-true, or_parts, Decides.nat_tests}, List.{length-map, Elements.{All-append, All-cons, All-nil}}}
+use Rattle.std.specs.{List.{All, list_any, list_all, cons_option}, Str.bytes_eq}
+use Rattle.npf_types.specs.{declared.{address.Addr.{Addr, TheVariants.{V4, V6}}, span.Span.Span}, Address.{width, kept_bits}, Block.block, NameText.is_name}
+use Rattle.npf_shelf.proofs.ListLemmas.{nil_from_append_left, nil_from_append_right}
+use Rattle.npf_faults.specs.{declared.fault.{ConfFault.ConfFault, Fault.TheVariants.{Expected, UnknownService}}, First.fault_if}
+use Rattle.npf_model.specs.declared.{ends.AddrItem.{AddrItem, TheVariants.{Net, InTable}}, iface.Iface.Iface}
+use Rattle.npf_syntax.specs.declared.{filter.Addresses.Addresses, value.{One.One, Value.Value}}
 use Rattle.npf_expand_values.specs.Address.{items_of, host_item, addresses_faults}
 use Rattle.npf_expand_values.specs.Atom.{Atom, NumberAtom, RangeAtom, WordAtom, StringAtom, BlockAtom, TableAtom, AddressesAtom, Env}
-use Rattle.npf_expand_values.specs.Declarations.{table_number}
-use Rattle.npf_expand_values.specs.Port.{atom_ports, same_port}
-use Rattle.npf_expand_values.specs.Protocol.{protocol_of, one_protocol_faults}
+use Rattle.npf_expand_values.specs.{Declarations.table_number, Port.{atom_ports, same_port}, Protocol.{protocol_of, one_protocol_faults}}
 use Rattle.npf_expand_values.specs.Service.{Names, services, protocols, number_named}
-use Rattle.npf_expand.specs.Map.{side_port_faults}
+use Rattle.npf_expand.{specs.Map.side_port_faults, proofs.ElementLemmas.untold}
 use Rattle.npf_parser_values.specs.Token.{nowhere}
-use Rattle.npf_show_tokens.specs.Showable.{FitsByte, FitsAddr, IsShowablePrefix, IsShowableRange}
-use Rattle.npf_show_tokens.specs.Tokens.{is_run_word}
+use Rattle.npf_show_tokens.specs.{Showable.{FitsByte, FitsAddr, IsShowablePrefix, IsShowableRange}, Tokens.is_run_word}
 use Rattle.npf_show_meaning.specs.Regular.{IsForward}
-use Rattle.npf_show_law.proofs.Gives.{Every}
-use Rattle.npf_expand.proofs.ElementLemmas.{untold}
-use Rattle.npf_show_law.proofs.Atoms.{IsSoundAtom, front_none, back_none, split, either_off, is_on, some_left}
+use Rattle.npf_show_law.proofs.{Gives.Every, Atoms.{IsSoundAtom, split, is_on, some_left}}
 
 -- a block of an address that fits
 v4_fits : (a n : ℕ) → a < 2 ^ 32 → kept_bits 32 n a < 2 ^ 32
@@ -64,17 +46,21 @@ uses unfit words span atoms = fault_if (list_any unfit atoms) span Expected ++ f
 usable_alone : (unfit : Atom → Bool) (words : Atom → List ConfFault) (atom : Atom) → unfit atom ≡ false → words atom ≡ [] → uses unfit words nowhere (atom ∷ []) ≡ []
 usable_alone unfit words atom fits none = rw (fits, none) refl
 
-usable_by : (unfit : Atom → Bool) (words : Atom → List ConfFault) (atoms : List Atom) → list_any unfit atoms ≡ false → flat_map words atoms ≡ [] → Every (λ atom. uses unfit words nowhere (atom ∷ []) ≡ []) atoms
+usable_by : (unfit : Atom → Bool) (words : Atom → List ConfFault) (atoms : List Atom) → list_any unfit atoms ≡ false →
+    flat_map words atoms ≡ [] → Every (λ atom. uses unfit words nowhere (atom ∷ []) ≡ []) atoms
 usable_by unfit words [] fits none = tt
 usable_by unfit words (atom ∷ atoms) fits none =
-    let first = either_off (unfit atom) (list_any unfit atoms) fits in
-    (usable_alone unfit words atom first.0 (front_none (words atom) (flat_map words atoms) none), usable_by unfit words atoms first.1 (back_none (words atom) (flat_map words atoms) none))
+    let first = or_parts (unfit atom) (list_any unfit atoms) fits in (
+      usable_alone unfit words atom first.0 (nil_from_append_left (words atom) (flat_map words atoms) none),
+      usable_by unfit words atoms first.1 (nil_from_append_right (words atom) (flat_map words atoms) none),
+    )
 
 -- of values without a fault each has none
-pub usable : (unfit : Atom → Bool) (words : Atom → List ConfFault) (span : Span) (atoms : List Atom) → uses unfit words span atoms ≡ [] → Every (λ atom. uses unfit words nowhere (atom ∷ []) ≡ []) atoms
+pub usable : (unfit : Atom → Bool) (words : Atom → List ConfFault) (span : Span) (atoms : List Atom) →
+    uses unfit words span atoms ≡ [] → Every (λ atom. uses unfit words nowhere (atom ∷ []) ≡ []) atoms
 usable unfit words span atoms none =
     let here = fault_if (list_any unfit atoms) span Expected in
-    usable_by unfit words atoms (untold (list_any unfit atoms) span Expected (front_none here (flat_map words atoms) none)) (back_none here (flat_map words atoms) none)
+    usable_by unfit words atoms (untold (list_any unfit atoms) span Expected (nil_from_append_left here (flat_map words atoms) none)) (nil_from_append_right here (flat_map words atoms) none)
 
 -- an atom that can be used, as a variable that stands for it
 abbrev pub alone : Atom → Env
@@ -127,12 +113,13 @@ IsGoodRange range = IsShowableRange range × IsForward range
 pub port_small : (n : ℕ) → nat_lt 65535 n ≡ false → n < 2 ^ 16
 port_small n off = grind (arith, nat_tests)
 
-pub port_given : (ifaces : List Iface) (fit : All (λ i. All FitsAddr i.addrs) ifaces) (d : List ℕ → Bool) (atom : Atom) → IsSoundAtom ifaces fit d atom → IsPortAtom atom → GivesSome IsGoodRange (atom_ports atom)
+pub port_given : (ifaces : List Iface) (fit : All (λ i. All FitsAddr i.addrs) ifaces) (d : List ℕ → Bool) (atom : Atom) →
+    IsSoundAtom ifaces fit d atom → IsPortAtom atom → GivesSome IsGoodRange (atom_ports atom)
 port_given ifaces fit d (NumberAtom n) sound is =
     let off = (split (nat_lt 65535 n) nowhere [] is).0 in
     let small = port_small n off in record { value = (n, n); is = rw off refl; holds = ((small, small), omega arith) }
 port_given ifaces fit d (RangeAtom n m) sound is =
-    let both = either_off (nat_lt 65535 n) (nat_lt 65535 m) (split (nat_lt 65535 n || nat_lt 65535 m) nowhere [] is).0 in
+    let both = or_parts (nat_lt 65535 n) (nat_lt 65535 m) (split (nat_lt 65535 n || nat_lt 65535 m) nowhere [] is).0 in
     record { value = (n, m); is = rw (both.0, both.1) refl; holds = ((port_small n both.0, port_small m both.1), sound) }
 port_given ifaces fit d (WordAtom text span) sound is =
     let found = number_there (number_named services text) (is_something services text span (split false nowhere (fault_if (not (is_some (number_named services text))) span UnknownService) is).1) in

@@ -1,28 +1,16 @@
 -- The numbers of tables and procedures are those of their names.
-use Rattle.std.proofs.Common.{◌≡◌, ◌≤◌, ◌<◌, ℕ, zero, suc, ◌+◌, Bool, true, false, ◌||◌, min, unwrap_or, Option, Some, None, List, [], ◌∷◌, ◌++◌, length, get_or, map, flat_map, slice_get, refl, sym, ap, ap₂, subst, ◌∙◌, arith, inl, inr, ◌⊎◌}
-use Rattle.std.specs.List.{list_any}
-use Rattle.std.specs.Str.{bytes_eq}
-use Rattle.std.proofs.lemmas.List.{length-append}
-use Rattle.std.proofs.lemmas.Option.{slice_get_cases}
-use Rattle.std.proofs.lemmas.Slice.Eq.{bytes_eq-Decides}
-use Rattle.npf_types.specs.declared.limits.TheConstants.{MAX_TABLES, MAX_PROCEDURES}
-use Rattle.npf_types.specs.declared.span.Span.{Span}
-use Rattle.npf_types.specs.Name.{name_bytes}
+use Rattle.std.proofs.Common.{◌≡◌, ◌≤◌, ◌<◌, ℕ, zero, suc, ◌+◌, Bool, true, false, ◌||◌, min, unwrap_or, Option, Some, None, List, [], ◌∷◌, ◌++◌, length}
+use Rattle.std.{proofs.Common.{map, flat_map, slice_get, refl, sym, ap, ap₂, subst, ◌∙◌, arith}, specs.{List.list_any, Str.bytes_eq}}
+use Rattle.std.proofs.lemmas.{List.length-append, Option.slice_get_cases, Slice.Eq.bytes_eq-Decides}
+use Rattle.npf_types.specs.{declared.limits.TheConstants.{MAX_TABLES, MAX_PROCEDURES}, Name.name_bytes}
 use Rattle.npf_faults.specs.declared.fault.Excess.{Excess}
 use Rattle.npf_faults.specs.declared.fault.Excess.TheVariants as Of
 use Rattle.npf_syntax.specs.declared.stmt.Stmt.{Stmt}
-use Rattle.npf_model.specs.declared.procedure.Procedure.{Procedure}
-use Rattle.npf_model.specs.declared.table.TableDecl.{TableDecl}
-use Rattle.npf_model.specs.Verdict.{first_where}
-use Rattle.npf_check.specs.Limit.{limited_places, past_faults, past_limit}
-use Rattle.npf_check.specs.Name.{NameAt, is_among}
+use Rattle.npf_model.specs.{declared.{procedure.Procedure.Procedure, table.TableDecl.TableDecl}, Verdict.first_where}
+use Rattle.npf_check.{specs.{Limit.{limited_places, past_faults}, Name.{NameAt, is_among}}, proofs.LimitLemmas.within_by}
 use Rattle.npf_expand_values.specs.Declarations.{no_number, table_name, table_names, table_number, procedure_name, procedure_names}
-use Rattle.npf_expand.specs.Elaborates.{procedures_of}
-use Rattle.npf_expand.specs.Table.{tables_of}
-use Rattle.npf_show_law.proofs.Gives.{Every}
-use Rattle.npf_show_law.proofs.Sound.{IsSoundStmt}
-use Rattle.npf_show_law.proofs.FilterMeant.{named_text}
-use Rattle.npf_show_law.proofs.StmtMeant.{calls_named}
+use Rattle.npf_expand.specs.{Elaborates.procedures_of, Table.tables_of}
+use Rattle.npf_show_law.proofs.{Gives.Every, Sound.IsSoundStmt, FilterMeant.named_text, StmtMeant.calls_named}
 
 abbrev pub is_listed : List (List ℕ) → List ℕ → Bool
 is_listed names text = list_any (λ name. bytes_eq name text) names
@@ -64,7 +52,8 @@ there_named f name_of says (x ∷ xs) zero name there = says x ∙ ap (λ o. unw
 there_named f name_of says (x ∷ xs) (suc place) name there = there_named f name_of says xs place name there
 
 -- what stands at the number of a name has the name
-pub number_named : {X : Type 0} (f : X → List ℕ) (name_of : Option X → List ℕ) → ((x : X) → name_of (Some x) ≡ f x) → (xs : List X) (name : List ℕ) → is_listed (map f xs) name ≡ true → length (map f xs) ≤ 64
+pub number_named : {X : Type 0} (f : X → List ℕ) (name_of : Option X → List ℕ) → ((x : X) → name_of (Some x) ≡ f x) →
+    (xs : List X) (name : List ℕ) → is_listed (map f xs) name ≡ true → length (map f xs) ≤ 64
     → name_of (slice_get xs (table_number (map f xs) name)) ≡ name
 number_named f name_of says xs name any few =
     let found = placed (map f xs) name 0 any in
@@ -94,8 +83,10 @@ among_listed given names text each (stmt ∷ stmts) =
     among_both text (given stmt) (flat_map given stmts) ∙ ap₂ (λ a b. a || b) (each stmt) (among_listed given names text each stmts) ∙ sym (listed_both text (names stmt) (flat_map names stmts))
 
 -- what holds of every form of a statement
-pub by_form : (P : Stmt → Type 0) → ((a : _) (b : _) (c : _) → P (Stmt.Define a b c)) → ((a : _) (b : _) (c : _) → P (Stmt.Set a b c)) → ((a : _) (b : _) → P (Stmt.Alg a b)) → ((a : _) (b : _) (c : _) (e : _) → P (Stmt.Table a b c e))
-    → ((a : _) (b : _) (c : _) (e : _) (f : _) (g : _) (h : _) (i : _) → P (Stmt.Map a b c e f g h i)) → ((a : _) (b : _) (c : _) → P (Stmt.Group a b c)) → ((a : _) (b : _) (c : _) → P (Stmt.Procedure a b c)) → (stmt : Stmt) → P stmt
+pub by_form : (P : Stmt → Type 0) → ((a : _) (b : _) (c : _) → P (Stmt.Define a b c)) → ((a : _) (b : _) (c : _) → P (Stmt.Set a b c)) →
+    ((a : _) (b : _) → P (Stmt.Alg a b)) → ((a : _) (b : _) (c : _) (e : _) → P (Stmt.Table a b c e))
+    → ((a : _) (b : _) (c : _) (e : _) (f : _) (g : _) (h : _) (i : _) → P (Stmt.Map a b c e f g h i)) →
+    ((a : _) (b : _) (c : _) → P (Stmt.Group a b c)) → ((a : _) (b : _) (c : _) → P (Stmt.Procedure a b c)) → (stmt : Stmt) → P stmt
 by_form P of_define of_set of_alg of_table of_map of_group of_procedure (Stmt.Define a b c) = of_define a b c
 by_form P of_define of_set of_alg of_table of_map of_group of_procedure (Stmt.Set a b c) = of_set a b c
 by_form P of_define of_set of_alg of_table of_map of_group of_procedure (Stmt.Alg a b) = of_alg a b
@@ -117,7 +108,8 @@ tables_named (Stmt.Procedure name calls span ∷ stmts) every = tables_named stm
 
 pub procedures_named : (stmts : List Stmt) → map (λ (p : Procedure). p.name) (flat_map procedures_of stmts) ≡ procedure_names stmts
 procedures_named [] = refl
-procedures_named (Stmt.Procedure name calls span ∷ stmts) = ap₂ (λ x xs. x ∷ xs) (calls_named (record { name = name.text; min_ttl = None; max_mss = None; no_df = false; log = None }) calls) (procedures_named stmts)
+procedures_named (Stmt.Procedure name calls span ∷ stmts) =
+    ap₂ (λ x xs. x ∷ xs) (calls_named (record { name = name.text; min_ttl = None; max_mss = None; no_df = false; log = None }) calls) (procedures_named stmts)
 procedures_named (Stmt.Define var values span ∷ stmts) = procedures_named stmts
 procedures_named (Stmt.Set name value span ∷ stmts) = procedures_named stmts
 procedures_named (Stmt.Alg name span ∷ stmts) = procedures_named stmts
@@ -125,20 +117,15 @@ procedures_named (Stmt.Table name kind file span ∷ stmts) = procedures_named s
 procedures_named (Stmt.Map iface kind proto left arrow right pass span ∷ stmts) = procedures_named stmts
 procedures_named (Stmt.Group head items span ∷ stmts) = procedures_named stmts
 
--- there are few of them
-within_by : (quantity : Excess) (most : ℕ) (spans : List Span) → past_limit quantity most (slice_get spans most) ≡ []
-    → ((span : Span) × (most < length spans) × (slice_get spans most ≡ Some span) × (get_or spans most span ≡ span)) ⊎ ((length spans ≤ most) × (slice_get spans most ≡ None))
-    → length spans ≤ most
-within_by quantity most spans none (inl inside) = absurd (let past : past_limit quantity most (Some inside.0) ≡ [] = ap (past_limit quantity most) (sym inside.2) ∙ none in cc)
-within_by quantity most spans none (inr outside) = outside.0
-
 counted_places : {X : Type 0} (quantity : Excess) (names : Stmt → List X) → ((stmt : Stmt) → length (names stmt) ≡ length (limited_places quantity stmt)) → (stmts : List Stmt)
     → length (flat_map names stmts) ≡ length (flat_map (limited_places quantity) stmts)
 counted_places quantity names each [] = refl
 counted_places quantity names each (stmt ∷ stmts) =
-    length-append (names stmt) (flat_map names stmts) ∙ ap₂ (λ n m. n + m) (each stmt) (counted_places quantity names each stmts) ∙ sym (length-append (limited_places quantity stmt) (flat_map (limited_places quantity) stmts))
+    length-append (names stmt) (flat_map names stmts) ∙ ap₂ (λ n m. n + m) (each stmt) (counted_places quantity names each stmts)
+    ∙ sym (length-append (limited_places quantity stmt) (flat_map (limited_places quantity) stmts))
 
-few_names : {X : Type 0} (quantity : Excess) (most : ℕ) (names : Stmt → List X) → ((stmt : Stmt) → length (names stmt) ≡ length (limited_places quantity stmt)) → (stmts : List Stmt) → past_faults quantity most stmts ≡ []
+few_names : {X : Type 0} (quantity : Excess) (most : ℕ) (names : Stmt → List X) → ((stmt : Stmt) → length (names stmt) ≡ length (limited_places quantity stmt)) →
+    (stmts : List Stmt) → past_faults quantity most stmts ≡ []
     → length (flat_map names stmts) ≤ most
 few_names quantity most names each stmts none =
     let spans = flat_map (limited_places quantity) stmts in
@@ -146,8 +133,10 @@ few_names quantity most names each stmts none =
 
 pub few_tables : (stmts : List Stmt) → past_faults Of.Tables MAX_TABLES stmts ≡ [] → length (table_names stmts) ≤ 64
 few_tables = few_names Of.Tables MAX_TABLES table_name
-    (by_form (λ stmt. length (table_name stmt) ≡ length (limited_places Of.Tables stmt)) (λ a b c. refl) (λ a b c. refl) (λ a b. refl) (λ a b c e. refl) (λ a b c e f g h i. refl) (λ a b c. refl) (λ a b c. refl))
+    (by_form (λ stmt. length (table_name stmt) ≡ length (limited_places Of.Tables stmt)) (λ a b c. refl) (λ a b c. refl)
+    (λ a b. refl) (λ a b c e. refl) (λ a b c e f g h i. refl) (λ a b c. refl) (λ a b c. refl))
 
 pub few_procedures : (stmts : List Stmt) → past_faults Of.Procedures MAX_PROCEDURES stmts ≡ [] → length (procedure_names stmts) ≤ 64
 few_procedures = few_names Of.Procedures MAX_PROCEDURES procedure_name
-    (by_form (λ stmt. length (procedure_name stmt) ≡ length (limited_places Of.Procedures stmt)) (λ a b c. refl) (λ a b c. refl) (λ a b. refl) (λ a b c e. refl) (λ a b c e f g h i. refl) (λ a b c. refl) (λ a b c. refl))
+    (by_form (λ stmt. length (procedure_name stmt) ≡ length (limited_places Of.Procedures stmt)) (λ a b c. refl) (λ a b c. refl)
+    (λ a b. refl) (λ a b c e. refl) (λ a b c e f g h i. refl) (λ a b c. refl) (λ a b c. refl))

@@ -1,45 +1,24 @@
 -- What the tree of a text is, line by line of the grammar.
-use Rattle.std.proofs.Common.{◌≡◌, ◌<◌, ℕ, Bool, true, false, Option, Some, None, List, [], length, codes, refl, sym, subst, ◌∙◌}
-use Rattle.std.specs.List.{list_all}
+use Rattle.std.{proofs.Common.{◌≡◌, ◌<◌, ℕ, Bool, true, false, Option, Some, None, List, [], length, codes, refl, sym, subst, ◌∙◌}, specs.List.list_all}
 use Rattle.std.specs.Str.{is_utf8}
-use Rattle.npf_types.specs.declared.span.Span.{Span}
-use Rattle.npf_types.specs.NameText.{is_name}
+use Rattle.npf_types.specs.{declared.span.Span.Span, NameText.is_name}
 use Rattle.npf_lexer.specs.declared.token.Sign.TheVariants as Signs
-use Rattle.npf_lexer.specs.declared.token.Token.{Token}
-use Rattle.npf_lexer.specs.declared.token.TokenKind.{TokenKind}
+use Rattle.npf_lexer.specs.declared.token.{Token.Token, TokenKind.TokenKind}
 use Rattle.npf_lexer.specs.declared.token.TokenKind.TheVariants as Kind
-use Rattle.npf_syntax.specs.declared.filter.Addresses.{Addresses}
-use Rattle.npf_syntax.specs.declared.filter.Detail.{Detail}
-use Rattle.npf_syntax.specs.declared.filter.Ends.{Ends}
-use Rattle.npf_syntax.specs.declared.filter.Filter.{Filter}
-use Rattle.npf_syntax.specs.declared.filter.ProtoPart.{ProtoPart}
-use Rattle.npf_syntax.specs.declared.filter.Protocols.{Protocols}
-use Rattle.npf_syntax.specs.declared.filter.Where.{Where}
-use Rattle.npf_syntax.specs.declared.group.GroupHead.{GroupHead}
-use Rattle.npf_syntax.specs.declared.group.Item.{Item}
-use Rattle.npf_syntax.specs.declared.map.Side.{Side}
-use Rattle.npf_syntax.specs.declared.procedure.Call.{Call}
-use Rattle.npf_syntax.specs.declared.procedure.LogName.{LogName}
-use Rattle.npf_syntax.specs.declared.stmt.Stmt.{Stmt}
-use Rattle.npf_syntax.specs.declared.value.Function.{Function}
-use Rattle.npf_syntax.specs.declared.value.Iface.{Iface}
-use Rattle.npf_syntax.specs.declared.value.Value.{Value}
-use Rattle.npf_syntax.specs.declared.value.Values.{Values}
-use Rattle.npf_syntax.specs.declared.word.Address.{Address}
-use Rattle.npf_syntax.specs.declared.word.Str.{Str}
-use Rattle.npf_syntax.specs.declared.word.Word.{Word}
+use Rattle.npf_syntax.specs.declared.filter.{Addresses.Addresses, Detail.Detail, EndsTree.EndsTree, Filter.Filter, ProtoPart.ProtoPart, Protocols.Protocols}
+use Rattle.npf_syntax.specs.declared.{filter.Where.Where, group.{GroupHead.GroupHead, ItemTree.ItemTree}, map.SideTree.SideTree, procedure.Call.Call}
+use Rattle.npf_syntax.specs.declared.{procedure.LogName.LogName, stmt.Stmt.Stmt, value.{Function.Function, IfaceTree.IfaceTree, Value.Value, Values.Values}}
+use Rattle.npf_syntax.specs.declared.word.{Address.Address, Str.Str, Word.Word}
 use Rattle.npf_parser_values.specs.Token.{string, word, address, flags, is_flag, string_test, a_word_test, address_test, spaced, span_of, sign, quoted}
-use Rattle.npf_parser_values.specs.Value.{is_range, is_prefix, can_stand, called, function_value, ones, one_list, protocols, number_value, address_value, table_value, written, value, listed_values, value_list, values}
-use Rattle.npf_parser.specs.Filter.{flags_detail, icmp_detail, detail, proto_part, addresses, ports, ends, the_ends, filter}
-use Rattle.npf_parser.specs.Rule.{rule, item, head, items}
-use Rattle.npf_parser.specs.Map.{side}
-use Rattle.npf_parser.specs.Procedure.{log_name, call, calls}
-use Rattle.npf_parser.specs.Stmt.{define, set, alg, table, map, group, procedure, stmt, stmts, file}
+use Rattle.npf_parser_values.specs.Value.{is_range, is_prefix, can_stand, called, function_value, ones, one_list, protocols, number_value}
+use Rattle.npf_parser_values.specs.Value.{address_value, table_value, written, value, listed_values, value_list, values}
+use Rattle.npf_parser.specs.{Filter.{flags_detail, icmp_detail, detail, proto_part, addresses, ports, ends, the_ends, filter}, Rule.{rule, item, head, items}}
+use Rattle.npf_parser.specs.{Map.side, Procedure.{log_name, call, calls}, Stmt.{define, set, alg, table, map, group, procedure, stmt, stmts, file}}
 use Rattle.npf_check.specs.Undefined.{table_faults}
-use Rattle.npf_show_tokens.specs.Showable.{IsPlain, FitsAddr}
-use Rattle.npf_show_tokens.specs.Tokens.{is_run_word}
+use Rattle.npf_show_tokens.specs.{Showable.{IsPlain, FitsAddr}, Tokens.is_run_word}
 use Rattle.npf_show_law.specs.Sound.{IsSoundKind}
-use Rattle.npf_show_law.proofs.Gives.{Gives, Every, anything, token_gives, pure_gives, both_gives, making_gives, either_gives, fitted_gives, weaken, behind_gives, before_gives, IfThere, optional_gives, optional_behind, block_gives, list_gives}
+use Rattle.npf_show_law.proofs.Gives.{Gives, Every, anything, token_gives, pure_gives, both_gives, making_gives, either_gives, fitted_gives, weaken, behind_gives}
+use Rattle.npf_show_law.proofs.Gives.{before_gives, IfThere, optional_gives, optional_behind, block_gives, list_gives}
 
 -- single tokens
 string_by : (kind : TokenKind) (span : _) (s : Str) → IsSoundKind kind → string_test kind span ≡ Some s → IsPlain s.text
@@ -100,7 +79,7 @@ IsSoundValue _ = Unit {0}
 spaced_gives : {A : Type 0} (inside : Bool) {g : _} {P : A → Type 0} → Gives g P → Gives (spaced inside g) P
 spaced_gives inside one = before_gives one
 
-called_sound : (ts : List Token) (f : Function) (o : Option Iface) → IsSoundValue (called ts (f, o))
+called_sound : (ts : List Token) (f : Function) (o : Option IfaceTree) → IsSoundValue (called ts (f, o))
 called_sound ts f None = tt
 called_sound ts f (Some i) = tt
 
@@ -122,7 +101,8 @@ value_gives role inside = weaken (λ v is. is.0) (fitted_gives (written_gives in
 abbrev pub IsSoundPort : Value → Type 0
 IsSoundPort v = IsSoundValue v × ((is_defined : List ℕ → Bool) → table_faults is_defined v ≡ [])
 
-no_table : (stands : Value → Bool) → ((name : Word) (span : Span) → stands (Value.Table name span) ≡ false) → (v : Value) → stands v ≡ true → (is_defined : List ℕ → Bool) → table_faults is_defined v ≡ []
+no_table : (stands : Value → Bool) → ((name : Word) (span : Span) → stands (Value.Table name span) ≡ false) →
+    (v : Value) → stands v ≡ true → (is_defined : List ℕ → Bool) → table_faults is_defined v ≡ []
 no_table stands never (Value.Number first last span) is d = refl
 no_table stands never (Value.Word w span) is d = refl
 no_table stands never (Value.Var var span) is d = refl
@@ -192,7 +172,8 @@ detail_gives = either_gives flags_detail_gives icmp_detail_gives
 protocols_give : Gives protocols AreSomeProtocols
 unfolding protocols one_list ones
 protocols_give =
-    either_gives (making_gives {P = λ list. 0 < length list.ones} (λ ts list is. is) (making_gives {P = λ list. 0 < length list} (λ ts list is. is) (behind_gives (before_gives (weaken (λ list is. is.0) (list_gives {P = λ _. Unit {0}} anything))))))
+    either_gives (making_gives {P = λ list. 0 < length list.ones} (λ ts list is. is)
+    (making_gives {P = λ list. 0 < length list} (λ ts list is. is) (behind_gives (before_gives (weaken (λ list is. is.0) (list_gives {P = λ _. Unit {0}} anything))))))
     (making_gives {P = λ _. Unit {0}} (λ ts one is. tt) anything)
 
 part_gives : Gives proto_part IsSoundPart
@@ -206,9 +187,9 @@ AreSoundAddresses (Addresses.Any span) = Unit {0}
 AreSoundAddresses (Addresses.One v span) = IsSoundValue v
 AreSoundAddresses (Addresses.List list span) = Every IsSoundValue list.values
 
-abbrev pub AreSoundEnds : Ends → Type 0
-AreSoundEnds (Ends.Addresses a o span) = AreSoundAddresses a × IfThere AreSoundPorts o
-AreSoundEnds (Ends.Ports p span) = AreSoundPorts p
+abbrev pub AreSoundEnds : EndsTree → Type 0
+AreSoundEnds (EndsTree.Addresses a o span) = AreSoundAddresses a × IfThere AreSoundPorts o
+AreSoundEnds (EndsTree.Ports p span) = AreSoundPorts p
 
 abbrev pub IsSoundWhere : Where → Type 0
 IsSoundWhere (Where.All span) = Unit {0}
@@ -246,9 +227,9 @@ filter_gives =
     (both_gives anything (both_gives (optional_gives part_gives) where_gives))
 
 -- groups
-abbrev pub IsSoundItem : Item → Type 0
-IsSoundItem (Item.Rule r span) = IsSoundFilter r.filter
-IsSoundItem (Item.Ruleset name dir on span) = is_name name.text ≡ true
+abbrev pub IsSoundItem : ItemTree → Type 0
+IsSoundItem (ItemTree.Rule r span) = IsSoundFilter r.filter
+IsSoundItem (ItemTree.Ruleset name dir on span) = is_name name.text ≡ true
 
 abbrev pub IsSoundHead : GroupHead → Type 0
 IsSoundHead (GroupHead.Named name dir on span) = IsPlainStr name
@@ -272,7 +253,7 @@ head_gives =
     either_gives (making_gives {P = λ _. Unit {0}} (λ ts a is. tt) anything) (making_gives {P = λ a. IsPlainStr a.0 × Unit {0}} (λ ts a is. is.0) (both_gives string_gives anything))
 
 -- statements
-abbrev pub IsSoundSide : Side → Type 0
+abbrev pub IsSoundSide : SideTree → Type 0
 IsSoundSide s = IsSoundValue s.value × IfThere IsSoundPort s.port
 
 abbrev pub IsSoundCall : Call → Type 0
@@ -304,7 +285,8 @@ call_gives : Gives call IsSoundCall
 unfolding call log_name
 call_gives =
     either_gives (making_gives {P = IsLogName} (λ ts n is. log_sound n (span_of ts) is) (behind_gives (behind_gives
-    (either_gives (making_gives {P = λ s. Unit {0} × (is_name s.text ≡ true)} (λ ts s is. is.1) (fitted_gives anything)) (making_gives {P = λ w. Unit {0} × (is_name w.text ≡ true)} (λ ts w is. is.1) (fitted_gives anything))))))
+    (either_gives (making_gives {P = λ s. Unit {0} × (is_name s.text ≡ true)} (λ ts s is. is.1) (fitted_gives anything))
+    (making_gives {P = λ w. Unit {0} × (is_name w.text ≡ true)} (λ ts w is. is.1) (fitted_gives anything))))))
     (making_gives {P = λ _. Unit {0}} (λ ts a is. tt) anything)
 
 table_gives : Gives table IsSoundStmt
@@ -318,7 +300,8 @@ unfolding map
 map_gives =
     making_gives {P = λ a. Unit {0} × (Unit {0} × (Unit {0} × (IsSoundSide a.1.1.1.0 × (Unit {0} × (IsSoundSide a.1.1.1.1.1.0 × IfThere IsSoundFilter a.1.1.1.1.1.1)))))}
     (λ ts a is. (is.1.1.1.0, is.1.1.1.1.1.0, is.1.1.1.1.1.1))
-    (behind_gives (both_gives anything (both_gives anything (both_gives anything (both_gives side_gives (both_gives anything (both_gives side_gives (optional_behind (quoted (codes "pass")) filter_gives))))))))
+    (behind_gives
+    (both_gives anything (both_gives anything (both_gives anything (both_gives side_gives (both_gives anything (both_gives side_gives (optional_behind (quoted (codes "pass")) filter_gives))))))))
 
 group_gives : Gives group IsSoundStmt
 unfolding group items

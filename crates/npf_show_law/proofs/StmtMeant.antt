@@ -1,59 +1,32 @@
 -- What the statements of a configuration without a fault mean.
-use Rattle.std.proofs.Common.{◌≡◌, ◌<◌, ◌^◌, ℕ, ◌+◌, min, Bool, true, false, not, is_some, ◌||◌, nat_lt, if◌then◌else◌, unwrap_or, Option, Some, None, IfSome, option_map, List, [], ◌∷◌, ◌++◌, map, flat_map, slice_get, refl, sym, ap, subst, ◌∙◌, arith}
-use Rattle.std.specs.List.{All}
-use Rattle.std.specs.Str.{is_utf8}
-use Rattle.npf_types.specs.declared.address.Addr.{Addr}
-use Rattle.npf_types.specs.declared.address.Addr.TheVariants.{V4}
-use Rattle.npf_types.specs.Address.{width}
-use Rattle.npf_types.specs.Block.{block}
-use Rattle.npf_types.specs.Name.{name_bytes}
-use Rattle.npf_types.specs.Named.{named}
-use Rattle.npf_types.specs.NameText.{is_name}
+use Rattle.std.proofs.Common.{◌≡◌, ◌<◌, ◌^◌, ℕ, ◌+◌, min, Bool, true, false, not, is_some, ◌||◌, nat_lt, if◌then◌else◌, unwrap_or, Option, Some, None, IfSome}
+use Rattle.std.{proofs.Common.{option_map, List, [], ◌∷◌, ◌++◌, map, flat_map, slice_get, refl, sym, ap, subst, ◌∙◌, arith}, specs.{List.All, Str.is_utf8}}
+use Rattle.npf_types.specs.{declared.address.Addr.{Addr, TheVariants.V4}, Address.width, Block.block, Name.name_bytes, Named.named, NameText.is_name}
+use Rattle.npf_shelf.proofs.ListLemmas.{nil_from_append_left, nil_from_append_right}
 use Rattle.npf_faults.specs.declared.fault.Fault.TheVariants.{UnknownProcedure}
-use Rattle.npf_syntax.specs.declared.filter.Filter.{Filter}
-use Rattle.npf_syntax.specs.declared.group.GroupHead.{GroupHead}
-use Rattle.npf_syntax.specs.declared.group.Item.{Item as WrittenItem}
-use Rattle.npf_syntax.specs.declared.map.Side.{Side as WrittenSide}
-use Rattle.npf_syntax.specs.declared.procedure.Call.{Call}
-use Rattle.npf_syntax.specs.declared.procedure.LogName.{LogName}
-use Rattle.npf_syntax.specs.declared.procedure.Opt.{Opt}
-use Rattle.npf_syntax.specs.declared.rule.RuleTree.{RuleTree}
-use Rattle.npf_syntax.specs.declared.stmt.Stmt.{Stmt}
-use Rattle.npf_syntax.specs.declared.value.Iface.{Iface as WrittenIface}
-use Rattle.npf_syntax.specs.declared.value.One.{One}
-use Rattle.npf_syntax.specs.declared.value.Value.{Value}
-use Rattle.npf_syntax.specs.declared.word.Str.{Str}
-use Rattle.npf_model.specs.declared.ends.AddrItem.TheVariants.{InTable}
-use Rattle.npf_model.specs.declared.group.Group.{Group}
-use Rattle.npf_model.specs.declared.group.Item.{Item}
-use Rattle.npf_model.specs.declared.iface.Iface.{Iface}
-use Rattle.npf_model.specs.declared.map.Map.{Map}
-use Rattle.npf_model.specs.declared.model.Model.{Model}
+use Rattle.npf_syntax.specs.declared.{filter.Filter.Filter, group.{GroupHead.GroupHead, ItemTree.ItemTree as WrittenItem}, map.SideTree.SideTree as WrittenSide}
+use Rattle.npf_syntax.specs.declared.{procedure.{Call.Call, LogName.LogName, Opt.Opt}, rule.RuleTree.RuleTree, stmt.Stmt.Stmt}
+use Rattle.npf_syntax.specs.declared.{value.{IfaceTree.IfaceTree as WrittenIface, One.One, Value.Value}, word.Str.Str}
+use Rattle.npf_model.specs.declared.{ends.AddrItem.TheVariants.InTable, group.{Group.Group, Item.Item}, iface.Iface.Iface, map.Map.Map, model.Model.Model}
 use Rattle.npf_model.specs.declared.procedure.Procedure.{Procedure}
 use Rattle.npf_check.specs.Undefined.{table_faults, tables_of_where, tables_of_pass, tables_of_item, tables_of_stmt, applied_faults, procedures_of_item, procedures_of_stmt}
 use Rattle.npf_expand_values.specs.Atom.{Atom, NumberAtom, RangeAtom, WordAtom, StringAtom, BlockAtom, TableAtom, AddressesAtom, Env}
-use Rattle.npf_expand_values.specs.Declarations.{Declared, table_number}
-use Rattle.npf_expand_values.specs.Iface.{iface_faults, on_text, on_iface}
-use Rattle.npf_expand_values.specs.Port.{same_port, atom_ports}
-use Rattle.npf_expand_values.specs.Protocol.{protocol_of, first_protocol, one_binding, one_protocol}
-use Rattle.npf_expand_values.specs.Service.{services, protocols, number_named}
-use Rattle.npf_expand_values.specs.Use.{atoms_of}
-use Rattle.npf_expand_values.specs.Variable.{binding_of, own_faults}
-use Rattle.npf_expand_values.specs.Source.{declared_of}
+use Rattle.npf_expand_values.specs.{Declarations.{Declared, table_number}, Iface.{iface_faults, on_text, on_iface}, Port.{same_port, atom_ports}}
+use Rattle.npf_expand_values.specs.{Protocol.{protocol_of, first_protocol, one_binding, one_protocol}, Service.{services, protocols, number_named}}
+use Rattle.npf_expand_values.specs.{Use.atoms_of, Variable.{binding_of, own_faults}, Source.declared_of}
 use Rattle.npf_expand.specs.Elaborates.{stmt_faults, named_group, default_group, maps_of, procedures_of}
 use Rattle.npf_expand.specs.Group.{item_of_tree, item_elements, item_faults, items_faults, head_faults, group_of_tree}
 use Rattle.npf_expand.specs.Map.{first_host, side_block, first_block, first_port, side_port_faults, side_faults, side_port, side_of, map_filter_faults, map_faults}
 use Rattle.npf_expand.specs.Procedure.{with_option, with_options, with_call, with_calls}
-use Rattle.npf_expand.specs.Rule.{on_faults, filter_faults, rule_faults, filter_rule, rule_of_tree}
-use Rattle.npf_expand.specs.Table.{tables_of}
+use Rattle.npf_expand.{specs.{Rule.{on_faults, filter_faults, rule_faults, filter_rule, rule_of_tree}, Table.tables_of}, proofs.ElementLemmas.untold}
 use Rattle.npf_show.specs.Rule.{name_of_procedure}
-use Rattle.npf_show_tokens.specs.Showable.{IsPlain, FitsByte, FitsAddr, IsShowablePrefix, IsShowableRange, IsShowableItem, IsShowableFilter, IsShowableRule, IsShowableEntry, IsShowableGroup, IsShowableSide, IsShowableMap, IsShowableProcedure, IsShowableTable}
-use Rattle.npf_show_tokens.specs.Tokens.{is_run_word}
-use Rattle.npf_show_meaning.specs.Regular.{IsOfText, IsForward, IsRegularItem, IsFilterAlone, IsRegularFilter, IsRegularSide, IsRegularOn, IsRegularRule, IsRegularEntry, IsRegularGroup, IsRegularMap, IsRegularDecl}
+use Rattle.npf_show_tokens.specs.Showable.{IsPlain, FitsByte, FitsAddr, IsShowablePrefix, IsShowableRange, IsShowableItem, IsShowableFilter, IsShowableRule, IsShowableEntry}
+use Rattle.npf_show_tokens.specs.{Showable.{IsShowableGroup, IsShowableSide, IsShowableMap, IsShowableProcedure, IsShowableTable}, Tokens.is_run_word}
+use Rattle.npf_show_meaning.specs.Regular.{IsOfText, IsForward, IsRegularItem, IsFilterAlone, IsRegularFilter, IsRegularSide, IsRegularOn}
+use Rattle.npf_show_meaning.specs.Regular.{IsRegularRule, IsRegularEntry, IsRegularGroup, IsRegularMap, IsRegularDecl}
 use Rattle.npf_show_law.proofs.Gives.{Every, IfThere}
 use Rattle.npf_show_law.proofs.Sound.{IsSoundValue, IsSoundPort, IsPlainStr, IsSoundFilter, IsSoundItem, IsSoundHead, IsSoundSide, IsSoundCall, IsSoundStmt}
-use Rattle.npf_expand.proofs.ElementLemmas.{untold}
-use Rattle.npf_show_law.proofs.Atoms.{IsSoundAtom, IsSoundEnv, front_none, back_none, is_on, value_sound, iface_named, bound_atoms}
+use Rattle.npf_show_law.proofs.Atoms.{IsSoundAtom, IsSoundEnv, is_on, value_sound, iface_named, bound_atoms}
 use Rattle.npf_show_law.proofs.Meant.{block_shows, IsGoodRange, port_small, byte_small, service_small, protocol_small}
 use Rattle.npf_show_law.proofs.FilterMeant.{every_all, named_text, filter_meant}
 
@@ -102,7 +75,8 @@ calls_named p (Call.Normalize os span ∷ cs) = calls_named (with_options p os) 
 
 pub procedures_meant : (stmt : Stmt) → IsSoundStmt stmt → Every (λ p. IsShowableProcedure p × IfSome p.log IsOfText) (procedures_of stmt)
 procedures_meant (Stmt.Procedure name calls span) is =
-    let good = calls_good (record { name = name.text; min_ttl = None; max_mss = None; no_df = false; log = None }) calls is.1 (record { shown = record { name = is.0; min_ttl = tt; max_mss = tt }; log = tt }) in
+    let good = calls_good (record { name = name.text; min_ttl = None; max_mss = None; no_df = false; log = None }) calls is.1
+    (record { shown = record { name = is.0; min_ttl = tt; max_mss = tt }; log = tt }) in
     ((good.shown, good.log), tt)
 procedures_meant (Stmt.Define var values span) is = tt
 procedures_meant (Stmt.Set name value span) is = tt
@@ -120,8 +94,13 @@ file_meant (Some s) is = (is.0, is.1, refl)
 
 pub tables_meant : (stmt : Stmt) → IsSoundStmt stmt → Every (λ t. IsShowableTable t × IsRegularDecl t) (tables_of stmt)
 tables_meant (Stmt.Table name kind file span) is =
-    let parts = file_meant file is.1 in
-    ((record { name = subst (λ text. is_run_word text ≡ true) (sym (named_text name.text is.0.1)) is.0.0; file = parts.0 }, record { name = name_again name.text is.0.1; file = parts.1; span = parts.2 }), tt)
+    let parts = file_meant file is.1 in (
+      (
+        record { name = subst (λ text. is_run_word text ≡ true) (sym (named_text name.text is.0.1)) is.0.0; file = parts.0 },
+        record { name = name_again name.text is.0.1; file = parts.1; span = parts.2 },
+      ),
+      tt,
+    )
 tables_meant (Stmt.Procedure name calls span) is = tt
 tables_meant (Stmt.Define var values span) is = tt
 tables_meant (Stmt.Set name value span) is = tt
@@ -237,7 +216,7 @@ module _ (ifaces : List Iface) (fit : All (λ i. All FitsAddr i.addrs) ifaces) (
 
   port_meant : (o : Option Value) → IfThere IsSoundPort o → side_port_faults ifaces env o ≡ [] → IfSome (side_port ifaces env o) IsGoodRange
   port_meant None is none = tt
-  port_meant (Some v) is none = port_shows (atoms_of (binding_of ifaces env v)) (value_atoms v is.0 (front_none (own_faults ifaces env v) _ none) (is.1 d))
+  port_meant (Some v) is none = port_shows (atoms_of (binding_of ifaces env v)) (value_atoms v is.0 (nil_from_append_left (own_faults ifaces env v) _ none) (is.1 d))
 
   split_range : {A : Type 0} (P Q : A → Type 0) (o : Option A) → IfSome o (λ a. P a × Q a) → IfSome o P × IfSome o Q
   split_range P Q None is = (tt, tt)
@@ -245,16 +224,24 @@ module _ (ifaces : List Iface) (fit : All (λ i. All FitsAddr i.addrs) ifaces) (
 
   side_meant : (s : WrittenSide) → IsSoundSide s → side_faults ifaces env s ≡ [] → table_faults d s.value ≡ [] → IsShowableSide (side_of ifaces env s) × IsRegularSide (side_of ifaces env s)
   side_meant s is none defined =
-      let here = front_none _ (side_port_faults ifaces env s.port) none in
-      let ports = split_range IsShowableRange IsForward (side_port ifaces env s.port) (port_meant s.port is.1 (back_none _ (side_port_faults ifaces env s.port) none)) in
-      (record { net = first_shows (atoms_of (binding_of ifaces env s.value)) (value_atoms s.value is.0 (front_none (own_faults ifaces env s.value) _ here) defined); ports = ports.0 }, ports.1)
+      let here = nil_from_append_left _ (side_port_faults ifaces env s.port) none in
+      let ports = split_range IsShowableRange IsForward (side_port ifaces env s.port) (port_meant s.port is.1 (nil_from_append_right _ (side_port_faults ifaces env s.port) none)) in (
+        record {
+          net = first_shows (atoms_of (binding_of ifaces env s.value))
+              (value_atoms s.value is.0 (nil_from_append_left (own_faults ifaces env s.value) _ here) defined);
+          ports = ports.0;
+        },
+        ports.1,
+      )
 
   module _ (model : Model) (declared : Declared) (p : List ℕ → Bool)
-      (numbered : (name : List ℕ) → is_run_word name ≡ true → is_name name ≡ true → d name ≡ true → IsShowableItem model (InTable (table_number declared.tables name)) × IsRegularItem model (InTable (table_number declared.tables name)))
+      (numbered : (name : List ℕ) → is_run_word name ≡ true → is_name name ≡ true → d name ≡ true →
+      IsShowableItem model (InTable (table_number declared.tables name)) × IsRegularItem model (InTable (table_number declared.tables name)))
       (applied : (name : List ℕ) → p name ≡ true → IsPlain (name_of_procedure (slice_get model.procedures (table_number declared.procedures name)))
       × (table_number (declared_of model).procedures (name_of_procedure (slice_get model.procedures (table_number declared.procedures name))) ≡ table_number declared.procedures name)) where
     maybe_filter : (o : Option Filter) → IfThere IsSoundFilter o → map_filter_faults ifaces env o ≡ [] → tables_of_pass d o ≡ []
-        → IfSome (option_map (filter_rule ifaces env declared.tables) o) (IsShowableFilter model) × IfSome (option_map (filter_rule ifaces env declared.tables) o) (λ rule. IsFilterAlone rule × IsRegularFilter model rule)
+        → IfSome (option_map (filter_rule ifaces env declared.tables) o) (IsShowableFilter model) ×
+        IfSome (option_map (filter_rule ifaces env declared.tables) o) (λ rule. IsFilterAlone rule × IsRegularFilter model rule)
     maybe_filter None is none defined = (tt, tt)
     maybe_filter (Some f) is none defined =
         let meant = filter_meant ifaces fit d env sound model declared.tables numbered f is none defined in
@@ -262,21 +249,23 @@ module _ (ifaces : List Iface) (fit : All (λ i. All FitsAddr i.addrs) ifaces) (
 
     maybe_applied : (o : Option Str) → applied_faults p o ≡ []
         → IfSome (option_map (λ (s : Str). table_number declared.procedures s.text) o) (λ number. IsPlain (name_of_procedure (slice_get model.procedures number)))
-        × IfSome (option_map (λ (s : Str). table_number declared.procedures s.text) o) (λ number. table_number (declared_of model).procedures (name_of_procedure (slice_get model.procedures number)) ≡ number)
+        × IfSome (option_map (λ (s : Str). table_number declared.procedures s.text) o)
+        (λ number. table_number (declared_of model).procedures (name_of_procedure (slice_get model.procedures number)) ≡ number)
     maybe_applied None none = (tt, tt)
     maybe_applied (Some s) none = applied s.text (is_on (p s.text) (untold (not (p s.text)) s.span UnknownProcedure none))
 
     rule_meant : (r : RuleTree) → IsSoundFilter r.filter → rule_faults ifaces env r ≡ [] → tables_of_where d r.filter.ends ≡ [] → applied_faults p r.apply ≡ []
         → IsShowableRule model (rule_of_tree ifaces env declared r) × IsRegularRule ifaces model (rule_of_tree ifaces env declared r)
     rule_meant r is none defined names =
-        let meant = filter_meant ifaces fit d env sound model declared.tables numbered r.filter is (back_none (on_faults ifaces env r.on) (filter_faults ifaces env r.filter) none) defined in
+        let meant = filter_meant ifaces fit d env sound model declared.tables numbered r.filter is
+        (nil_from_append_right (on_faults ifaces env r.on) (filter_faults ifaces env r.filter) none) defined in
         let shown = meant.0 in
         let regular = meant.1 in
         let number = maybe_applied r.apply names in (
           record { filter = record { protos = shown.protos; flags = shown.flags; icmp = shown.icmp; from = shown.from; to = shown.to }; procedure = number.0 },
           record {
             filter = record { detail = regular.detail; from = regular.from; to = regular.to };
-            on = maybe_on model r.on (front_none (on_faults ifaces env r.on) (filter_faults ifaces env r.filter) none);
+            on = maybe_on model r.on (nil_from_append_left (on_faults ifaces env r.on) (filter_faults ifaces env r.filter) none);
             procedure = number.1;
           },
         )
@@ -284,34 +273,45 @@ module _ (ifaces : List Iface) (fit : All (λ i. All FitsAddr i.addrs) ifaces) (
     abbrev IsGoodEntry : Item → Type 0
     IsGoodEntry item = IsShowableEntry model item × IsRegularEntry ifaces model item
 
-    item_meant : (counted : ℕ) (item : WrittenItem) → IsSoundItem item → item_faults ifaces env declared counted item ≡ [] → tables_of_item d item ≡ [] → procedures_of_item p item ≡ [] → IsGoodEntry (item_of_tree ifaces env declared item)
-    item_meant counted (WrittenItem.Rule r span) is none defined names = rule_meant r is (front_none (rule_faults ifaces env r) _ none) defined names
+    item_meant : (counted : ℕ) (item : WrittenItem) → IsSoundItem item → item_faults ifaces env declared counted item ≡ [] →
+        tables_of_item d item ≡ [] → procedures_of_item p item ≡ [] → IsGoodEntry (item_of_tree ifaces env declared item)
+    item_meant counted (WrittenItem.Rule r span) is none defined names = rule_meant r is (nil_from_append_left (rule_faults ifaces env r) _ none) defined names
     item_meant counted (WrittenItem.Ruleset name dir on span) is none defined names = (tt, (name_again name.text is, maybe_on model on none, refl, refl))
 
-    items_meant : (counted : ℕ) (items : List WrittenItem) → Every IsSoundItem items → items_faults ifaces env declared counted items ≡ [] → flat_map (tables_of_item d) items ≡ [] → flat_map (procedures_of_item p) items ≡ []
+    items_meant : (counted : ℕ) (items : List WrittenItem) → Every IsSoundItem items → items_faults ifaces env declared counted items ≡ [] →
+        flat_map (tables_of_item d) items ≡ [] → flat_map (procedures_of_item p) items ≡ []
         → Every IsGoodEntry (map (item_of_tree ifaces env declared) items)
     items_meant counted [] every none defined names = tt
     items_meant counted (item ∷ items) every none defined names =
         let here = item_faults ifaces env declared counted item in
         let next = counted + item_elements ifaces env declared item in
         let rest = items_faults ifaces env declared next items in (
-          item_meant counted item every.0 (front_none here rest none) (front_none (tables_of_item d item) (flat_map (tables_of_item d) items) defined) (front_none (procedures_of_item p item) (flat_map (procedures_of_item p) items) names),
-          items_meant next items every.1 (back_none here rest none) (back_none (tables_of_item d item) (flat_map (tables_of_item d) items) defined) (back_none (procedures_of_item p item) (flat_map (procedures_of_item p) items) names),
+          item_meant counted item every.0 (nil_from_append_left here rest none) (nil_from_append_left (tables_of_item d item) (flat_map (tables_of_item d) items) defined)
+              (nil_from_append_left (procedures_of_item p item) (flat_map (procedures_of_item p) items) names),
+          items_meant next items every.1 (nil_from_append_right here rest none) (nil_from_append_right (tables_of_item d item) (flat_map (tables_of_item d) items) defined)
+              (nil_from_append_right (procedures_of_item p item) (flat_map (procedures_of_item p) items) names),
         )
 
     group_meant : (counted : ℕ) (head : GroupHead) (items : List WrittenItem) → IsSoundHead head → Every IsSoundItem items
         → head_faults ifaces env declared head ++ items_faults ifaces env declared counted items ≡ [] → flat_map (tables_of_item d) items ≡ [] → flat_map (procedures_of_item p) items ≡ []
         → IsGoodGroup ifaces model (group_of_tree ifaces env declared head items)
     group_meant counted (GroupHead.Named name dir on span) items is every none defined names =
-        let clean = items_meant counted items every (back_none (on_faults ifaces env on) (items_faults ifaces env declared counted items) none) defined names in
-        let both = every_left (IsShowableEntry model) (IsRegularEntry ifaces model) (map (item_of_tree ifaces env declared) items) clean in
-        (record { name = is; items = both.0 }, record { head = λ never. let no : false ≡ true = never in cc; on = maybe_on model on (front_none (on_faults ifaces env on) (items_faults ifaces env declared counted items) none); items = both.1 })
+        let clean = items_meant counted items every (nil_from_append_right (on_faults ifaces env on) (items_faults ifaces env declared counted items) none) defined names in
+        let both = every_left (IsShowableEntry model) (IsRegularEntry ifaces model) (map (item_of_tree ifaces env declared) items) clean in (
+          record { name = is; items = both.0 },
+          record {
+            head = λ never. let no : false ≡ true = never in cc;
+            on = maybe_on model on (nil_from_append_left (on_faults ifaces env on) (items_faults ifaces env declared counted items) none);
+            items = both.1;
+          },
+        )
     group_meant counted (GroupHead.Default span) items is every none defined names =
         let both = every_left (IsShowableEntry model) (IsRegularEntry ifaces model) (map (item_of_tree ifaces env declared) items) (items_meant counted items every none defined names) in
         (record { name = refl; items = both.0 }, record { head = λ _. record { name = refl; dir = refl; on = refl }; on = tt; items = both.1 })
 
     pub named_meant : (counted : ℕ) (stmt : Stmt) → IsCleanStmt ifaces declared d p env counted stmt → Every (IsGoodGroup ifaces model) (named_group ifaces declared env stmt)
-    named_meant counted (Stmt.Group (GroupHead.Named name dir on head) items span) is = (group_meant counted (GroupHead.Named name dir on head) items is.sound.0 is.sound.1 is.clean is.tables is.procedures, tt)
+    named_meant counted (Stmt.Group (GroupHead.Named name dir on head) items span) is =
+        (group_meant counted (GroupHead.Named name dir on head) items is.sound.0 is.sound.1 is.clean is.tables is.procedures, tt)
     named_meant counted (Stmt.Group (GroupHead.Default head) items span) is = tt
     named_meant counted (Stmt.Define var values span) is = tt
     named_meant counted (Stmt.Set name value span) is = tt
@@ -332,15 +332,18 @@ module _ (ifaces : List Iface) (fit : All (λ i. All FitsAddr i.addrs) ifaces) (
 
     pub maps_meant : (counted : ℕ) (stmt : Stmt) → IsCleanStmt ifaces declared d p env counted stmt → Every (IsGoodMap ifaces model) (maps_of ifaces declared env stmt)
     maps_meant counted (Stmt.Map iface kind proto left arrow right pass span) is =
-        let whole = front_none (map_faults ifaces env iface proto left right pass) _ is.clean in
-        let before_pass = front_none _ (map_filter_faults ifaces env pass) whole in
-        let before_right = front_none _ (side_faults ifaces env right) before_pass in
-        let before_left = front_none _ (side_faults ifaces env left) before_right in
-        let sides = front_none (table_faults d left.value ++ table_faults d right.value) (tables_of_pass d pass) is.tables in
-        let on = on_meant model iface (front_none (iface_faults env iface) _ before_left) in
-        let inside = side_meant left is.sound.0 (back_none _ (side_faults ifaces env left) before_right) (front_none (table_faults d left.value) (table_faults d right.value) sides) in
-        let outside = side_meant right is.sound.1 (back_none _ (side_faults ifaces env right) before_pass) (back_none (table_faults d left.value) (table_faults d right.value) sides) in
-        let meant = maybe_filter pass is.sound.2 (back_none _ (map_filter_faults ifaces env pass) whole) (back_none (table_faults d left.value ++ table_faults d right.value) (tables_of_pass d pass) is.tables) in
+        let whole = nil_from_append_left (map_faults ifaces env iface proto left right pass) _ is.clean in
+        let before_pass = nil_from_append_left _ (map_filter_faults ifaces env pass) whole in
+        let before_right = nil_from_append_left _ (side_faults ifaces env right) before_pass in
+        let before_left = nil_from_append_left _ (side_faults ifaces env left) before_right in
+        let sides = nil_from_append_left (table_faults d left.value ++ table_faults d right.value) (tables_of_pass d pass) is.tables in
+        let on = on_meant model iface (nil_from_append_left (iface_faults env iface) _ before_left) in
+        let inside = side_meant left is.sound.0 (nil_from_append_right _ (side_faults ifaces env left) before_right)
+        (nil_from_append_left (table_faults d left.value) (table_faults d right.value) sides) in
+        let outside = side_meant right is.sound.1 (nil_from_append_right _ (side_faults ifaces env right) before_pass)
+        (nil_from_append_right (table_faults d left.value) (table_faults d right.value) sides) in
+        let meant = maybe_filter pass is.sound.2 (nil_from_append_right _ (map_filter_faults ifaces env pass) whole)
+        (nil_from_append_right (table_faults d left.value ++ table_faults d right.value) (tables_of_pass d pass) is.tables) in
         ((record { proto = one_fits env proto; inside = inside.0; outside = outside.0; filter = meant.0 }, record { on = on; inside = inside.1; outside = outside.1; filter = meant.1 }), tt)
     maps_meant counted (Stmt.Group head items span) is = tt
     maps_meant counted (Stmt.Define var values span) is = tt

@@ -1,37 +1,22 @@
 -- What the tree of an accepted text means is showable and regular.
-use Rattle.std.proofs.Common.{◌≡◌, ◌≤◌, ℕ, zero, suc, ◌+◌, Bool, true, false, not, cond, IfSome, List, [], ◌∷◌, ◌++◌, length, flat_map, filter, sum_by, slice_get, refl, sym, ap, ap₂, subst, ◌∙◌, arith}
-use Rattle.std.proofs.lemmas.List.Sums.{sum_by-append}
-use Rattle.std.specs.List.{All}
-use Rattle.npf_types.specs.declared.limits.TheConstants.{MAX_LIST_ELEMENTS, MAX_TABLES, MAX_PROCEDURES}
-use Rattle.npf_types.specs.Name.{name_bytes}
-use Rattle.npf_types.specs.NameText.{is_name}
+use Rattle.std.proofs.Common.{◌≡◌, ◌≤◌, ℕ, zero, suc, ◌+◌, Bool, true, false, not, cond, IfSome, List, [], ◌∷◌, ◌++◌, length, flat_map}
+use Rattle.std.{proofs.{Common.{filter, sum_by, slice_get, refl, sym, ap, ap₂, subst, ◌∙◌, arith}, lemmas.List.Sums.sum_by-append}, specs.List.All}
+use Rattle.npf_types.specs.{declared.limits.TheConstants.{MAX_LIST_ELEMENTS, MAX_TABLES, MAX_PROCEDURES}, Name.name_bytes, NameText.is_name}
+use Rattle.npf_shelf.proofs.ListLemmas.{nil_from_append_left, nil_from_append_right}
 use Rattle.npf_faults.specs.declared.fault.Excess.TheVariants as Of
-use Rattle.npf_syntax.specs.declared.group.GroupHead.{GroupHead}
-use Rattle.npf_syntax.specs.declared.stmt.Stmt.{Stmt}
-use Rattle.npf_syntax.specs.declared.stmt.Tree.{Tree}
-use Rattle.npf_model.specs.declared.ends.AddrItem.TheVariants.{InTable}
-use Rattle.npf_model.specs.declared.group.Group.{Group}
-use Rattle.npf_model.specs.declared.iface.Iface.{Iface}
-use Rattle.npf_model.specs.declared.map.Map.{Map}
-use Rattle.npf_model.specs.declared.model.Model.{Model}
-use Rattle.npf_model.specs.declared.procedure.Procedure.{Procedure}
-use Rattle.npf_model.specs.declared.table.TableDecl.{TableDecl}
-use Rattle.npf_check.specs.Limit.{past_faults}
-use Rattle.npf_check.specs.Undefined.{is_table_in, tables_of_stmt, procedures_of_stmt}
-use Rattle.npf_expand_values.specs.Atom.{Env}
-use Rattle.npf_expand_values.specs.Declarations.{Declared, declared_in, table_name, table_names, table_number, procedure_names}
-use Rattle.npf_expand_values.specs.Variable.{Definition, env_of}
-use Rattle.npf_expand_values.specs.Source.{declared_of}
+use Rattle.npf_syntax.specs.declared.{group.GroupHead.GroupHead, stmt.{Stmt.Stmt, Tree.Tree}}
+use Rattle.npf_model.specs.declared.{ends.AddrItem.TheVariants.InTable, group.Group.Group, iface.Iface.Iface, map.Map.Map, model.Model.Model}
+use Rattle.npf_model.specs.declared.{procedure.Procedure.Procedure, table.TableDecl.TableDecl}
+use Rattle.npf_check.specs.{Limit.past_faults, Undefined.{is_table_in, tables_of_stmt, procedures_of_stmt}}
+use Rattle.npf_expand_values.specs.{Atom.Env, Declarations.{Declared, declared_in, table_name, table_names, table_number, procedure_names}}
+use Rattle.npf_expand_values.specs.{Variable.{Definition, env_of}, Source.declared_of}
 use Rattle.npf_expand.specs.Elaborates.{behind, default_group, gathered, maps_of, model_of, named_group, procedures_of, stmt_elements, stmt_faults, stmts_faults, tree_faults}
 use Rattle.npf_expand.specs.Table.{tables_of}
-use Rattle.npf_show.specs.Ends.{name_of_table}
-use Rattle.npf_show.specs.Rule.{name_of_procedure}
+use Rattle.npf_show.specs.{Ends.name_of_table, Rule.name_of_procedure}
 use Rattle.npf_show_tokens.specs.Showable.{IsPlain, FitsAddr, IsShowable, IsShowableItem, IsShowableGroup, IsShowableMap, IsShowableProcedure, IsShowableTable}
 use Rattle.npf_show_tokens.specs.Tokens.{is_run_word}
 use Rattle.npf_show_meaning.specs.Regular.{IsOfText, IsRegular, IsRegularItem, IsRegularDecl, IsRegularGroup, IsRegularMap, entry_elements, pass_elements, is_default}
-use Rattle.npf_show_law.proofs.Gives.{Every}
-use Rattle.npf_show_law.proofs.Sound.{IsSoundStmt}
-use Rattle.npf_show_law.proofs.Atoms.{AreCleanDefinitions, env_sound, every_both, every_listed, front_none, back_none}
+use Rattle.npf_show_law.proofs.{Gives.Every, Sound.IsSoundStmt, Atoms.{AreCleanDefinitions, env_sound, every_both, every_listed}}
 use Rattle.npf_show_law.proofs.StmtMeant.{IsCleanStmt, IsGoodGroup, IsGoodMap, every_left, tables_meant, procedures_meant, named_meant, default_meant, maps_meant}
 use Rattle.npf_show_law.proofs.NameMeant.{is_listed, number_named, among_listed, by_form, tables_named, procedures_named, few_tables, few_procedures}
 use Rattle.npf_show_law.proofs.ElementMeant.{elements_few}
@@ -67,7 +52,8 @@ default_last [] ys one other = all_default ys other
 default_last (x ∷ xs) ys one other = ap (λ b. cond b (x ∷ filter is_default (xs ++ ys)) (filter is_default (xs ++ ys))) one.0 ∙ default_last xs ys one.1 other
 
 module _ (ifaces : List Iface) (declared : Declared) where
-  plainly : {X : Type 0} (P : X → Type 0) (give : Env → Stmt → List X) → ((env : Env) (stmt : Stmt) → Every P (give env stmt)) → (older : List Definition) (stmts : List Stmt) → Every P (gathered ifaces declared give older stmts)
+  plainly : {X : Type 0} (P : X → Type 0) (give : Env → Stmt → List X) → ((env : Env) (stmt : Stmt) → Every P (give env stmt)) →
+      (older : List Definition) (stmts : List Stmt) → Every P (gathered ifaces declared give older stmts)
   plainly P give each older [] = tt
   plainly P give each older (stmt ∷ stmts) =
       every_both P (give (env_of ifaces older) stmt) (gathered ifaces declared give (behind older stmt) stmts) (each (env_of ifaces older) stmt) (plainly P give each (behind older stmt) stmts)
@@ -93,7 +79,8 @@ module _ (ifaces : List Iface) (declared : Declared) where
   default_only env (Stmt.Procedure name calls span) = tt
 
 module _ (ifaces : List Iface) (fit : All (λ i. All FitsAddr i.addrs) ifaces) (declared : Declared) (d p : List ℕ → Bool) where
-  clean_behind : (older : List Definition) (counted : ℕ) (stmt : Stmt) → AreCleanDefinitions ifaces fit d older → IsCleanStmt ifaces declared d p (env_of ifaces older) counted stmt → AreCleanDefinitions ifaces fit d (behind older stmt)
+  clean_behind : (older : List Definition) (counted : ℕ) (stmt : Stmt) → AreCleanDefinitions ifaces fit d older →
+      IsCleanStmt ifaces declared d p (env_of ifaces older) counted stmt → AreCleanDefinitions ifaces fit d (behind older stmt)
   clean_behind older counted (Stmt.Define var values span) clean is = ((is.sound, is.clean, is.tables), clean)
   clean_behind older counted (Stmt.Set name value span) clean is = clean
   clean_behind older counted (Stmt.Alg name span) clean is = clean
@@ -103,9 +90,11 @@ module _ (ifaces : List Iface) (fit : All (λ i. All FitsAddr i.addrs) ifaces) (
   clean_behind older counted (Stmt.Procedure name calls span) clean is = clean
 
   gathered_every : {X : Type 0} (P : X → Type 0) (give : Env → Stmt → List X)
-      → ((older : List Definition) → AreCleanDefinitions ifaces fit d older → (counted : ℕ) (stmt : Stmt) → IsCleanStmt ifaces declared d p (env_of ifaces older) counted stmt → Every P (give (env_of ifaces older) stmt))
+      → ((older : List Definition) → AreCleanDefinitions ifaces fit d older → (counted : ℕ) (stmt : Stmt) →
+      IsCleanStmt ifaces declared d p (env_of ifaces older) counted stmt → Every P (give (env_of ifaces older) stmt))
       → (older : List Definition) (counted : ℕ) (stmts : List Stmt) → AreCleanDefinitions ifaces fit d older → Every IsSoundStmt stmts
-      → stmts_faults ifaces declared older counted stmts ≡ [] → flat_map (tables_of_stmt d) stmts ≡ [] → flat_map (procedures_of_stmt p) stmts ≡ [] → Every P (gathered ifaces declared give older stmts)
+      → stmts_faults ifaces declared older counted stmts ≡ [] → flat_map (tables_of_stmt d) stmts ≡ [] →
+      flat_map (procedures_of_stmt p) stmts ≡ [] → Every P (gathered ifaces declared give older stmts)
   gathered_every P give gives older counted [] clean every none defined applied = tt
   gathered_every P give gives older counted (stmt ∷ stmts) clean every none defined applied =
       let env = env_of ifaces older in
@@ -114,15 +103,16 @@ module _ (ifaces : List Iface) (fit : All (λ i. All FitsAddr i.addrs) ifaces) (
       let rest = stmts_faults ifaces declared (behind older stmt) next stmts in
       let is : IsCleanStmt ifaces declared d p env counted stmt = record {
         sound = every.0;
-        clean = front_none here rest none;
-        tables = front_none (tables_of_stmt d stmt) (flat_map (tables_of_stmt d) stmts) defined;
-        procedures = front_none (procedures_of_stmt p stmt) (flat_map (procedures_of_stmt p) stmts) applied;
+        clean = nil_from_append_left here rest none;
+        tables = nil_from_append_left (tables_of_stmt d stmt) (flat_map (tables_of_stmt d) stmts) defined;
+        procedures = nil_from_append_left (procedures_of_stmt p stmt) (flat_map (procedures_of_stmt p) stmts) applied;
       } in
       every_both P (give env stmt) (gathered ifaces declared give (behind older stmt) stmts) (gives older clean counted stmt is)
-      (gathered_every P give gives (behind older stmt) next stmts (clean_behind older counted stmt clean is) every.1 (back_none here rest none)
-      (back_none (tables_of_stmt d stmt) (flat_map (tables_of_stmt d) stmts) defined) (back_none (procedures_of_stmt p stmt) (flat_map (procedures_of_stmt p) stmts) applied))
+      (gathered_every P give gives (behind older stmt) next stmts (clean_behind older counted stmt clean is) every.1 (nil_from_append_right here rest none)
+      (nil_from_append_right (tables_of_stmt d stmt) (flat_map (tables_of_stmt d) stmts) defined) (nil_from_append_right (procedures_of_stmt p stmt) (flat_map (procedures_of_stmt p) stmts) applied))
 
-module _ (ifaces : List Iface) (fit : All (λ i. All FitsAddr i.addrs) ifaces) (tree : Tree) (every : Every IsSoundStmt tree.stmts) (p : List ℕ → Bool) (p_listed : (text : List ℕ) → p text ≡ is_listed (procedure_names tree.stmts) text) where
+module _ (ifaces : List Iface) (fit : All (λ i. All FitsAddr i.addrs) ifaces) (tree : Tree) (every : Every IsSoundStmt tree.stmts) (p : List ℕ →
+    Bool) (p_listed : (text : List ℕ) → p text ≡ is_listed (procedure_names tree.stmts) text) where
   abbrev model : Model
   model = model_of tree ifaces
 
@@ -130,7 +120,8 @@ module _ (ifaces : List Iface) (fit : All (λ i. All FitsAddr i.addrs) ifaces) (
   table_at name few is =
       let same = tables_named tree.stmts every in
       let listed : is_listed (table_names tree.stmts) name ≡ true = sym (tables_listed tree.stmts name) ∙ is in
-      let at = number_named (λ (t : TableDecl). name_bytes t.name) name_of_table (λ t. refl) model.tables name (subst (λ names. is_listed names name ≡ true) (sym same) listed) (subst (λ names. length names ≤ 64) (sym same) few) in
+      let at = number_named (λ (t : TableDecl). name_bytes t.name) name_of_table (λ t. refl) model.tables name
+      (subst (λ names. is_listed names name ≡ true) (sym same) listed) (subst (λ names. length names ≤ 64) (sym same) few) in
       subst (λ names. name_of_table (slice_get model.tables (table_number names name)) ≡ name) same at
 
   table_meant : length (table_names tree.stmts) ≤ 64 → (name : List ℕ) → is_run_word name ≡ true → is_name name ≡ true → is_table_in tree.stmts name ≡ true
@@ -145,7 +136,8 @@ module _ (ifaces : List Iface) (fit : All (λ i. All FitsAddr i.addrs) ifaces) (
   procedure_at name few is =
       let same = procedures_named tree.stmts in
       let listed : is_listed (procedure_names tree.stmts) name ≡ true = sym (p_listed name) ∙ is in
-      let at = number_named (λ (q : Procedure). q.name) name_of_procedure (λ q. refl) model.procedures name (subst (λ names. is_listed names name ≡ true) (sym same) listed) (subst (λ names. length names ≤ 64) (sym same) few) in
+      let at = number_named (λ (q : Procedure). q.name) name_of_procedure (λ q. refl) model.procedures name
+      (subst (λ names. is_listed names name ≡ true) (sym same) listed) (subst (λ names. length names ≤ 64) (sym same) few) in
       subst (λ names. name_of_procedure (slice_get model.procedures (table_number names name)) ≡ name) same at
 
   procedures_good : Every (λ q. IsShowableProcedure q × IfSome q.log IsOfText) model.procedures
@@ -165,11 +157,14 @@ module _ (ifaces : List Iface) (fit : All (λ i. All FitsAddr i.addrs) ifaces) (
       let named_at = procedure_meant (few_procedures tree.stmts procedures_within) in
       let maps = every_left (IsShowableMap model) (IsRegularMap ifaces model) model.maps
       (gathered_every ifaces fit declared d p (IsGoodMap ifaces model) (maps_of ifaces declared)
-      (λ older clean counted stmt is. maps_meant ifaces fit d (env_of ifaces older) (env_sound ifaces fit d older clean) model declared p numbered named_at counted stmt is) [] 0 tree.stmts tt every none defined applied) in
+      (λ older clean counted stmt is. maps_meant ifaces fit d (env_of ifaces older)
+      (env_sound ifaces fit d older clean) model declared p numbered named_at counted stmt is) [] 0 tree.stmts tt every none defined applied) in
       let named = gathered_every ifaces fit declared d p (IsGoodGroup ifaces model) (named_group ifaces declared)
-      (λ older clean counted stmt is. named_meant ifaces fit d (env_of ifaces older) (env_sound ifaces fit d older clean) model declared p numbered named_at counted stmt is) [] 0 tree.stmts tt every none defined applied in
+      (λ older clean counted stmt is. named_meant ifaces fit d (env_of ifaces older)
+      (env_sound ifaces fit d older clean) model declared p numbered named_at counted stmt is) [] 0 tree.stmts tt every none defined applied in
       let default = gathered_every ifaces fit declared d p (IsGoodGroup ifaces model) (default_group ifaces declared)
-      (λ older clean counted stmt is. default_meant ifaces fit d (env_of ifaces older) (env_sound ifaces fit d older clean) model declared p numbered named_at counted stmt is) [] 0 tree.stmts tt every none defined applied in
+      (λ older clean counted stmt is. default_meant ifaces fit d (env_of ifaces older)
+      (env_sound ifaces fit d older clean) model declared p numbered named_at counted stmt is) [] 0 tree.stmts tt every none defined applied in
       let named_groups = gathered ifaces declared (named_group ifaces declared) [] tree.stmts in
       let default_groups = gathered ifaces declared (default_group ifaces declared) [] tree.stmts in
       let groups = every_left (IsShowableGroup model) (IsRegularGroup ifaces model) model.groups (every_both (IsGoodGroup ifaces model) named_groups default_groups named default) in
@@ -177,10 +172,12 @@ module _ (ifaces : List Iface) (fit : All (λ i. All FitsAddr i.addrs) ifaces) (
       let procedures = every_left IsShowableProcedure (λ q. IfSome q.log IsOfText) model.procedures procedures_good in
       let of_named = plainly ifaces declared (λ g. is_default g ≡ false) (named_group ifaces declared) (named_only ifaces declared) [] tree.stmts in
       let of_default = plainly ifaces declared (λ g. is_default g ≡ true) (default_group ifaces declared) (default_only ifaces declared) [] tree.stmts in
-      let few : 0 + (sum_by (λ (m : Map). pass_elements m.filter) model.maps + sum_by (λ (group : Group). sum_by entry_elements group.items) named_groups + sum_by (λ (group : Group). sum_by entry_elements group.items) default_groups) ≤ MAX_LIST_ELEMENTS =
+      let few : 0 + (sum_by (λ (m : Map). pass_elements m.filter) model.maps + sum_by (λ (group : Group). sum_by entry_elements group.items) named_groups + sum_by
+      (λ (group : Group). sum_by entry_elements group.items) default_groups) ≤ MAX_LIST_ELEMENTS =
       elements_few ifaces declared [] 0 tree.stmts (omega arith) none in
       let sum = sum_by-append (λ (group : Group). sum_by entry_elements group.items) named_groups default_groups in
-      let all : sum_by (λ (m : Map). pass_elements m.filter) model.maps + sum_by (λ (group : Group). sum_by entry_elements group.items) (named_groups ++ default_groups) ≤ MAX_LIST_ELEMENTS = omega (arith, few, sum) in (
+      let all : sum_by (λ (m : Map). pass_elements m.filter) model.maps + sum_by (λ (group : Group). sum_by entry_elements group.items) (named_groups ++ default_groups) ≤ MAX_LIST_ELEMENTS =
+      omega (arith, few, sum) in (
         record { tables = tables.0; maps = maps.0; procedures = procedures.0; groups = groups.0 },
         record {
           tables = tables.1;

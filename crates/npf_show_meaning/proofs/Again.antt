@@ -1,33 +1,16 @@
 -- What the tree of a canonical text means.
-use Rattle.std.proofs.Common.{◌≡◌, ◌≤◌, ℕ, ◌+◌, Bool, true, false, not, if◌then◌else◌, cond, List, [], ◌∷◌, ◌++◌, map, flat_map, codes, filter, sum_by, refl, sym, ap, ap₂, subst, ◌∙◌, arith, append-nil}
-use Rattle.std.proofs.lemmas.Grind.{flat_map-append}
-use Rattle.std.proofs.lemmas.List.Concat.{flat_map_single}
-use Rattle.std.proofs.lemmas.List.Sums.{sum_by-append, sum_by-cons}
-use Rattle.std.specs.List.{list_any}
-use Rattle.std.specs.Str.{bytes_eq}
-use Rattle.npf_types.specs.declared.limits.TheConstants.{MAX_LIST_ELEMENTS}
-use Rattle.npf_types.specs.Name.{name_bytes}
-use Rattle.npf_syntax.specs.declared.stmt.Stmt.{Stmt}
-use Rattle.npf_syntax.specs.declared.stmt.Tree.{Tree}
-use Rattle.npf_model.specs.declared.group.Group.{Group}
-use Rattle.npf_model.specs.declared.iface.Iface.{Iface}
-use Rattle.npf_model.specs.declared.map.Map.{Map}
-use Rattle.npf_model.specs.declared.model.Model.{Model}
-use Rattle.npf_model.specs.declared.procedure.Procedure.{Procedure}
-use Rattle.npf_model.specs.declared.settings.Parameter.{Parameter}
-use Rattle.npf_model.specs.declared.settings.Settings.{Settings}
-use Rattle.npf_model.specs.declared.table.TableDecl.{TableDecl}
-use Rattle.npf_model.specs.Settings.{default_settings, with_settings}
-use Rattle.npf_expand_values.specs.Atom.{Env}
-use Rattle.npf_expand_values.specs.Declarations.{declared_in, table_name, table_names, procedure_name, procedure_names}
-use Rattle.npf_expand_values.specs.Source.{declared_of}
+use Rattle.std.proofs.Common.{◌≡◌, ◌≤◌, ℕ, ◌+◌, Bool, true, false, not, if◌then◌else◌, cond, List, [], ◌∷◌, ◌++◌, map, flat_map, codes}
+use Rattle.std.proofs.{Common.{filter, sum_by, refl, sym, ap, ap₂, subst, ◌∙◌, arith, append-nil}, lemmas.{Grind.flat_map-append, List.Concat.flat_map_single}}
+use Rattle.std.{proofs.lemmas.List.Sums.{sum_by-append, sum_by-cons}, specs.{List.list_any, Str.bytes_eq}}
+use Rattle.npf_types.specs.{declared.limits.TheConstants.MAX_LIST_ELEMENTS, Name.name_bytes}
+use Rattle.npf_syntax.specs.declared.stmt.{Stmt.Stmt, Tree.Tree}
+use Rattle.npf_model.specs.declared.{group.Group.Group, iface.Iface.Iface, map.Map.Map, model.Model.Model, procedure.Procedure.Procedure}
+use Rattle.npf_model.specs.{declared.{settings.{Parameter.Parameter, Settings.Settings}, table.TableDecl.TableDecl}, Settings.{default_settings, with_settings}}
+use Rattle.npf_expand_values.specs.{Atom.Env, Declarations.{declared_in, table_name, table_names, procedure_name, procedure_names}, Source.declared_of}
 use Rattle.npf_expand.specs.Elaborates.{gathered, stmt_elements, stmt_faults, stmts_faults, tree_faults, model_of, named_group, default_group, maps_of, procedures_of}
-use Rattle.npf_expand.specs.Settings.{algs_in, asks_icmp, settings_in, settings_of}
-use Rattle.npf_expand.specs.Table.{tables_of}
+use Rattle.npf_expand.specs.{Settings.{algs_in, asks_icmp, settings_in, settings_of}, Table.tables_of}
 use Rattle.npf_show.specs.Setting.{shown_settings}
-use Rattle.npf_show_meaning.specs.Law.{AreSameTables, SameButSpans}
-use Rattle.npf_show_meaning.specs.Regular.{is_default, entry_elements, pass_elements, model_elements}
-use Rattle.npf_show_meaning.proofs.Lists.{Each}
+use Rattle.npf_show_meaning.{specs.{Law.{AreSameTables, SameButSpans}, Regular.{is_default, entry_elements, pass_elements, model_elements}}, proofs.Lists.Each}
 use Rattle.npf_show_meaning.proofs.Says.{nameless}
 use Rattle.npf_show_meaning.proofs.Parts.{Part, OfSet, OfAlg, OfTable, OfMap, OfProcedure, OfGroup, sets_in, gateways_in, tables_in, maps_in, procedures_in, named_in, default_in, part_elements}
 use Rattle.npf_show_meaning.proofs.FileOf.{alg_parts, declared_flat, declared_parts, parts_of, setting_parts, settings_flat, IsPartOf}
@@ -66,34 +49,42 @@ module _ {X : Type 0} (f : Part → List X) (model : Model) (set : (one : Parame
       (settings_flat f model ∙ ap₂ (λ x y. x ++ y) (every_none (λ one. f (OfSet one)) set (shown_settings model.settings)) (alg_none f alg model.alg_icmp))
       ∙ declared_flat f model
 
-  from_tables : ((m : Map) → f (OfMap m) ≡ []) → ((p : Procedure) → f (OfProcedure p) ≡ []) → ((g : Group) → f (OfGroup g) ≡ []) → flat_map f (parts_of model) ≡ flat_map (λ t. f (OfTable t)) model.tables
+  from_tables : ((m : Map) → f (OfMap m) ≡ []) → ((p : Procedure) → f (OfProcedure p) ≡ []) → ((g : Group) → f (OfGroup g) ≡ []) →
+      flat_map f (parts_of model) ≡ flat_map (λ t. f (OfTable t)) model.tables
   from_tables m p g =
       parts_flat
-      ∙ ap (λ x. flat_map (λ t. f (OfTable t)) model.tables ++ x ++ flat_map (λ p. f (OfProcedure p)) model.procedures ++ flat_map (λ g. f (OfGroup g)) model.groups) (every_none (λ m. f (OfMap m)) m model.maps)
+      ∙ ap (λ x. flat_map (λ t. f (OfTable t)) model.tables ++ x ++ flat_map (λ p. f (OfProcedure p)) model.procedures ++
+      flat_map (λ g. f (OfGroup g)) model.groups) (every_none (λ m. f (OfMap m)) m model.maps)
       ∙ ap (λ x. flat_map (λ t. f (OfTable t)) model.tables ++ [] ++ x ++ flat_map (λ g. f (OfGroup g)) model.groups) (every_none (λ p. f (OfProcedure p)) p model.procedures)
       ∙ ap (λ x. flat_map (λ t. f (OfTable t)) model.tables ++ [] ++ [] ++ x) (every_none (λ g. f (OfGroup g)) g model.groups)
       ∙ append-nil _ ∙ append-nil _ ∙ append-nil _
 
-  from_maps : ((t : TableDecl) → f (OfTable t) ≡ []) → ((p : Procedure) → f (OfProcedure p) ≡ []) → ((g : Group) → f (OfGroup g) ≡ []) → flat_map f (parts_of model) ≡ flat_map (λ m. f (OfMap m)) model.maps
+  from_maps : ((t : TableDecl) → f (OfTable t) ≡ []) → ((p : Procedure) → f (OfProcedure p) ≡ []) →
+      ((g : Group) → f (OfGroup g) ≡ []) → flat_map f (parts_of model) ≡ flat_map (λ m. f (OfMap m)) model.maps
   from_maps t p g =
       parts_flat
-      ∙ ap (λ x. x ++ flat_map (λ m. f (OfMap m)) model.maps ++ flat_map (λ p. f (OfProcedure p)) model.procedures ++ flat_map (λ g. f (OfGroup g)) model.groups) (every_none (λ t. f (OfTable t)) t model.tables)
+      ∙ ap (λ x. x ++ flat_map (λ m. f (OfMap m)) model.maps ++ flat_map (λ p. f (OfProcedure p)) model.procedures ++
+      flat_map (λ g. f (OfGroup g)) model.groups) (every_none (λ t. f (OfTable t)) t model.tables)
       ∙ ap (λ x. flat_map (λ m. f (OfMap m)) model.maps ++ x ++ flat_map (λ g. f (OfGroup g)) model.groups) (every_none (λ p. f (OfProcedure p)) p model.procedures)
       ∙ ap (λ x. flat_map (λ m. f (OfMap m)) model.maps ++ [] ++ x) (every_none (λ g. f (OfGroup g)) g model.groups)
       ∙ append-nil _ ∙ append-nil _
 
-  from_procedures : ((t : TableDecl) → f (OfTable t) ≡ []) → ((m : Map) → f (OfMap m) ≡ []) → ((g : Group) → f (OfGroup g) ≡ []) → flat_map f (parts_of model) ≡ flat_map (λ p. f (OfProcedure p)) model.procedures
+  from_procedures : ((t : TableDecl) → f (OfTable t) ≡ []) → ((m : Map) → f (OfMap m) ≡ []) → ((g : Group) → f (OfGroup g) ≡ []) →
+      flat_map f (parts_of model) ≡ flat_map (λ p. f (OfProcedure p)) model.procedures
   from_procedures t m g =
       parts_flat
-      ∙ ap (λ x. x ++ flat_map (λ m. f (OfMap m)) model.maps ++ flat_map (λ p. f (OfProcedure p)) model.procedures ++ flat_map (λ g. f (OfGroup g)) model.groups) (every_none (λ t. f (OfTable t)) t model.tables)
+      ∙ ap (λ x. x ++ flat_map (λ m. f (OfMap m)) model.maps ++ flat_map (λ p. f (OfProcedure p)) model.procedures ++
+      flat_map (λ g. f (OfGroup g)) model.groups) (every_none (λ t. f (OfTable t)) t model.tables)
       ∙ ap (λ x. x ++ flat_map (λ p. f (OfProcedure p)) model.procedures ++ flat_map (λ g. f (OfGroup g)) model.groups) (every_none (λ m. f (OfMap m)) m model.maps)
       ∙ ap (λ x. flat_map (λ p. f (OfProcedure p)) model.procedures ++ x) (every_none (λ g. f (OfGroup g)) g model.groups)
       ∙ append-nil _
 
-  from_groups : ((t : TableDecl) → f (OfTable t) ≡ []) → ((m : Map) → f (OfMap m) ≡ []) → ((p : Procedure) → f (OfProcedure p) ≡ []) → flat_map f (parts_of model) ≡ flat_map (λ g. f (OfGroup g)) model.groups
+  from_groups : ((t : TableDecl) → f (OfTable t) ≡ []) → ((m : Map) → f (OfMap m) ≡ []) → ((p : Procedure) → f (OfProcedure p) ≡ []) →
+      flat_map f (parts_of model) ≡ flat_map (λ g. f (OfGroup g)) model.groups
   from_groups t m p =
       parts_flat
-      ∙ ap (λ x. x ++ flat_map (λ m. f (OfMap m)) model.maps ++ flat_map (λ p. f (OfProcedure p)) model.procedures ++ flat_map (λ g. f (OfGroup g)) model.groups) (every_none (λ t. f (OfTable t)) t model.tables)
+      ∙ ap (λ x. x ++ flat_map (λ m. f (OfMap m)) model.maps ++ flat_map (λ p. f (OfProcedure p)) model.procedures ++
+      flat_map (λ g. f (OfGroup g)) model.groups) (every_none (λ t. f (OfTable t)) t model.tables)
       ∙ ap (λ x. x ++ flat_map (λ p. f (OfProcedure p)) model.procedures ++ flat_map (λ g. f (OfGroup g)) model.groups) (every_none (λ m. f (OfMap m)) m model.maps)
       ∙ ap (λ x. x ++ flat_map (λ g. f (OfGroup g)) model.groups) (every_none (λ p. f (OfProcedure p)) p model.procedures)
 
@@ -192,7 +183,8 @@ module _ (ifaces : List Iface) (model : Model) where
       let first : counted + part_elements part ≤ MAX_LIST_ELEMENTS = omega (arith, few, sum) in
       let count = is.count in
       let onward : counted + stmt_elements ifaces (declared_of model) (nameless ifaces) stmt + sum_by part_elements parts ≤ MAX_LIST_ELEMENTS = omega (arith, few, sum, count) in
-      ap (λ older. stmt_faults ifaces (declared_of model) (nameless ifaces) counted stmt ++ stmts_faults ifaces (declared_of model) older (counted + stmt_elements ifaces (declared_of model) (nameless ifaces) stmt) stmts) (is.plain [])
+      ap (λ older. stmt_faults ifaces (declared_of model) (nameless ifaces) counted stmt ++
+      stmts_faults ifaces (declared_of model) older (counted + stmt_elements ifaces (declared_of model) (nameless ifaces) stmt) stmts) (is.plain [])
       ∙ ap₂ (λ x y. x ++ y) (is.faults counted first) (each_clean stmts parts each (counted + stmt_elements ifaces (declared_of model) (nameless ifaces) stmt) onward)
   each_clean [] (part ∷ parts) each counted few = absurd each
   each_clean (stmt ∷ stmts) [] each counted few = absurd each

@@ -1,12 +1,9 @@
 -- Blocks of lines, read again.
 use Rattle.std.proofs.Common.{◌≡◌, Bool, true, false, Option, Some, None, List, [], ◌∷◌, flat_map, refl, sym, subst, ◌∙◌}
-use Rattle.std.proofs.lemmas.List.Elements.{All-head, All-tail}
-use Rattle.std.specs.List.{All}
-use Rattle.npf_lexer.specs.declared.token.Token.{Token}
-use Rattle.npf_lexer.specs.declared.token.TokenKind.{TokenKind}
+use Rattle.std.{proofs.lemmas.List.Elements.{All-head, All-tail}, specs.List.All}
+use Rattle.npf_lexer.specs.declared.token.{Token.Token, TokenKind.TokenKind}
 use Rattle.npf_lexer.specs.declared.token.TokenKind.TheVariants as Kind
-use Rattle.npf_phrase.specs.Grammar.{Grammar, meaning, any_number, preceded, unless, block_of, those_there}
-use Rattle.npf_phrase.proofs.TestLemmas.{advances}
+use Rattle.npf_phrase.{specs.Grammar.{Grammar, meaning, any_number, preceded, unless, block_of, those_there}, proofs.TestLemmas.advances}
 use Rattle.npf_parser_values.specs.Token.{separator}
 use Rattle.npf_show.specs.Piece.{Piece}
 use Rattle.npf_show_meaning.proofs.Goes.{Goes, Sees, Anything, token_goes, make, turn, pick_first, pick_second, pure_goes, preceded_goes, none_goes, more_goes}

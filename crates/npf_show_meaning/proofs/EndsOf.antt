@@ -1,37 +1,20 @@
 -- The ends of a rule, written and read again.
-use Rattle.std.proofs.Common.{◌≡◌, ◌<◌, inl, inr, ℕ, Bool, true, false, is_some, ◌||◌, if◌then◌else◌, Option, Some, None, IfSome, List, [], ◌∷◌, ◌++◌, length, flat_map, filter_map, codes, refl, sym, ap, ap₂, subst, ◌∙◌, arith, append-nil}
-use Rattle.std.proofs.lemmas.Grind.{flat_map-append}
-use Rattle.std.proofs.lemmas.List.Elements.{filter_map-append}
-use Rattle.std.specs.List.{All}
-use Rattle.std.specs.Prelude.{slice_get}
+use Rattle.std.proofs.Common.{◌≡◌, ◌<◌, inl, inr, ℕ, Bool, true, false, is_some, ◌||◌, if◌then◌else◌, Option, Some, None, IfSome, List, [], ◌∷◌, ◌++◌}
+use Rattle.std.proofs.{Common.{length, flat_map, filter_map, codes, refl, sym, ap, ap₂, subst, ◌∙◌, arith, append-nil}, lemmas.Grind.flat_map-append}
+use Rattle.std.{proofs.lemmas.List.Elements.filter_map-append, specs.{List.All, Prelude.slice_get}}
 use Rattle.npf_types.specs.declared.span.Span.{Span}
 use Rattle.npf_lexer.specs.declared.token.Sign.TheVariants as Signs
 use Rattle.npf_lexer.specs.declared.token.TokenKind.{TokenKind}
 use Rattle.npf_lexer.specs.declared.token.TokenKind.TheVariants as Kind
-use Rattle.npf_syntax.specs.declared.filter.Addresses.{Addresses}
-use Rattle.npf_syntax.specs.declared.filter.Ends.{Ends as WrittenEnds}
-use Rattle.npf_syntax.specs.declared.filter.Where.{Where}
-use Rattle.npf_syntax.specs.declared.value.Value.{Value}
-use Rattle.npf_syntax.specs.declared.value.ValueList.{ValueList}
-use Rattle.npf_syntax.specs.declared.value.Values.{Values}
-use Rattle.npf_syntax.specs.declared.word.Address.{Address}
-use Rattle.npf_syntax.specs.declared.word.Number.{Number}
-use Rattle.npf_syntax.specs.declared.word.Word.{Word}
-use Rattle.npf_model.specs.declared.ends.AddrItem.{AddrItem}
-use Rattle.npf_model.specs.declared.ends.AddrItem.TheVariants.{Net, InTable}
-use Rattle.npf_model.specs.declared.ends.Ends.{Ends}
-use Rattle.npf_model.specs.declared.iface.Iface.{Iface}
-use Rattle.npf_model.specs.declared.model.Model.{Model}
+use Rattle.npf_syntax.specs.declared.{filter.{Addresses.Addresses, EndsTree.EndsTree as WrittenEnds, Where.Where}, value.{Value.Value, ValueList.ValueList}}
+use Rattle.npf_syntax.specs.declared.{value.Values.Values, word.{Address.Address, Number.Number, Word.Word}}
+use Rattle.npf_model.specs.declared.{ends.{AddrItem.{AddrItem, TheVariants.{Net, InTable}}, Ends.Ends}, iface.Iface.Iface, model.Model.Model}
 use Rattle.npf_model.specs.Count.{elements_of_ends}
 use Rattle.npf_phrase.specs.Grammar.{meaning, optional, preceded}
-use Rattle.npf_parser_values.specs.Token.{quoted, span_of}
-use Rattle.npf_parser_values.specs.Value.{value, values, can_stand, is_port, is_port_end}
+use Rattle.npf_parser_values.specs.{Token.{quoted, span_of}, Value.{value, values, can_stand, is_port, is_port_end}}
 use Rattle.npf_parser.specs.Filter.{addresses, ports, ends, the_ends}
-use Rattle.npf_expand_values.specs.Address.{items_of, addresses_faults, addresses_count, address_items}
-use Rattle.npf_expand_values.specs.Atom.{Atom}
-use Rattle.npf_expand_values.specs.Port.{atom_ports, ports_faults, ports_count, ports_of}
-use Rattle.npf_expand_values.specs.Variable.{empty_list_at}
-use Rattle.npf_expand_values.specs.Source.{declared_of}
+use Rattle.npf_expand_values.specs.{Address.{items_of, addresses_faults, addresses_count, address_items}, Atom.Atom}
+use Rattle.npf_expand_values.specs.{Port.{atom_ports, ports_faults, ports_count, ports_of}, Variable.empty_list_at, Source.declared_of}
 use Rattle.npf_expand.specs.Rule.{ends_faults, ends_of_written, ends_count, source_ends, destination_ends}
 use Rattle.npf_show.specs.Ends.{name_of_table, item_pieces, range_pieces, ports_pieces, ends_pieces, is_said, where_pieces}
 use Rattle.npf_show.specs.Piece.{Piece, spaced, optional_pieces, list_pieces}
@@ -40,8 +23,7 @@ use Rattle.npf_show_meaning.specs.Regular.{IsRegularItem}
 use Rattle.npf_show_meaning.proofs.Goes.{Goes, Sees, HeadIn, make, turn, keep, pick_first, pick_second, said, absent, present, it_is, none_is, says_goes}
 use Rattle.npf_show_meaning.proofs.Lists.{onto, onto_both, Each}
 use Rattle.npf_show_meaning.proofs.Says.{nameless, address_list_faults, port_list_faults, IsElement, net_element, table_element, range_element, elements_faults, elements_give, elements_count}
-use Rattle.npf_show_meaning.proofs.Values.{Behind, keyword, IsRange, net_goes, table_goes, range_goes}
-use Rattle.npf_show_meaning.proofs.ValueLists.{HasHead, either_goes, list_head}
+use Rattle.npf_show_meaning.proofs.{Values.{Behind, keyword, IsRange, net_goes, table_goes, range_goes}, ValueLists.{HasHead, either_goes, list_head}}
 
 each_some : {A : Type 0} (S : Value → A → Type 0) (span : Span) (values : List Value) (x : A) (xs : List A) → Each S values (x ∷ xs) → empty_list_at span values ≡ []
 each_some S span [] x xs each = absurd each
@@ -72,7 +54,8 @@ module _ (ifaces : List Iface) (model : Model) where
   abbrev IsItem : Value → AddrItem → Type 0
   IsItem = IsElement ifaces (address_list_faults ifaces) (flat_map (items_of tables))
 
-  item_goes : (role : _) → ((a : Address) (o : Option Number) (span : Span) → can_stand role (Value.Address a o span) ≡ true) → ((w : Word) (span : Span) → can_stand role (Value.Table w span) ≡ true) → (inside : Bool) (item : AddrItem) → IsRegularItem model item → (to : List TokenKind) → Behind inside to
+  item_goes : (role : _) → ((a : Address) (o : Option Number) (span : Span) → can_stand role (Value.Address a o span) ≡ true) →
+      ((w : Word) (span : Span) → can_stand role (Value.Table w span) ≡ true) → (inside : Bool) (item : AddrItem) → IsRegularItem model item → (to : List TokenKind) → Behind inside to
       → Goes (value role inside) (λ v. IsItem v item) (onto (item_pieces model item) to) to
   item_goes role stands tables_stand inside (Net prefix) is to here = keep (net_element ifaces tables prefix) (net_goes ifaces role stands inside prefix to here)
   item_goes role stands tables_stand inside (InTable number) is to here =
@@ -131,14 +114,16 @@ module _ (ifaces : List Iface) (model : Model) where
   unfolding addresses
   addresses_go x xs all to here =
       pick_second (list_head (IsRegularItem model) (item_pieces model) item_head x xs all to (meaning (quoted (codes "any"))).starts (λ ks head s. head.any s) (λ s. refl))
-      (either_goes _ IsItem (IsRegularItem model) (item_pieces model) (item_goes _ (λ a o s. refl) (λ w s. refl)) item_head SaysAddresses (λ ts list. Addresses.List list (span_of ts)) (λ ts v. Addresses.One v (span_of ts))
+      (either_goes _ IsItem (IsRegularItem model) (item_pieces model) (item_goes _ (λ a o s. refl) (λ w s. refl)) item_head SaysAddresses
+      (λ ts list. Addresses.List list (span_of ts)) (λ ts v. Addresses.One v (span_of ts))
       (λ ts list x xs each. says_list (span_of ts) list x xs each) (λ ts v x is. says_one (span_of ts) v x is) x xs all to here)
 
   -- ports
   abbrev IsPort : Value → ℕ × ℕ → Type 0
   IsPort = IsElement ifaces (port_list_faults ifaces) (filter_map atom_ports)
 
-  port_goes : (role : _) → ((first : Number) (last : Option Number) (span : Span) → is_port first ≡ true → is_port_end last ≡ true → can_stand role (Value.Number first last span) ≡ true) → (inside : Bool) (range : ℕ × ℕ) → IsRange ifaces range → (to : List TokenKind) → Behind inside to
+  port_goes : (role : _) → ((first : Number) (last : Option Number) (span : Span) → is_port first ≡ true → is_port_end last ≡ true → can_stand role (Value.Number first last span) ≡ true) →
+      (inside : Bool) (range : ℕ × ℕ) → IsRange ifaces range → (to : List TokenKind) → Behind inside to
       → Goes (value role inside) (λ v. IsPort v range) (onto (range_pieces range) to) to
   port_goes role stands inside range is to here = keep (range_element ifaces range) (range_goes ifaces role stands inside range is to here)
 
@@ -180,7 +165,8 @@ module _ (ifaces : List Iface) (model : Model) where
       → Goes ports (SaysPorts (x ∷ xs)) (onto (ports_pieces (x ∷ xs)) to) to
   unfolding ports values
   ports_go x xs all to here =
-      said (either_goes _ IsPort (IsRange ifaces) range_pieces (port_goes _ (λ f l s p q. rw (p, q) refl)) port_head SaysPorts (λ ts list. Values.List list (span_of ts)) (λ ts v. Values.One v (span_of ts))
+      said (either_goes _ IsPort (IsRange ifaces) range_pieces (port_goes _ (λ f l s p q. rw (p, q) refl)) port_head SaysPorts
+      (λ ts list. Values.List list (span_of ts)) (λ ts v. Values.One v (span_of ts))
       (λ ts list x xs each. says_ports (span_of ts) list x xs each) (λ ts v x is. says_port (span_of ts) v x is) x xs all to here)
 
   -- an end
@@ -238,7 +224,11 @@ module _ (ifaces : List Iface) (model : Model) where
   ends_by None (Some []) fine said_some to here = no_elements fine.ports.0
   ends_by None (Some (y ∷ ys)) fine said_some to here =
       pick_first (it_is (λ s. refl))
-      (make (λ ts v is. record { faults = is.faults; gives = ap (λ o. record { addrs = None; ports = o }) is.gives; count = is.count ∙ omega arith }) (ports_go y ys fine.ports.1 to (end_behind to here)))
+      (make (λ ts v is. record {
+        faults = is.faults;
+        gives = ap (λ o. record { addrs = None; ports = o }) is.gives;
+        count = is.count ∙ omega arith;
+      }) (ports_go y ys fine.ports.1 to (end_behind to here)))
   ends_by (Some []) those fine said_some to here = no_elements fine.addrs.0
   ends_by (Some (x ∷ xs)) None fine said_some to here =
       subst (λ from. Goes ends (λ e. SaysEnds (record { addrs = Some (x ∷ xs); ports = None }) (Some e)) from to) (sym (onto_both (list_pieces (item_pieces model) (x ∷ xs)) [] to))
@@ -248,7 +238,8 @@ module _ (ifaces : List Iface) (model : Model) where
   ends_by (Some (x ∷ xs)) (Some []) fine said_some to here = no_elements fine.ports.0
   ends_by (Some (x ∷ xs)) (Some (y ∷ ys)) fine said_some to here =
       let behind = onto (ports_pieces (y ∷ ys)) to in
-      subst (λ from. Goes ends (λ e. SaysEnds (record { addrs = Some (x ∷ xs); ports = Some (y ∷ ys) }) (Some e)) from to) (sym (onto_both (list_pieces (item_pieces model) (x ∷ xs)) (ports_pieces (y ∷ ys)) to))
+      subst (λ from. Goes ends (λ e. SaysEnds (record { addrs = Some (x ∷ xs); ports = Some (y ∷ ys) }) (Some e)) from to)
+      (sym (onto_both (list_pieces (item_pieces model) (x ∷ xs)) (ports_pieces (y ∷ ys)) to))
       (pick_second (no_port x xs fine.addrs.1 behind)
       (make {P = λ a. SaysAddresses (x ∷ xs) a.0 × AreListed (y ∷ ys) a.1} (λ ts a is. says_listed (span_of ts) x xs y ys a.0 a.1 is.0 is.1)
       (turn (addresses_go x xs fine.addrs.1 behind (inl (_, refl))) (present {P = AreListed (y ∷ ys)} (it_is (λ s. refl)) (ports_go y ys fine.ports.1 to (end_behind to here))))))

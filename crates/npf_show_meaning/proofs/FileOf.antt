@@ -1,38 +1,26 @@
 -- The whole text, read again.
 use Rattle.std.proofs.Common.{◌≡◌, inl, inr, Bool, true, false, if◌then◌else◌, IfSome, List, [], ◌∷◌, ◌++◌, map, flat_map, codes, refl, sym, ap, ap₂, ◌∙◌}
-use Rattle.std.proofs.lemmas.Grind.{flat_map-append}
-use Rattle.std.proofs.lemmas.List.Folds.{flat_map-map}
-use Rattle.std.specs.List.{All}
+use Rattle.std.{proofs.lemmas.{Grind.flat_map-append, List.Folds.flat_map-map}, specs.List.All}
 use Rattle.npf_lexer.specs.declared.token.TokenKind.{TokenKind}
 use Rattle.npf_lexer.specs.declared.token.TokenKind.TheVariants as Kind
 use Rattle.npf_syntax.specs.declared.stmt.Stmt.{Stmt}
-use Rattle.npf_model.specs.declared.iface.Iface.{Iface}
-use Rattle.npf_model.specs.declared.model.Model.{Model}
+use Rattle.npf_model.specs.declared.{iface.Iface.Iface, model.Model.Model}
 use Rattle.npf_parser_values.specs.Value.{iface, one, ones, one_list, protocols, number_value, address_value, table_value, function, function_value, written, value, listed_values, value_list, values}
 use Rattle.npf_parser.specs.Filter.{family, detail, proto_part, addresses, ports, ends, the_ends, filter as the_filter}
-use Rattle.npf_parser.specs.Rule.{answer, action, stateful, direction, ends_walk, on, rule, item, head, items}
-use Rattle.npf_parser.specs.Map.{map_kind, arrow, side}
+use Rattle.npf_parser.specs.{Rule.{answer, action, stateful, direction, ends_walk, on, rule, item, head, items}, Map.{map_kind, arrow, side}}
 use Rattle.npf_parser.specs.Procedure.{log_name, opt, options, call, calls}
 use Rattle.npf_parser.specs.Stmt.{define, setting, set, alg, table_type, table, map as the_map, group, procedure, stmt, ends_stmt, stmts, file}
-use Rattle.npf_show.specs.Group.{item_line, group_head, group_lines}
-use Rattle.npf_show.specs.Map.{map_line}
-use Rattle.npf_show.specs.Model.{model_pieces}
+use Rattle.npf_show.specs.{Group.{item_line, group_head, group_lines}, Map.map_line, Model.model_pieces}
 use Rattle.npf_show.specs.Piece.{Piece, glued, line_end, closing_line, optional_pieces}
 use Rattle.npf_show.specs.Piece as Pieces
-use Rattle.npf_show.specs.Procedure.{log_line, normal_options, normalize_line, procedure_head, procedure_lines}
-use Rattle.npf_show.specs.Setting.{alg_line, set_line, shown_settings}
+use Rattle.npf_show.specs.{Procedure.{log_line, normal_options, normalize_line, procedure_head, procedure_lines}, Setting.{alg_line, set_line, shown_settings}}
 use Rattle.npf_show.specs.Table.{table_line}
 use Rattle.npf_show_tokens.specs.Showable.{IsShowableProcedure}
 use Rattle.npf_show_meaning.specs.Regular.{IsRegularDecl, IsOfText}
-use Rattle.npf_show_meaning.proofs.Goes.{Goes, HeadIn, token_goes, make, turn, pick_first, pick_second, it_is, none_is}
-use Rattle.npf_show_meaning.proofs.Lists.{onto, onto_both, Each}
-use Rattle.npf_show_meaning.proofs.Values.{keyword}
-use Rattle.npf_show_meaning.proofs.Blocks.{feed, bare_goes}
-use Rattle.npf_show_meaning.proofs.Parts.{Part, OfSet, OfAlg, OfTable, OfMap, OfProcedure, OfGroup, SaysPartOf}
-use Rattle.npf_show_meaning.proofs.GroupStmt.{IsFineGroup, group_within, group_goes}
-use Rattle.npf_show_meaning.proofs.SettingStmt.{alg_goes, alg_within, set_goes, set_within}
-use Rattle.npf_show_meaning.proofs.TableStmt.{table_within, table_stmt_goes}
-use Rattle.npf_show_meaning.proofs.ProcedureStmt.{procedure_within, procedure_goes}
+use Rattle.npf_show_meaning.proofs.{Goes.{Goes, HeadIn, token_goes, make, turn, pick_first, pick_second, it_is, none_is}, Lists.{onto, onto_both, Each}}
+use Rattle.npf_show_meaning.proofs.{Values.keyword, Blocks.{feed, bare_goes}, Parts.{Part, OfSet, OfAlg, OfTable, OfMap, OfProcedure, OfGroup, SaysPartOf}}
+use Rattle.npf_show_meaning.proofs.{GroupStmt.{IsFineGroup, group_within, group_goes}, SettingStmt.{alg_goes, alg_within, set_goes, set_within}}
+use Rattle.npf_show_meaning.proofs.{TableStmt.{table_within, table_stmt_goes}, ProcedureStmt.{procedure_within, procedure_goes}}
 use Rattle.npf_show_meaning.proofs.MapStmt.{IsFineMap, map_within, map_goes}
 
 -- the parts of a model, in the order of its text: what it sets, and what it declares
@@ -67,7 +55,8 @@ declared_flat f model =
     let g = map OfGroup model.groups in
     flat_map-append f (t ++ m ++ p) g
     ∙ ap₂ (λ x y. x ++ y)
-    (flat_map-append f (t ++ m) p ∙ ap₂ (λ x y. x ++ y) (flat_map-append f t m ∙ ap₂ (λ x y. x ++ y) (flat_map-map f OfTable model.tables) (flat_map-map f OfMap model.maps)) (flat_map-map f OfProcedure model.procedures))
+    (flat_map-append f (t ++ m) p ∙ ap₂ (λ x y. x ++ y) (flat_map-append f t m ∙ ap₂ (λ x y. x ++ y) (flat_map-map f OfTable model.tables) (flat_map-map f OfMap model.maps))
+    (flat_map-map f OfProcedure model.procedures))
     (flat_map-map f OfGroup model.groups)
 
 module _ (ifaces : List Iface) (model : Model) where
@@ -118,9 +107,11 @@ module _ (ifaces : List Iface) (model : Model) where
   part_goes (OfMap m) is ks =
       pick_second (it_is (λ s. refl)) (pick_second (it_is (λ s. refl)) (pick_second (it_is (λ s. refl)) (pick_first (it_is (λ s. refl)) (map_goes ifaces model m is ks))))
   part_goes (OfGroup g) is ks =
-      pick_second (it_is (λ s. refl)) (pick_second (it_is (λ s. refl)) (pick_second (it_is (λ s. refl)) (pick_second (it_is (λ s. refl)) (pick_first (it_is (λ s. refl)) (group_goes ifaces model g is (feed ∷ ks))))))
+      pick_second (it_is (λ s. refl))
+      (pick_second (it_is (λ s. refl)) (pick_second (it_is (λ s. refl)) (pick_second (it_is (λ s. refl)) (pick_first (it_is (λ s. refl)) (group_goes ifaces model g is (feed ∷ ks))))))
   part_goes (OfProcedure p) is ks =
-      pick_second (it_is (λ s. refl)) (pick_second (it_is (λ s. refl)) (pick_second (it_is (λ s. refl)) (pick_second (it_is (λ s. refl)) (pick_second (it_is (λ s. refl)) (pick_first (it_is (λ s. refl)) (procedure_goes ifaces model p is.0 is.1 (feed ∷ ks)))))))
+      pick_second (it_is (λ s. refl)) (pick_second (it_is (λ s. refl))
+      (pick_second (it_is (λ s. refl)) (pick_second (it_is (λ s. refl)) (pick_second (it_is (λ s. refl)) (pick_first (it_is (λ s. refl)) (procedure_goes ifaces model p is.0 is.1 (feed ∷ ks)))))))
 
   abbrev first_words : List TokenKind
   first_words = keyword (codes "set") ∷ keyword (codes "alg") ∷ keyword (codes "table") ∷ keyword (codes "map") ∷ keyword (codes "group") ∷ keyword (codes "procedure") ∷ []
@@ -134,7 +125,9 @@ module _ (ifaces : List Iface) (model : Model) where
   part_head (OfProcedure p) ks = inr (inr (inr (inr (inr (inl (_, refl))))))
 
   stmts_go : (parts : List Part) → All IsFinePart parts → Goes stmts (λ trees. Each IsPartOf trees parts) (onto (flat_map row parts) end_of_text) end_of_text
-  unfolding stmts stmt set setting alg table table_type the_map map_kind side arrow group head items item procedure calls call options opt log_name define rule action answer stateful direction ends_walk on the_filter family proto_part detail the_ends ends ports addresses protocols one_list ones one values value_list listed_values value written number_value address_value table_value function function_value iface
+  unfolding stmts stmt set setting alg table table_type the_map map_kind side arrow group head items item procedure calls call options opt log_name define
+      rule action answer stateful direction ends_walk on the_filter family proto_part detail the_ends ends ports addresses protocols one_list ones
+      one values value_list listed_values value written number_value address_value table_value function function_value iface
   stmts_go parts all =
       bare_goes stmt ends_stmt IsPartOf IsFinePart within row row_is (λ part is ks. part_goes part is ks)
       (λ part is ks. none_is first_words (λ s. refl) (part_head part (feed ∷ ks)))

@@ -1,53 +1,28 @@
 -- The filter of a rule, written and read again.
-use Rattle.std.proofs.Common.{◌≡◌, ◌≤◌, ◌<◌, ◌^◌, inl, inr, ℕ, ◌+◌, ◌==◌, nat_lt, Bool, true, false, if◌then◌else◌, Option, Some, None, IfSome, option_map, List, [], ◌∷◌, ◌++◌, length, flat_map, filter_map, codes, refl, sym, ap, ap₂, subst, ◌∙◌, arith}
-use Rattle.std.proofs.lemmas.Bool.{and_parts}
-use Rattle.std.proofs.lemmas.Bool.Decides.{nat_tests}
-use Rattle.std.proofs.lemmas.List.Elements.{All-head, All-tail}
-use Rattle.std.proofs.lemmas.List.Sums.{sum_by-append}
-use Rattle.std.specs.List.{All, list_all}
-use Rattle.std.specs.Prelude.{bit_and}
-use Rattle.npf_types.specs.declared.decision.Decision.TheVariants.{Pass}
-use Rattle.npf_types.specs.declared.span.Span.{Span}
+use Rattle.std.proofs.Common.{◌≡◌, ◌≤◌, ◌<◌, ◌^◌, inl, inr, ℕ, ◌+◌, ◌==◌, nat_lt, Bool, true, false, if◌then◌else◌, Option, Some, None, IfSome, option_map, List}
+use Rattle.std.proofs.{Common.{[], ◌∷◌, ◌++◌, length, flat_map, filter_map, codes, refl, sym, ap, ap₂, subst, ◌∙◌, arith}, lemmas.Bool.and_parts}
+use Rattle.std.{proofs.lemmas.{Bool.Decides.nat_tests, List.{Elements.{All-head, All-tail}, Sums.sum_by-append}}, specs.{List.{All, list_all}, Prelude.bit_and}}
+use Rattle.npf_types.specs.declared.{decision.Decision.TheVariants.Pass, span.Span.Span}
 use Rattle.npf_lexer.specs.declared.token.Sign.TheVariants as Signs
 use Rattle.npf_lexer.specs.declared.token.TokenKind.{TokenKind}
 use Rattle.npf_lexer.specs.declared.token.TokenKind.TheVariants as Kind
-use Rattle.npf_syntax.specs.declared.filter.Detail.{Detail}
-use Rattle.npf_syntax.specs.declared.filter.Family.{Family}
-use Rattle.npf_syntax.specs.declared.filter.Filter.{Filter}
-use Rattle.npf_syntax.specs.declared.filter.ProtoPart.{ProtoPart}
-use Rattle.npf_syntax.specs.declared.filter.Protocols.{Protocols}
-use Rattle.npf_syntax.specs.declared.filter.Where.{Where}
-use Rattle.npf_syntax.specs.declared.value.One.{One}
-use Rattle.npf_syntax.specs.declared.value.OneList.{OneList}
-use Rattle.npf_syntax.specs.declared.word.Number.{Number}
-use Rattle.npf_syntax.specs.declared.word.Word.{Word}
-use Rattle.npf_model.specs.declared.iface.Iface.{Iface}
-use Rattle.npf_model.specs.declared.model.Model.{Model}
-use Rattle.npf_model.specs.declared.rule.Rule.{Rule}
-use Rattle.npf_model.specs.declared.rule.StateOpt.TheVariants.{Not}
-use Rattle.npf_model.specs.Count.{elements_of}
+use Rattle.npf_syntax.specs.declared.filter.{Detail.Detail, Family.Family, Filter.Filter, ProtoPart.ProtoPart, Protocols.Protocols, Where.Where}
+use Rattle.npf_syntax.specs.declared.{value.{One.One, OneList.OneList}, word.{Number.Number, Word.Word}}
+use Rattle.npf_model.specs.{declared.{iface.Iface.Iface, model.Model.Model, rule.{Rule.Rule, StateOpt.TheVariants.Not}}, Count.elements_of}
 use Rattle.npf_phrase.specs.Grammar.{optional, preceded}
-use Rattle.npf_parser_values.specs.Token.{sign, number, number_to, flags, is_flag, quoted, span_of}
-use Rattle.npf_parser_values.specs.Value.{one, ones, one_list, protocols}
+use Rattle.npf_parser_values.specs.{Token.{sign, number, number_to, flags, is_flag, quoted, span_of}, Value.{one, ones, one_list, protocols}}
 use Rattle.npf_parser.specs.Filter.{family, detail, proto_part, filter}
-use Rattle.npf_expand_values.specs.Atom.{Atom, NumberAtom}
-use Rattle.npf_expand_values.specs.Protocol.{one_binding, protocol_of, protocol_faults, protocols_faults, spliced_ones, protocols_of}
-use Rattle.npf_expand_values.specs.Use.{element_count, atoms_of, count_of}
-use Rattle.npf_expand_values.specs.Variable.{alone_binding}
-use Rattle.npf_expand_values.specs.Source.{declared_of}
+use Rattle.npf_expand_values.specs.{Atom.{Atom, NumberAtom}, Protocol.{one_binding, protocol_of, protocol_faults, protocols_faults, spliced_ones, protocols_of}}
+use Rattle.npf_expand_values.specs.{Use.{element_count, atoms_of, count_of}, Variable.alone_binding, Source.declared_of}
 use Rattle.npf_expand.specs.Rule.{is_inet6, flag_bits, flags_of_detail, icmp_of_detail, detail_of_part, part_faults, part_protocols, part_count, filter_faults, filter_rule, filter_count, as_byte}
 use Rattle.npf_show.specs.Ends.{where_pieces}
 use Rattle.npf_show.specs.Filter.{family_pieces, protocol_pieces, protocols_pieces, letters_of_bits, letter_if_set, flag_text, flags_pieces, code_pieces, icmp_pieces, filter_pieces}
 use Rattle.npf_show.specs.Piece.{Piece, glued, spaced, optional_pieces, comma_list, list_pieces}
 use Rattle.npf_show.specs.Piece as Pieces
-use Rattle.npf_show_tokens.specs.Showable.{FitsByte}
-use Rattle.npf_show_tokens.proofs.Values.{values_come_back_lem}
+use Rattle.npf_show_tokens.{specs.Showable.FitsByte, proofs.{Values.values_come_back_lem, Digits.all_join}}
 use Rattle.npf_show_meaning.specs.Regular.{IsOneDetail}
 use Rattle.npf_show_meaning.proofs.Goes.{Goes, HeadIn, token_goes, make, turn, keep, pick_first, pick_second, fit, said, signed, before, absent, present, it_is, none_is, says_goes, sign_goes}
-use Rattle.npf_show_meaning.proofs.Lists.{onto, onto_both, Each, list_goes}
-use Rattle.npf_show_meaning.proofs.Says.{nameless}
-use Rattle.npf_show_meaning.proofs.Values.{keyword, number_goes}
-use Rattle.npf_show_meaning.proofs.ValueLists.{close}
+use Rattle.npf_show_meaning.proofs.{Lists.{onto, onto_both, Each, list_goes}, Says.nameless, Values.{keyword, number_goes}, ValueLists.close}
 use Rattle.npf_show_meaning.proofs.EndsOf.{SaysWhere, AreFine, where_goes, where_head, where_starts, where_stops}
 
 abbrev part_starts : List TokenKind
@@ -69,17 +44,11 @@ letter_is_flag : (bits : ℕ) (row : ℕ × ℕ) (none : Bool) → is_flag row.0
 letter_is_flag bits row true is = refl
 letter_is_flag bits row false is = rw is refl
 
-all_behind : (test : ℕ → Bool) (xs ys : List ℕ) → list_all test xs ≡ true → list_all test ys ≡ true → list_all test (xs ++ ys) ≡ true
-all_behind test [] ys xs_are ys_are = ys_are
-all_behind test (x ∷ xs) ys xs_are ys_are =
-    let parts = and_parts (test x) (list_all test xs) xs_are in
-    rw (parts.0, all_behind test xs ys parts.1 ys_are) refl
-
 letters_are_flags : (bits : ℕ) (rows : List (ℕ × ℕ)) → list_all (λ row. is_flag row.0) rows ≡ true → list_all is_flag (flat_map (letter_if_set bits) rows) ≡ true
 letters_are_flags bits [] are = refl
 letters_are_flags bits (row ∷ rows) are =
     let parts = and_parts (is_flag row.0) (list_all (λ row. is_flag row.0) rows) are in
-    all_behind is_flag (letter_if_set bits row) (flat_map (letter_if_set bits) rows) (letter_is_flag bits row (bit_and bits row.1 == 0) parts.0) (letters_are_flags bits rows parts.1)
+    all_join is_flag (letter_if_set bits row) (flat_map (letter_if_set bits) rows) (letter_is_flag bits row (bit_and bits row.1 == 0) parts.0) (letters_are_flags bits rows parts.1)
 
 flags_go : (bits : ℕ) (ks : List TokenKind) → Goes flags (λ w. w.text ≡ flag_text bits) (Kind.Word (flag_text bits) ∷ ks) ks
 flags_go bits ks =
@@ -202,7 +171,8 @@ module _ (ifaces : List Iface) where
   IsMask bits None = ⊥
   IsMask bits (Some w) = w.text ≡ flag_text bits
 
-  says_flags : (bits : ℕ × ℕ) → bits.0 < 2 ^ 8 → bits.1 < 2 ^ 8 → (w : Word) (o : Option Word) (span : Span) → w.text ≡ flag_text bits.0 → IsMask bits.1 o → SaysDetail (Some bits) None (Some (Detail.Flags w o span))
+  says_flags : (bits : ℕ × ℕ) → bits.0 < 2 ^ 8 → bits.1 < 2 ^ 8 → (w : Word) (o : Option Word) (span : Span) →
+      w.text ≡ flag_text bits.0 → IsMask bits.1 o → SaysDetail (Some bits) None (Some (Detail.Flags w o span))
   says_flags bits small short w None span is mask = absurd mask
   says_flags bits small short w (Some m) span is mask = record {
     flags_are = ap₂ (λ a b. Some (a, b)) (ap flag_bits is ∙ values_come_back_lem.flags bits.0 small) (ap flag_bits mask ∙ values_come_back_lem.flags bits.1 short);
@@ -241,7 +211,8 @@ module _ (ifaces : List Iface) where
   abbrev part_kinds : List ℕ → Option (ℕ × ℕ) → Option (ℕ × Option ℕ) → List TokenKind → List TokenKind
   part_kinds protos bits icmp ks = onto (protocols_pieces protos) (detail_pieces bits icmp ks)
 
-  part_goes : (protos : List ℕ) (bits : Option (ℕ × ℕ)) (icmp : Option (ℕ × Option ℕ)) → All FitsByte protos → IsOneDetail protos bits icmp → IfSome icmp (λ icmp. FitsByte icmp.0 × IfSome icmp.1 FitsByte)
+  part_goes : (protos : List ℕ) (bits : Option (ℕ × ℕ)) (icmp : Option (ℕ × Option ℕ)) → All FitsByte protos →
+      IsOneDetail protos bits icmp → IfSome icmp (λ icmp. FitsByte icmp.0 × IfSome icmp.1 FitsByte)
       → (ks : List TokenKind) → HeadIn where_starts ks → Goes (optional proto_part) (SaysPart protos bits icmp) (part_kinds protos bits icmp ks) ks
   unfolding proto_part
   part_goes [] None None all is small ks here =

@@ -1,27 +1,14 @@
 -- A model that can be shown and is as texts make it has what its parts need so that they are read again.
 use Rattle.std.proofs.Common.{◌<◌, ℕ, Bool, true, false, Option, Some, None, IfSome, List, [], ◌∷◌, ◌++◌, length, map}
-use Rattle.std.proofs.lemmas.List.Elements.{All-append, All-cons, All-nil, All-head, All-tail}
-use Rattle.std.specs.List.{All}
-use Rattle.npf_model.specs.declared.ends.Ends.{Ends}
-use Rattle.npf_model.specs.declared.group.Group.{Group}
-use Rattle.npf_model.specs.declared.group.Item.{Item}
-use Rattle.npf_model.specs.declared.group.Item.TheVariants.{One, Dynamic}
-use Rattle.npf_model.specs.declared.iface.Iface.{Iface}
-use Rattle.npf_model.specs.declared.map.Map.{Map}
-use Rattle.npf_model.specs.declared.model.Model.{Model}
-use Rattle.npf_model.specs.declared.rule.Rule.{Rule}
-use Rattle.npf_model.specs.declared.settings.Parameter.{Parameter}
+use Rattle.std.{proofs.lemmas.List.Elements.{All-append, All-cons, All-nil, All-head, All-tail}, specs.List.All}
+use Rattle.npf_model.specs.declared.{ends.Ends.Ends, group.{Group.Group, Item.{Item, TheVariants.{One, Dynamic}}}, iface.Iface.Iface, map.Map.Map}
+use Rattle.npf_model.specs.declared.{model.Model.Model, rule.Rule.Rule, settings.Parameter.Parameter}
 use Rattle.npf_show.specs.Setting.{shown_settings}
-use Rattle.npf_show_tokens.specs.Showable.{IsShowable, IsShowableRange, AreShowableEnds, IsShowableFilter, IsShowableRule, IsShowableEntry, IsShowableGroup, IsShowableMap, IsShowableProcedure, IsShowableTable}
+use Rattle.npf_show_tokens.specs.Showable.{IsShowable, IsShowableRange, AreShowableEnds, IsShowableFilter, IsShowableRule, IsShowableEntry}
+use Rattle.npf_show_tokens.specs.Showable.{IsShowableGroup, IsShowableMap, IsShowableProcedure, IsShowableTable}
 use Rattle.npf_show_meaning.specs.Regular.{IsForward, IsRegular, AreRegularEnds, IsRegularFilter, IsRegularRule, IsRegularEntry, IsRegularGroup, IsRegularMap, IsRegularDecl, IsOfText, IsFilterAlone}
-use Rattle.npf_show_meaning.proofs.Values.{IsRange}
-use Rattle.npf_show_meaning.proofs.EndsOf.{AreFine}
-use Rattle.npf_show_meaning.proofs.FilterOf.{IsFineFilter}
-use Rattle.npf_show_meaning.proofs.RuleOf.{IsFineRule}
-use Rattle.npf_show_meaning.proofs.GroupOf.{IsFineEntry}
-use Rattle.npf_show_meaning.proofs.GroupStmt.{IsFineGroup}
-use Rattle.npf_show_meaning.proofs.MapStmt.{IsFineMap}
-use Rattle.npf_show_meaning.proofs.Parts.{OfSet, OfAlg, OfTable, OfMap, OfProcedure, OfGroup}
+use Rattle.npf_show_meaning.proofs.{Values.IsRange, EndsOf.AreFine, FilterOf.IsFineFilter, RuleOf.IsFineRule, GroupOf.IsFineEntry, GroupStmt.IsFineGroup}
+use Rattle.npf_show_meaning.proofs.{MapStmt.IsFineMap, Parts.{OfSet, OfAlg, OfTable, OfMap, OfProcedure, OfGroup}}
 use Rattle.npf_show_meaning.proofs.FileOf.{alg_parts, declared_parts, parts_of, setting_parts, IsFinePart}
 
 -- two facts of each element make a third

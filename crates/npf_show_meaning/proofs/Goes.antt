@@ -1,22 +1,12 @@
 -- How tokens are read of which only the kinds are known.
 use Rattle.std.proofs.Common.{◌≡◌, ◌⊎◌, inl, inr, Bool, true, false, not, if◌then◌else◌, Option, Some, None, Ok, List, [], ◌∷◌, ◌++◌, map, refl, sym, ap, subst, ◌∙◌}
-use Rattle.std.proofs.lemmas.Bool.{and_parts}
-use Rattle.std.proofs.lemmas.Slice.Eq.{bytes_eq-Decides}
-use Rattle.std.specs.Prelude.{ℕ}
-use Rattle.std.specs.List.{list_all}
-use Rattle.std.specs.Str.{bytes_eq}
+use Rattle.std.{proofs.lemmas.{Bool.and_parts, Slice.Eq.bytes_eq-Decides}, specs.{Prelude.ℕ, List.list_all, Str.bytes_eq}}
 use Rattle.npf_types.specs.declared.span.Span.{Span}
-use Rattle.npf_lexer.specs.Sign.{sign_text}
-use Rattle.npf_lexer.specs.declared.token.Sign.{Sign}
-use Rattle.npf_lexer.specs.declared.token.Token.{Token}
-use Rattle.npf_lexer.specs.declared.token.TokenKind.{TokenKind}
+use Rattle.npf_lexer.specs.{Sign.sign_text, declared.token.{Sign.Sign, Token.Token, TokenKind.TokenKind}}
 use Rattle.npf_lexer.specs.declared.token.TokenKind.TheVariants as Kind
 use Rattle.npf_phrase.specs.Phrase.{◌>>=◌, Test, head, front_of, read_token, read_by, where_fit, with_item}
 use Rattle.npf_phrase.specs.Grammar.{Grammar, meaning, token, pure, both, making, either, any_number, fitted, preceded, terminated, optional}
-use Rattle.npf_phrase.proofs.GrammarLemmas.{settled}
-use Rattle.npf_phrase.proofs.NumberLemmas.{number_step}
-use Rattle.npf_phrase.proofs.ReadingLemmas.{not_true}
-use Rattle.npf_phrase.proofs.TestLemmas.{advances}
+use Rattle.npf_phrase.proofs.{GrammarLemmas.settled, NumberLemmas.number_step, ReadingLemmas.not_true, TestLemmas.advances}
 use Rattle.npf_parser_values.specs.Token.{quoted, sign, says, span_of, when}
 
 abbrev pub kinds : List Token → List TokenKind

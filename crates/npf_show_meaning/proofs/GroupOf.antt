@@ -1,57 +1,31 @@
 -- A group, written and read again.
-use Rattle.std.proofs.Common.{◌≡◌, ◌≤◌, inl, inr, ℕ, ◌+◌, Bool, true, false, ◌&&◌, nat_le, nat_lt, Option, IfSome, option_map, List, [], ◌∷◌, ◌++◌, map, flat_map, sum_by, codes, refl, sym, ap, subst, arith}
-use Rattle.std.proofs.lemmas.Bool.Decides.{nat_tests}
-use Rattle.std.proofs.lemmas.List.Sums.{sum_by-cons}
-use Rattle.std.specs.List.{All}
-use Rattle.npf_types.specs.declared.direction.Dir.{Dir}
-use Rattle.npf_types.specs.declared.limits.TheConstants.{MAX_LIST_ELEMENTS}
-use Rattle.npf_types.specs.declared.name.Name.{Name}
-use Rattle.npf_types.specs.declared.span.Span.{Span}
-use Rattle.npf_types.specs.Name.{name_bytes}
+use Rattle.std.proofs.Common.{◌≡◌, ◌≤◌, inl, inr, ℕ, ◌+◌, false, nat_le, nat_lt, Option, IfSome, option_map, List, []}
+use Rattle.std.proofs.{Common.{◌∷◌, ◌++◌, map, flat_map, sum_by, codes, refl, sym, ap, subst, arith}, lemmas.{Bool.Decides.nat_tests, List.Sums.sum_by-cons}}
+use Rattle.std.{specs.List.All, proofs.lemmas.Bool.and_right}
+use Rattle.npf_types.specs.{declared.{direction.Dir.Dir, limits.TheConstants.MAX_LIST_ELEMENTS, name.Name.Name, span.Span.Span}, Name.name_bytes}
 use Rattle.npf_lexer.specs.declared.token.TokenKind.{TokenKind}
 use Rattle.npf_lexer.specs.declared.token.TokenKind.TheVariants as Kind
-use Rattle.npf_syntax.specs.declared.group.Item.{Item as WrittenItem}
-use Rattle.npf_syntax.specs.declared.rule.Direction.{Direction}
-use Rattle.npf_syntax.specs.declared.rule.RuleTree.{RuleTree}
-use Rattle.npf_syntax.specs.declared.value.Iface.{Iface as WrittenIface}
-use Rattle.npf_syntax.specs.declared.word.Str.{Str}
-use Rattle.npf_model.specs.declared.group.Item.{Item}
-use Rattle.npf_model.specs.declared.group.Item.TheVariants.{One, Dynamic}
-use Rattle.npf_model.specs.declared.iface.Iface.{Iface}
-use Rattle.npf_model.specs.declared.model.Model.{Model}
-use Rattle.npf_model.specs.declared.rule.OnIf.{OnIf}
-use Rattle.npf_model.specs.declared.rule.Rule.{Rule}
+use Rattle.npf_syntax.specs.declared.{group.ItemTree.ItemTree as WrittenItem, rule.{Direction.Direction, RuleTree.RuleTree}}
+use Rattle.npf_syntax.specs.declared.{value.IfaceTree.IfaceTree as WrittenIface, word.Str.Str}
+use Rattle.npf_model.specs.declared.{group.Item.{Item, TheVariants.{One, Dynamic}}, iface.Iface.Iface, model.Model.Model, rule.{OnIf.OnIf, Rule.Rule}}
 use Rattle.npf_parser_values.specs.Token.{says, span_of}
 use Rattle.npf_parser_values.specs.Value.{iface, one, ones, one_list, protocols, number_value, address_value, table_value, function, function_value, written, value, listed_values, value_list, values}
 use Rattle.npf_parser.specs.Filter.{family, detail, proto_part, addresses, ports, ends, the_ends, filter}
 use Rattle.npf_parser.specs.Rule.{answer, action, stateful, direction, ends_walk, on, rule, item, items, ends_item}
-use Rattle.npf_faults.specs.declared.fault.Excess.TheVariants.{Elements}
-use Rattle.npf_faults.specs.declared.fault.Fault.TheVariants.{TooMany}
-use Rattle.npf_faults.specs.First.{fault_if}
-use Rattle.npf_expand.specs.Group.{item_of_tree, item_elements, item_faults, items_faults, items_elements}
-use Rattle.npf_expand.specs.Rule.{dir_of, filter_count, passing_faults}
-use Rattle.npf_show.specs.Bound.{dir_pieces, on_pieces}
-use Rattle.npf_show.specs.Group.{within_item, item_line}
-use Rattle.npf_show.specs.Piece.{line_end, optional_pieces}
+use Rattle.npf_faults.specs.{declared.fault.{Excess.TheVariants.Elements, Fault.TheVariants.TooMany}, First.fault_if}
+use Rattle.npf_expand.specs.{Group.{item_of_tree, item_elements, item_faults, items_faults, items_elements}, Rule.{dir_of, filter_count, passing_faults}}
+use Rattle.npf_show.specs.{Bound.{dir_pieces, on_pieces}, Group.{within_item, item_line}, Piece.{line_end, optional_pieces}}
 use Rattle.npf_show_meaning.specs.Regular.{entry_elements, IsRegularOn, IsOfText}
-use Rattle.npf_show_meaning.proofs.Goes.{Goes, HeadIn, make, turn, pick_first, pick_second, said, it_is, none_is}
-use Rattle.npf_show_meaning.proofs.Lists.{onto, onto_both, Each}
-use Rattle.npf_show_meaning.proofs.Says.{nameless}
-use Rattle.npf_show_meaning.proofs.Values.{keyword}
-use Rattle.npf_show_meaning.proofs.ValueLists.{close}
-use Rattle.npf_show_meaning.proofs.Blocks.{feed, opened_goes}
+use Rattle.npf_show_meaning.proofs.{Goes.{Goes, HeadIn, make, turn, pick_first, pick_second, said, it_is, none_is}, Lists.{onto, onto_both, Each}}
+use Rattle.npf_show_meaning.proofs.{Says.nameless, Values.keyword, ValueLists.close, Blocks.{feed, opened_goes}}
 use Rattle.npf_show_meaning.proofs.RuleOf.{IsText, name_goes, IsFineRule, SaysRule, OnBound, rule_goes, rule_head, bound_goes}
 use Rattle.npf_expand_values.specs.Source.{declared_of}
-
-both_off : (a b : Bool) → b ≡ false → (a && b) ≡ false
-both_off true b is = is
-both_off false b is = refl
 
 -- elements that are few enough make no fault
 pub few_elements : (counted more : ℕ) (span : Span) → counted + more ≤ MAX_LIST_ELEMENTS → passing_faults counted more span ≡ []
 few_elements counted more span few =
     let small : nat_lt MAX_LIST_ELEMENTS (counted + more) ≡ false = grind (arith, nat_tests) in
-    ap (λ test. fault_if test span (TooMany Elements (MAX_LIST_ELEMENTS + 1))) (both_off (nat_le counted MAX_LIST_ELEMENTS) (nat_lt MAX_LIST_ELEMENTS (counted + more)) small)
+    ap (λ test. fault_if test span (TooMany Elements (MAX_LIST_ELEMENTS + 1))) (and_right (nat_le counted MAX_LIST_ELEMENTS) (nat_lt MAX_LIST_ELEMENTS (counted + more)) small)
 
 module _ (ifaces : List Iface) (model : Model) where
   -- what an entry needs so that it is read again
@@ -96,11 +70,13 @@ module _ (ifaces : List Iface) (model : Model) where
       (make (λ ts tree says. says_rule_item r tree (span_of ts) says) (rule_goes ifaces model r is ks))
   entry_goes (Dynamic name dir bound next_id rules) is ks =
       let behind = feed ∷ ks in
-      subst (λ from. Goes item (λ tree. SaysItem (Dynamic name dir bound next_id rules) tree) (keyword (codes "ruleset") ∷ Kind.Str (name_bytes name) ∷ from) behind) (sym (bound_kinds dir bound behind))
+      subst (λ from. Goes item (λ tree. SaysItem (Dynamic name dir bound next_id rules) tree) (keyword (codes "ruleset") ∷
+      Kind.Str (name_bytes name) ∷ from) behind) (sym (bound_kinds dir bound behind))
       (pick_first (it_is (λ s. refl))
       (make {P = λ a. IsText (name_bytes name) a.0 × ((option_map dir_of a.1.0 ≡ dir) × OnBound ifaces model bound a.1.1)}
       (λ ts a q. says_ruleset name dir bound next_id rules is.0 is.2 is.3 a.0 a.1.0 a.1.1 (span_of ts) q.0 q.1.0 q.1.1)
-      (said (turn (name_goes (name_bytes name) (onto (optional_pieces dir_pieces dir) (onto (optional_pieces on_pieces bound) behind)) name.named) (bound_goes ifaces model dir bound is.1 behind (inr (inl (ks, refl))))))))
+      (said (turn (name_goes (name_bytes name) (onto (optional_pieces dir_pieces dir) (onto (optional_pieces on_pieces bound) behind)) name.named)
+      (bound_goes ifaces model dir bound is.1 behind (inr (inl (ks, refl))))))))
 
   entry_head : (entry : Item) (ks : List TokenKind) → HeadIn (keyword (codes "ruleset") ∷ keyword (codes "pass") ∷ keyword (codes "block") ∷ []) (onto (within_item model entry) ks)
   entry_head (One r) ks = inr (rule_head ifaces model r ks)
@@ -111,7 +87,8 @@ module _ (ifaces : List Iface) (model : Model) where
 
   pub items_go : (entries : List Item) → All IsFineEntry entries → (ks : List TokenKind)
       → Goes items (λ trees. Each IsItemOf trees entries) (feed ∷ onto (flat_map (item_line model) entries) (close ∷ ks)) (close ∷ ks)
-  unfolding items item rule action answer stateful direction ends_walk on filter family proto_part detail the_ends ends ports addresses protocols one_list ones one values value_list listed_values value written number_value address_value table_value function function_value iface
+  unfolding items item rule action answer stateful direction ends_walk on filter family proto_part detail the_ends ends ports addresses protocols one_list
+      ones one values value_list listed_values value written number_value address_value table_value function function_value iface
   items_go entries all ks =
       opened_goes item ends_item IsItemOf IsFineEntry (within_item model) (item_line model) entry_line (λ entry is ks. entry_goes entry is ks)
       (λ entry is ks. none_is (keyword (codes "ruleset") ∷ keyword (codes "pass") ∷ keyword (codes "block") ∷ []) (λ s. refl) (entry_head entry (feed ∷ ks)))

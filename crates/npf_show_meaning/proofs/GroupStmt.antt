@@ -5,31 +5,18 @@ use Rattle.npf_types.specs.declared.span.Span.{Span}
 use Rattle.npf_lexer.specs.declared.token.Sign.TheVariants as Signs
 use Rattle.npf_lexer.specs.declared.token.TokenKind.{TokenKind}
 use Rattle.npf_lexer.specs.declared.token.TokenKind.TheVariants as Kind
-use Rattle.npf_syntax.specs.declared.group.GroupHead.{GroupHead}
-use Rattle.npf_syntax.specs.declared.group.Item.{Item as WrittenItem}
-use Rattle.npf_syntax.specs.declared.stmt.Stmt.{Stmt}
-use Rattle.npf_model.specs.declared.group.Group.{Group}
-use Rattle.npf_model.specs.declared.iface.Iface.{Iface}
-use Rattle.npf_model.specs.declared.model.Model.{Model}
+use Rattle.npf_syntax.specs.declared.{group.{GroupHead.GroupHead, ItemTree.ItemTree as WrittenItem}, stmt.Stmt.Stmt}
+use Rattle.npf_model.specs.declared.{group.Group.Group, iface.Iface.Iface, model.Model.Model}
 use Rattle.npf_parser_values.specs.Token.{span_of}
-use Rattle.npf_parser.specs.Rule.{head}
-use Rattle.npf_parser.specs.Stmt.{group}
-use Rattle.npf_expand.specs.Group.{group_of_tree}
-use Rattle.npf_expand.specs.Rule.{dir_of}
-use Rattle.npf_show.specs.Bound.{dir_pieces, on_pieces}
-use Rattle.npf_show.specs.Group.{item_line, head_pieces, group_head}
+use Rattle.npf_parser.specs.{Rule.head, Stmt.group}
+use Rattle.npf_expand.specs.{Group.group_of_tree, Rule.dir_of}
+use Rattle.npf_show.specs.{Bound.{dir_pieces, on_pieces}, Group.{item_line, head_pieces, group_head}}
 use Rattle.npf_show.specs.Piece.{Piece, glued, spaced, line_end, closing_line, optional_pieces}
 use Rattle.npf_show.specs.Piece as Pieces
 use Rattle.npf_show_meaning.specs.Regular.{IsRegularOn, IsPlainHead}
-use Rattle.npf_show_meaning.proofs.Goes.{Goes, make, turn, pick_first, pick_second, said, signed, before, it_is, says_goes}
-use Rattle.npf_show_meaning.proofs.Lists.{onto, onto_both, Each}
-use Rattle.npf_show_meaning.proofs.Says.{nameless}
-use Rattle.npf_show_meaning.proofs.Values.{keyword}
-use Rattle.npf_show_meaning.proofs.ValueLists.{close}
-use Rattle.npf_show_meaning.proofs.Blocks.{feed}
-use Rattle.npf_show_meaning.proofs.RuleOf.{IsText, string_goes, OnBound, bound_goes}
-use Rattle.npf_show_meaning.proofs.GroupOf.{IsFineEntry, IsItemOf, items_go, items_clean, items_counted, items_given}
-use Rattle.npf_show_meaning.proofs.Parts.{OfGroup, SaysPartOf}
+use Rattle.npf_show_meaning.proofs.{Goes.{Goes, make, turn, pick_first, pick_second, said, signed, before, it_is, says_goes}, Lists.{onto, onto_both, Each}}
+use Rattle.npf_show_meaning.proofs.{Says.nameless, Values.keyword, ValueLists.close, Blocks.feed, RuleOf.{IsText, string_goes, OnBound, bound_goes}}
+use Rattle.npf_show_meaning.proofs.{GroupOf.{IsFineEntry, IsItemOf, items_go, items_clean, items_counted, items_given}, Parts.{OfGroup, SaysPartOf}}
 use Rattle.npf_expand_values.specs.Source.{declared_of}
 
 module _ (ifaces : List Iface) (model : Model) where
@@ -60,7 +47,8 @@ module _ (ifaces : List Iface) (model : Model) where
       → SaysPartOf ifaces model (OfGroup g) (Stmt.Group h trees span)
   says_group true g is fine (GroupHead.Default s) trees span head each =
       let plain = fine.head is in
-      let given : group_of_tree ifaces (nameless ifaces) (declared_of model) (GroupHead.Default s) trees ≡ g = rw (plain.name, plain.dir, plain.on, is, items_given ifaces model trees g.items each) refl in
+      let given : group_of_tree ifaces (nameless ifaces) (declared_of model) (GroupHead.Default s) trees ≡ g =
+      rw (plain.name, plain.dir, plain.on, is, items_given ifaces model trees g.items each) refl in
       record {
         plain = λ older. refl;
         faults = λ counted few. items_clean ifaces model trees g.items each counted few;
@@ -76,7 +64,8 @@ module _ (ifaces : List Iface) (model : Model) where
         algs = refl;
       }
   says_group false g is fine (GroupHead.Named name dir bound s) trees span head each =
-      let given : group_of_tree ifaces (nameless ifaces) (declared_of model) (GroupHead.Named name dir bound s) trees ≡ g = rw (head.0, head.1, head.2.1, is, items_given ifaces model trees g.items each) refl in
+      let given : group_of_tree ifaces (nameless ifaces) (declared_of model) (GroupHead.Named name dir bound s) trees ≡ g =
+      rw (head.0, head.1, head.2.1, is, items_given ifaces model trees g.items each) refl in
       record {
         plain = λ older. refl;
         faults = λ counted few. rw (head.2.0, items_clean ifaces model trees g.items each counted few) refl;

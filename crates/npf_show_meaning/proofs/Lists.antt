@@ -1,14 +1,10 @@
 -- Lists of what is read: in braces, with commas, or a line each.
 use Rattle.std.proofs.Common.{◌≡◌, inl, inr, true, false, Option, Some, List, [], ◌∷◌, ◌++◌, flat_map, codes, refl, sym, ap, subst, ◌∙◌, append_assoc}
-use Rattle.std.proofs.lemmas.Grind.{flat_map-append}
-use Rattle.std.proofs.lemmas.List.Elements.{All-head, All-tail}
-use Rattle.std.specs.List.{All}
+use Rattle.std.{proofs.lemmas.{Grind.flat_map-append, List.Elements.{All-head, All-tail}}, specs.List.All}
 use Rattle.npf_lexer.specs.declared.token.Sign.TheVariants as Signs
-use Rattle.npf_lexer.specs.declared.token.Token.{Token}
-use Rattle.npf_lexer.specs.declared.token.TokenKind.{TokenKind}
+use Rattle.npf_lexer.specs.declared.token.{Token.Token, TokenKind.TokenKind}
 use Rattle.npf_lexer.specs.declared.token.TokenKind.TheVariants as Kind
-use Rattle.npf_phrase.specs.Grammar.{Grammar, meaning, making, both, any_number, preceded, separated, list_of, those_there}
-use Rattle.npf_phrase.proofs.TestLemmas.{advances}
+use Rattle.npf_phrase.{specs.Grammar.{Grammar, meaning, making, both, any_number, preceded, separated, list_of, those_there}, proofs.TestLemmas.advances}
 use Rattle.npf_show.specs.Piece.{Piece, glued}
 use Rattle.npf_show.specs.Piece as Pieces
 use Rattle.npf_show_tokens.specs.Tokens.{kind_of_piece, kinds_of_pieces}
@@ -70,9 +66,12 @@ module _ {A B S : Type 0} (separator : Grammar Token S) (g : Grammar Token A) (R
     list_goes x xs all to here =
         let behind = onto (following xs) to in
         subst (λ from. Goes (list_of separator g) (λ vals. Each R vals (x ∷ xs)) from to) (sym (onto_both (pieces x) (following xs) to))
-        (making_goes (λ _ items. those_there items) (separated separator (making (λ _ a. Some a) g)) (λ os. Each R (those_there os) (x ∷ xs)) (λ vals. Each R vals (x ∷ xs)) (onto (pieces x) behind) to (λ ts os r. r)
-        (making_goes (λ _ ab. ab.0 ∷ ab.1) (both (making (λ _ a. Some a) g) (any_number next)) (λ ab. ((a : A) × (ab.0 ≡ Some a) × R a x) × Each R (those_there ab.1) xs) (λ os. Each R (those_there os) (x ∷ xs)) (onto (pieces x) behind) to
+        (making_goes (λ _ items. those_there items) (separated separator (making (λ _ a. Some a) g))
+        (λ os. Each R (those_there os) (x ∷ xs)) (λ vals. Each R vals (x ∷ xs)) (onto (pieces x) behind) to (λ ts os r. r)
+        (making_goes (λ _ ab. ab.0 ∷ ab.1) (both (making (λ _ a. Some a) g) (any_number next)) (λ ab. ((a : A) × (ab.0 ≡ Some a) × R a x) ×
+        Each R (those_there ab.1) xs) (λ os. Each R (those_there os) (x ∷ xs)) (onto (pieces x) behind) to
         (λ ts ab r. subst (λ o. Each R (those_there (o ∷ ab.1)) (x ∷ xs)) (sym r.0.1) (r.0.2, r.1))
         (both_goes (making (λ _ a. Some a) g) (any_number next) (λ o. (a : A) × (o ≡ Some a) × R a x) (λ os. Each R (those_there os) xs) (onto (pieces x) behind) behind to
-        (making_goes (λ _ a. Some a) g (λ a. R a x) (λ o. (a : A) × (o ≡ Some a) × R a x) (onto (pieces x) behind) behind (λ ts a r. (a, refl, r)) (goes x (All-head Q x xs all) behind (stops_behind xs to here)))
+        (making_goes (λ _ a. Some a) g (λ a. R a x) (λ o. (a : A) × (o ≡ Some a) × R a x) (onto (pieces x) behind) behind
+        (λ ts a r. (a, refl, r)) (goes x (All-head Q x xs all) behind (stops_behind xs to here)))
         (others_go xs (All-tail Q x xs all) to here))))

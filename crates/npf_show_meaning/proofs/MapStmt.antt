@@ -1,58 +1,31 @@
 -- The statement of a map.
 use Rattle.std.proofs.Common.{◌≡◌, ◌≤◌, inl, inr, ℕ, ◌+◌, nat_lt, true, false, Option, Some, None, IfSome, option_map, List, [], ◌∷◌, ◌++◌, codes, refl, sym, ap, ap₂, subst, ◌∙◌, arith}
 use Rattle.std.proofs.lemmas.Bool.Decides.{nat_tests}
-use Rattle.npf_types.specs.declared.limits.TheConstants.{MAX_LIST_ELEMENTS}
-use Rattle.npf_types.specs.declared.span.Span.{Span}
-use Rattle.npf_types.specs.Name.{name_bytes}
+use Rattle.npf_types.specs.{declared.{limits.TheConstants.MAX_LIST_ELEMENTS, span.Span.Span}, Name.name_bytes}
 use Rattle.npf_lexer.specs.declared.token.Sign.TheVariants as Signs
 use Rattle.npf_lexer.specs.declared.token.TokenKind.{TokenKind}
 use Rattle.npf_lexer.specs.declared.token.TokenKind.TheVariants as Kind
-use Rattle.npf_syntax.specs.declared.filter.Filter.{Filter}
-use Rattle.npf_syntax.specs.declared.map.Arrow.{Arrow as WrittenArrow}
-use Rattle.npf_syntax.specs.declared.map.MapKind.{MapKind}
-use Rattle.npf_syntax.specs.declared.map.Side.{Side as WrittenSide}
-use Rattle.npf_syntax.specs.declared.stmt.Stmt.{Stmt}
-use Rattle.npf_syntax.specs.declared.value.Iface.{Iface as WrittenIface}
-use Rattle.npf_syntax.specs.declared.value.One.{One}
-use Rattle.npf_syntax.specs.declared.value.Value.{Value}
-use Rattle.npf_syntax.specs.declared.word.Number.{Number}
-use Rattle.npf_syntax.specs.declared.word.Word.{Word}
-use Rattle.npf_model.specs.declared.iface.Iface.{Iface}
-use Rattle.npf_model.specs.declared.map.Algo.{Algo}
+use Rattle.npf_syntax.specs.declared.{filter.Filter.Filter, map.{ArrowTree.ArrowTree as WrittenArrow, MapKind.MapKind, SideTree.SideTree as WrittenSide}}
+use Rattle.npf_syntax.specs.declared.{stmt.Stmt.Stmt, value.{IfaceTree.IfaceTree as WrittenIface, One.One, Value.Value}, word.{Number.Number, Word.Word}}
+use Rattle.npf_model.specs.declared.{iface.Iface.Iface, map.{Algo.Algo, Arrow.Arrow, Map.Map, Side.Side}, model.Model.Model, rule.Rule.Rule}
 use Rattle.npf_model.specs.declared.map.Algo.TheVariants as Algos
-use Rattle.npf_model.specs.declared.map.Arrow.{Arrow}
 use Rattle.npf_model.specs.declared.map.Arrow.TheVariants as Arrows
-use Rattle.npf_model.specs.declared.map.Map.{Map}
-use Rattle.npf_model.specs.declared.map.Side.{Side}
-use Rattle.npf_model.specs.declared.model.Model.{Model}
-use Rattle.npf_model.specs.declared.rule.Rule.{Rule}
 use Rattle.npf_phrase.specs.Grammar.{optional, preceded}
-use Rattle.npf_parser_values.specs.Token.{word, quoted, span_of}
-use Rattle.npf_parser_values.specs.Value.{one, value, can_stand, is_port, is_port_end}
-use Rattle.npf_parser.specs.Filter.{filter}
-use Rattle.npf_parser.specs.Map.{map_kind, arrow, side}
-use Rattle.npf_parser.specs.Stmt.{map}
-use Rattle.npf_expand_values.specs.Protocol.{one_protocol, one_protocol_faults}
-use Rattle.npf_expand_values.specs.Source.{declared_of}
-use Rattle.npf_expand.specs.Elaborates.{filter_elements}
-use Rattle.npf_expand.specs.Map.{algo_of, arrow_of_sign, side_faults, side_of, side_port, side_port_faults, map_filter_faults}
+use Rattle.npf_parser_values.specs.{Token.{word, quoted, span_of}, Value.{one, value, can_stand, is_port, is_port_end}}
+use Rattle.npf_parser.specs.{Filter.filter, Map.{map_kind, arrow, side}, Stmt.map}
+use Rattle.npf_expand_values.specs.{Protocol.{one_protocol, one_protocol_faults}, Source.declared_of}
+use Rattle.npf_expand.specs.{Elaborates.filter_elements, Map.{algo_of, arrow_of_sign, side_faults, side_of, side_port, side_port_faults, map_filter_faults}}
 use Rattle.npf_expand.specs.Rule.{filter_rule}
-use Rattle.npf_show.specs.Ends.{prefix_pieces}
-use Rattle.npf_show.specs.Map.{algo_pieces, one_proto_pieces, side_port_pieces, side_pieces, arrow_pieces, pass_pieces}
+use Rattle.npf_show.specs.{Ends.prefix_pieces, Map.{algo_pieces, one_proto_pieces, side_port_pieces, side_pieces, arrow_pieces, pass_pieces}}
 use Rattle.npf_show.specs.Piece.{Piece, glued, spaced, optional_pieces}
 use Rattle.npf_show.specs.Piece as Pieces
 use Rattle.npf_show_tokens.specs.Showable.{FitsByte}
 use Rattle.npf_show_meaning.specs.Regular.{pass_elements, IsRegularOn, IsFilterAlone}
 use Rattle.npf_show_meaning.proofs.Goes.{Goes, HeadIn, make, turn, keep, pick_first, pick_second, said, absent, present, it_is, none_is, says_goes, sign_goes}
-use Rattle.npf_show_meaning.proofs.Lists.{onto, onto_both}
-use Rattle.npf_show_meaning.proofs.Says.{nameless, SaysNet, net_side, range_side}
-use Rattle.npf_show_meaning.proofs.Values.{keyword, Behind, IsRange, net_goes, range_goes}
-use Rattle.npf_show_meaning.proofs.Blocks.{feed}
-use Rattle.npf_show_meaning.proofs.FilterOf.{SaysOne, one_goes, IsFineFilter, filter_goes, alone}
-use Rattle.npf_show_meaning.proofs.RuleOf.{SaysOn, iface_goes}
-use Rattle.npf_show_meaning.proofs.GroupOf.{few_elements}
-use Rattle.npf_show_meaning.proofs.TableStmt.{any_word_goes}
-use Rattle.npf_show_meaning.proofs.Parts.{OfMap, SaysPartOf}
+use Rattle.npf_show_meaning.proofs.{Lists.{onto, onto_both}, Says.{nameless, SaysNet, net_side, range_side}}
+use Rattle.npf_show_meaning.proofs.{Values.{keyword, Behind, IsRange, net_goes, range_goes}, Blocks.feed}
+use Rattle.npf_show_meaning.proofs.{FilterOf.{SaysOne, one_goes, IsFineFilter, filter_goes, alone}, RuleOf.{SaysOn, iface_goes}, GroupOf.few_elements}
+use Rattle.npf_show_meaning.proofs.{TableStmt.any_word_goes, Parts.{OfMap, SaysPartOf}}
 
 -- a word behind `static algo`
 abbrev IsAlgo : Algo → Option Word → Type 0
@@ -65,7 +38,8 @@ unfolding map_kind
 static_goes text algo means ks =
     pick_second (it_is (λ s. refl))
     (make {P = λ o. (w : Word) × (o ≡ Some w) × (w.text ≡ text)} (λ ts o q. ap (λ o. algo_of (MapKind.Static o (span_of ts))) q.1 ∙ means q.0 (span_of ts) q.2)
-    (said (present {g = preceded (quoted (codes "algo")) word} {P = λ o. (w : Word) × (o ≡ Some w) × (w.text ≡ text)} (it_is (λ s. refl)) (said (keep (λ w same. (w, refl, same)) (any_word_goes text ks))))))
+    (said (present {g = preceded (quoted (codes "algo")) word} {P = λ o. (w : Word) × (o ≡ Some w) × (w.text ≡ text)}
+    (it_is (λ s. refl)) (said (keep (λ w same. (w, refl, same)) (any_word_goes text ks))))))
 
 algo_goes : (algo : Algo) (ks : List TokenKind) → Goes map_kind (λ k. algo_of k ≡ algo) (onto (algo_pieces algo) ks) ks
 unfolding map_kind
@@ -117,7 +91,8 @@ module _ (ifaces : List Iface) (model : Model) where
       → Goes (optional (preceded (quoted (codes "port")) (value role false))) (SaysSidePort ports) (onto (optional_pieces side_port_pieces ports) ks) ks
   side_port_goes role stands None is ks here = absent {g = preceded (quoted (codes "port")) (value role false)} (none_is side_stops (λ s. refl) here) (refl, refl)
   side_port_goes role stands (Some range) is ks here =
-      present {g = preceded (quoted (codes "port")) (value role false)} (it_is (λ s. refl)) (said (keep (λ v says. range_side ifaces range v says) (range_goes ifaces role stands false range is ks (side_behind ks here))))
+      present {g = preceded (quoted (codes "port")) (value role false)} (it_is (λ s. refl))
+      (said (keep (λ v says. range_side ifaces range v says) (range_goes ifaces role stands false range is ks (side_behind ks here))))
 
   port_behind : (ports : Option (ℕ × ℕ)) (ks : List TokenKind) → HeadIn side_stops ks → Behind false (onto (optional_pieces side_port_pieces ports) ks)
   port_behind None ks here = side_behind ks here
@@ -143,7 +118,8 @@ module _ (ifaces : List Iface) (model : Model) where
   proto_goes : (proto : Option ℕ) → IfSome proto FitsByte → (s : Side) (ks : List TokenKind)
       → Goes (optional (preceded (quoted (codes "proto")) one)) (SaysProto proto) (onto (optional_pieces one_proto_pieces proto) (onto (side_pieces s) ks)) (onto (side_pieces s) ks)
   proto_goes None small s ks = absent {g = preceded (quoted (codes "proto")) one} (it_is (λ s. refl)) (refl, refl)
-  proto_goes (Some n) small s ks = present {g = preceded (quoted (codes "proto")) one} {P = SaysProto (Some n)} (it_is (λ s. refl)) (said (keep (λ a says. proto_says n small a says) (one_goes ifaces n small (onto (side_pieces s) ks))))
+  proto_goes (Some n) small s ks = present {g = preceded (quoted (codes "proto")) one} {P = SaysProto (Some n)} (it_is (λ s. refl))
+      (said (keep (λ a says. proto_says n small a says) (one_goes ifaces n small (onto (side_pieces s) ks))))
 
   -- the filter of a map
   abbrev SaysPass : Option Rule → Option Filter → Type 0
@@ -227,7 +203,8 @@ module _ (ifaces : List Iface) (model : Model) where
       let k1 = onto (optional_pieces one_proto_pieces m.proto) k2 in
       subst (λ from. Goes map (SaysPartOf ifaces model (OfMap m)) from to) (sym (map_kinds m to))
       (make
-      {P = λ a. SaysOn ifaces model m.on a.0 × ((algo_of a.1.0 ≡ m.algo) × (SaysProto m.proto a.1.1.0 × (SaysSide m.inside a.1.1.1.0 × ((arrow_of_sign a.1.1.1.1.0 ≡ m.arrow) × (SaysSide m.outside a.1.1.1.1.1.0 × SaysPass m.filter a.1.1.1.1.1.1)))))}
+      {P = λ a. SaysOn ifaces model m.on a.0 × ((algo_of a.1.0 ≡ m.algo) ×
+      (SaysProto m.proto a.1.1.0 × (SaysSide m.inside a.1.1.1.0 × ((arrow_of_sign a.1.1.1.1.0 ≡ m.arrow) × (SaysSide m.outside a.1.1.1.1.1.0 × SaysPass m.filter a.1.1.1.1.1.1)))))}
       (λ ts a q. says_map m a.0 a.1.0 a.1.1.0 a.1.1.1.0 a.1.1.1.1.0 a.1.1.1.1.1.0 a.1.1.1.1.1.1 (span_of ts) q.0 q.1.0 q.1.1.0 q.1.1.1.0 q.1.1.1.1.0 q.1.1.1.1.1.0 q.1.1.1.1.1.1)
       (said (turn (iface_goes ifaces model m.on is.on (onto (algo_pieces m.algo) k1))
       (turn (algo_goes m.algo k1)

@@ -1,24 +1,13 @@
 -- The statements of a canonical text, and what each says of the model.
 use Rattle.std.proofs.Common.{◌≡◌, ◌≤◌, ℕ, ◌+◌, Bool, if◌then◌else◌, List, [], ◌∷◌, codes, map, sum_by}
-use Rattle.npf_types.specs.declared.limits.TheConstants.{MAX_LIST_ELEMENTS}
-use Rattle.npf_types.specs.Name.{name_bytes}
+use Rattle.npf_types.specs.{declared.limits.TheConstants.MAX_LIST_ELEMENTS, Name.name_bytes}
 use Rattle.npf_syntax.specs.declared.stmt.Stmt.{Stmt}
-use Rattle.npf_model.specs.declared.group.Group.{Group}
-use Rattle.npf_model.specs.declared.iface.Iface.{Iface}
-use Rattle.npf_model.specs.declared.map.Map.{Map}
-use Rattle.npf_model.specs.declared.model.Model.{Model}
-use Rattle.npf_model.specs.declared.procedure.Procedure.{Procedure}
-use Rattle.npf_model.specs.declared.settings.Parameter.{Parameter}
-use Rattle.npf_model.specs.declared.table.TableDecl.{TableDecl}
-use Rattle.npf_expand_values.specs.Declarations.{table_name, procedure_name}
-use Rattle.npf_expand_values.specs.Variable.{Definition}
-use Rattle.npf_expand_values.specs.Source.{declared_of}
+use Rattle.npf_model.specs.declared.{group.Group.Group, iface.Iface.Iface, map.Map.Map, model.Model.Model, procedure.Procedure.Procedure}
+use Rattle.npf_model.specs.declared.{settings.Parameter.Parameter, table.TableDecl.TableDecl}
+use Rattle.npf_expand_values.specs.{Declarations.{table_name, procedure_name}, Variable.Definition, Source.declared_of}
 use Rattle.npf_expand.specs.Elaborates.{behind, stmt_elements, stmt_faults, named_group, default_group, maps_of, procedures_of}
-use Rattle.npf_expand.specs.Settings.{algs_in, settings_in}
-use Rattle.npf_expand.specs.Table.{tables_of}
-use Rattle.npf_show_meaning.specs.Law.{AreSameTables}
-use Rattle.npf_show_meaning.specs.Regular.{entry_elements, pass_elements}
-use Rattle.npf_show_meaning.proofs.Says.{nameless}
+use Rattle.npf_expand.specs.{Settings.{algs_in, settings_in}, Table.tables_of}
+use Rattle.npf_show_meaning.{specs.{Law.AreSameTables, Regular.{entry_elements, pass_elements}}, proofs.Says.nameless}
 
 pub data Part : Type 0 where
   OfSet : (one : Parameter × Bool) → Part

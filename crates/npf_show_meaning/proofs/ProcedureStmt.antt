@@ -1,28 +1,15 @@
 -- The statement of a procedure.
 use Rattle.std.proofs.Common.{◌≡◌, ◌<◌, ◌^◌, inl, inr, ℕ, min, Bool, true, false, Option, Some, None, IfSome, List, [], ◌∷◌, ◌++◌, flat_map, codes, refl, sym, ap, subst, ◌∙◌, arith, append-nil}
-use Rattle.std.proofs.lemmas.Slice.Eq.{bytes_eq-Decides}
-use Rattle.std.proofs.lemmas.List.Elements.{All-append, All-cons}
-use Rattle.std.specs.List.{All}
-use Rattle.npf_types.specs.declared.name.Name.{Name}
-use Rattle.npf_types.specs.declared.span.Span.{Span}
-use Rattle.npf_types.specs.Name.{name_bytes}
-use Rattle.npf_types.specs.Named.{named}
+use Rattle.std.{proofs.lemmas.{Slice.Eq.bytes_eq-Decides, List.Elements.{All-append, All-cons, All-nil}}, specs.List.All}
+use Rattle.npf_types.specs.{declared.{name.Name.Name, span.Span.Span}, Name.name_bytes, Named.named}
 use Rattle.npf_lexer.specs.declared.token.Sign.TheVariants as Signs
-use Rattle.npf_lexer.specs.declared.token.Token.{Token}
-use Rattle.npf_lexer.specs.declared.token.TokenKind.{TokenKind}
+use Rattle.npf_lexer.specs.declared.token.{Token.Token, TokenKind.TokenKind}
 use Rattle.npf_lexer.specs.declared.token.TokenKind.TheVariants as Kind
-use Rattle.npf_syntax.specs.declared.procedure.Call.{Call}
-use Rattle.npf_syntax.specs.declared.procedure.Opt.{Opt}
-use Rattle.npf_syntax.specs.declared.stmt.Stmt.{Stmt}
-use Rattle.npf_syntax.specs.declared.word.Str.{Str}
-use Rattle.npf_model.specs.declared.iface.Iface.{Iface}
-use Rattle.npf_model.specs.declared.model.Model.{Model}
-use Rattle.npf_model.specs.declared.procedure.Procedure.{Procedure}
+use Rattle.npf_syntax.specs.declared.{procedure.{Call.Call, Opt.Opt}, stmt.Stmt.Stmt, word.Str.Str}
+use Rattle.npf_model.specs.declared.{iface.Iface.Iface, model.Model.Model, procedure.Procedure.Procedure}
 use Rattle.npf_phrase.specs.Grammar.{Grammar, preceded}
 use Rattle.npf_parser_values.specs.Token.{quoted_name, sign, span_of, when}
-use Rattle.npf_parser.specs.Rule.{ends_item}
-use Rattle.npf_parser.specs.Procedure.{log_name, opt, options, call, calls}
-use Rattle.npf_parser.specs.Stmt.{procedure}
+use Rattle.npf_parser.specs.{Rule.ends_item, Procedure.{log_name, opt, options, call, calls}, Stmt.procedure}
 use Rattle.npf_expand.specs.Procedure.{log_name as name_of_log, with_option, with_options, with_call, with_calls}
 use Rattle.npf_show.specs.Piece.{Piece, glued, spaced, indent, line_end, closing_line, optional_pieces, comma_list}
 use Rattle.npf_show.specs.Piece as Pieces
@@ -30,12 +17,8 @@ use Rattle.npf_show.specs.Procedure.{log_line, least_option, greatest_option, fr
 use Rattle.npf_show_tokens.specs.Showable.{FitsByte, IsShowableProcedure}
 use Rattle.npf_show_meaning.specs.Regular.{IsOfText}
 use Rattle.npf_show_meaning.proofs.Goes.{Goes, HeadIn, Anything, token_goes, make, turn, pick_first, pick_second, preceded_goes, said, signed, before, it_is, none_is, sign_goes}
-use Rattle.npf_show_meaning.proofs.Lists.{onto, onto_both, Each, list_goes}
-use Rattle.npf_show_meaning.proofs.ValueLists.{close}
-use Rattle.npf_show_meaning.proofs.Blocks.{feed, opened_goes}
-use Rattle.npf_show_meaning.proofs.FilterOf.{to_goes}
-use Rattle.npf_show_meaning.proofs.RuleOf.{IsText, string_goes, name_goes}
-use Rattle.npf_show_meaning.proofs.Parts.{OfProcedure, SaysPartOf}
+use Rattle.npf_show_meaning.proofs.{Lists.{onto, onto_both, Each, list_goes}, ValueLists.close, Blocks.{feed, opened_goes}, FilterOf.to_goes}
+use Rattle.npf_show_meaning.proofs.{RuleOf.{IsText, string_goes, name_goes}, Parts.{OfProcedure, SaysPartOf}}
 
 -- the options of a normalisation
 data NormalOption : Type 0 where
@@ -222,20 +205,17 @@ made_by name (Some n) (Some m) true None = refl
 made_by name (Some n) (Some m) true (Some log) = refl
 
 -- lists of which each element holds something
-all_none : {A : Type 0} (P : A → Type 0) → All P []
-all_none P k d within = absurd (omega (arith, within))
-
 fits_least : (o : Option ℕ) → IfSome o FitsByte → All FitsOption (least o)
-fits_least None is = all_none FitsOption
-fits_least (Some n) is = All-cons FitsOption (MinTtl n) [] is (all_none FitsOption)
+fits_least None is = All-nil FitsOption
+fits_least (Some n) is = All-cons FitsOption (MinTtl n) [] is (All-nil FitsOption)
 
 fits_greatest : (o : Option ℕ) → IfSome o (λ n. n < 2 ^ 16) → All FitsOption (greatest o)
-fits_greatest None is = all_none FitsOption
-fits_greatest (Some n) is = All-cons FitsOption (MaxMss n) [] is (all_none FitsOption)
+fits_greatest None is = All-nil FitsOption
+fits_greatest (Some n) is = All-cons FitsOption (MaxMss n) [] is (All-nil FitsOption)
 
 fits_fragment : (b : Bool) → All FitsOption (fragments b)
-fits_fragment false = all_none FitsOption
-fits_fragment true = All-cons FitsOption NoDf [] tt (all_none FitsOption)
+fits_fragment false = All-nil FitsOption
+fits_fragment true = All-cons FitsOption NoDf [] tt (All-nil FitsOption)
 
 options_fit : (p : Procedure) → IsShowableProcedure p → All FitsOption (options_of p)
 options_fit p is =
@@ -243,18 +223,19 @@ options_fit p is =
     (All-append FitsOption (least p.min_ttl) (greatest p.max_mss) (fits_least p.min_ttl is.min_ttl) (fits_greatest p.max_mss is.max_mss)) (fits_fragment p.no_df)
 
 normal_fits : (os : List NormalOption) → All FitsOption os → All FitsLine (normal_lines os)
-normal_fits [] all = all_none FitsLine
-normal_fits (o ∷ os) all = All-cons FitsLine (Normal o os) [] all (all_none FitsLine)
+normal_fits [] all = All-nil FitsLine
+normal_fits (o ∷ os) all = All-cons FitsLine (Normal o os) [] all (All-nil FitsLine)
 
 log_fits : (log : Option Name) → IfSome log IsOfText → All FitsLine (log_lines log)
-log_fits None is = all_none FitsLine
-log_fits (Some name) is = All-cons FitsLine (LogTo name) [] is (all_none FitsLine)
+log_fits None is = All-nil FitsLine
+log_fits (Some name) is = All-cons FitsLine (LogTo name) [] is (All-nil FitsLine)
 
 lines_fit : (p : Procedure) → IsShowableProcedure p → IfSome p.log IsOfText → All FitsLine (lines_of p)
 lines_fit p is log = All-append FitsLine (log_lines p.log) (normal_lines (options_of p)) (log_fits p.log log) (normal_fits (options_of p) (options_fit p is))
 
 module _ (ifaces : List Iface) (model : Model) where
-  says_procedure : (p : Procedure) (name : Str) (trees : List Call) (span : Span) → IsText p.name name → Each IsCall trees (lines_of p) → SaysPartOf ifaces model (OfProcedure p) (Stmt.Procedure name trees span)
+  says_procedure : (p : Procedure) (name : Str) (trees : List Call) (span : Span) → IsText p.name name →
+      Each IsCall trees (lines_of p) → SaysPartOf ifaces model (OfProcedure p) (Stmt.Procedure name trees span)
   says_procedure p name trees span same each = record {
     plain = λ older. refl;
     faults = λ counted few. refl;
@@ -281,10 +262,13 @@ module _ (ifaces : List Iface) (model : Model) where
   procedure_kinds p ks =
       let log = optional_pieces log_line p.log in
       let normal = normalize_line (normal_options p) in
-      onto_both (procedure_head p ++ log ++ normal) (glued (Pieces.Sign (codes "}"))) ks ∙ onto_both (procedure_head p ++ log) normal (close ∷ ks) ∙ onto_both (procedure_head p) log (onto normal (close ∷ ks))
-      ∙ ap (λ ks. Kind.Word (codes "procedure") ∷ Kind.Str p.name ∷ Kind.Sign Signs.OpenBrace ∷ feed ∷ ks) (sym (onto_both log normal (close ∷ ks)) ∙ ap (λ pieces. onto pieces (close ∷ ks)) (ap (λ line. log ++ line) (same_line p.min_ttl p.max_mss p.no_df) ∙ rows_by p.log (options_of p)))
+      onto_both (procedure_head p ++ log ++ normal) (glued (Pieces.Sign (codes "}"))) ks
+      ∙ onto_both (procedure_head p ++ log) normal (close ∷ ks) ∙ onto_both (procedure_head p) log (onto normal (close ∷ ks))
+      ∙ ap (λ ks. Kind.Word (codes "procedure") ∷ Kind.Str p.name ∷ Kind.Sign Signs.OpenBrace ∷ feed ∷ ks) (sym (onto_both log normal (close ∷ ks))
+      ∙ ap (λ pieces. onto pieces (close ∷ ks)) (ap (λ line. log ++ line) (same_line p.min_ttl p.max_mss p.no_df) ∙ rows_by p.log (options_of p)))
 
-  pub procedure_goes : (p : Procedure) → IsShowableProcedure p → IfSome p.log IsOfText → (ks : List TokenKind) → Goes procedure (SaysPartOf ifaces model (OfProcedure p)) (onto (procedure_within p) ks) ks
+  pub procedure_goes : (p : Procedure) → IsShowableProcedure p → IfSome p.log IsOfText → (ks : List TokenKind) →
+      Goes procedure (SaysPartOf ifaces model (OfProcedure p)) (onto (procedure_within p) ks) ks
   unfolding procedure
   procedure_goes p is log ks =
       subst (λ from. Goes procedure (SaysPartOf ifaces model (OfProcedure p)) from ks) (sym (procedure_kinds p ks))

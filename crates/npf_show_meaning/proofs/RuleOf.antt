@@ -1,52 +1,26 @@
 -- A rule, written and read again.
 use Rattle.std.proofs.Common.{◌≡◌, inl, inr, ℕ, Bool, true, false, Option, Some, None, IfSome, option_map, List, [], ◌∷◌, ◌++◌, codes, refl, sym, ap, subst, ◌∙◌}
-use Rattle.npf_types.specs.declared.decision.Decision.{Decision}
-use Rattle.npf_types.specs.declared.decision.Decision.TheVariants.{Pass, Block}
-use Rattle.npf_types.specs.declared.decision.Return.{Return}
-use Rattle.npf_types.specs.declared.decision.Return.TheVariants.{Nothing, Any, Rst, Icmp}
-use Rattle.npf_types.specs.declared.direction.Dir.{Dir}
-use Rattle.npf_types.specs.declared.direction.Dir.TheVariants.{In, Out}
-use Rattle.npf_types.specs.declared.span.Span.{Span}
-use Rattle.npf_types.specs.Name.{name_bytes}
-use Rattle.npf_types.specs.NameText.{is_name}
+use Rattle.npf_types.specs.declared.decision.{Decision.{Decision, TheVariants.{Pass, Block}}, Return.{Return, TheVariants.{Nothing, Any, Rst, Icmp}}}
+use Rattle.npf_types.specs.{declared.{direction.Dir.{Dir, TheVariants.{In, Out}}, span.Span.Span}, Name.name_bytes, NameText.is_name}
 use Rattle.npf_lexer.specs.declared.token.Sign.TheVariants as Signs
 use Rattle.npf_lexer.specs.declared.token.TokenKind.{TokenKind}
 use Rattle.npf_lexer.specs.declared.token.TokenKind.TheVariants as Kind
-use Rattle.npf_syntax.specs.declared.rule.Answer.{Answer}
-use Rattle.npf_syntax.specs.declared.rule.Direction.{Direction}
-use Rattle.npf_syntax.specs.declared.rule.RuleAction.{RuleAction}
-use Rattle.npf_syntax.specs.declared.rule.RuleTree.{RuleTree}
-use Rattle.npf_syntax.specs.declared.rule.Stateful.{Stateful}
-use Rattle.npf_syntax.specs.declared.value.Iface.{Iface as WrittenIface}
-use Rattle.npf_syntax.specs.declared.word.Str.{Str}
-use Rattle.npf_model.specs.declared.iface.Iface.{Iface}
-use Rattle.npf_model.specs.declared.model.Model.{Model}
-use Rattle.npf_model.specs.declared.rule.OnIf.{OnIf}
-use Rattle.npf_model.specs.declared.rule.Rule.{Rule}
-use Rattle.npf_model.specs.declared.rule.StateOpt.{StateOpt}
-use Rattle.npf_model.specs.declared.rule.StateOpt.TheVariants.{Not, OnInterface, Everywhere}
-use Rattle.npf_model.specs.Count.{elements_of}
+use Rattle.npf_syntax.specs.declared.rule.{BlockReturn.BlockReturn, Direction.Direction, RuleAction.RuleAction, RuleTree.RuleTree, Stateful.Stateful}
+use Rattle.npf_syntax.specs.declared.{value.IfaceTree.IfaceTree as WrittenIface, word.Str.Str}
+use Rattle.npf_model.specs.declared.{iface.Iface.Iface, model.Model.Model, rule.{OnIf.OnIf, Rule.Rule, StateOpt.StateOpt}}
+use Rattle.npf_model.specs.{declared.rule.StateOpt.TheVariants.{Not, OnInterface, Everywhere}, Count.elements_of}
 use Rattle.npf_phrase.specs.Grammar.{meaning, optional, preceded, ◌&◌}
-use Rattle.npf_parser_values.specs.Token.{string, name_string, quoted, says, span_of}
-use Rattle.npf_parser_values.specs.Value.{iface}
+use Rattle.npf_parser_values.specs.{Token.{string, name_string, quoted, says, span_of}, Value.iface}
 use Rattle.npf_parser.specs.Rule.{answer, action, stateful, direction, ends_walk, on, rule}
-use Rattle.npf_expand_values.specs.Declarations.{table_number}
-use Rattle.npf_expand_values.specs.Iface.{iface_faults, on_iface}
-use Rattle.npf_expand_values.specs.Source.{declared_of}
+use Rattle.npf_expand_values.specs.{Declarations.table_number, Iface.{iface_faults, on_iface}, Source.declared_of}
 use Rattle.npf_expand.specs.Rule.{return_of, decision_of, state_of_words, dir_of, filter_count, on_faults, rule_faults, rule_of_tree}
-use Rattle.npf_show.specs.Bound.{dir_pieces, on_pieces}
-use Rattle.npf_show.specs.Filter.{filter_pieces}
-use Rattle.npf_show.specs.Piece.{optional_pieces}
+use Rattle.npf_show.specs.{Bound.{dir_pieces, on_pieces}, Filter.filter_pieces, Piece.optional_pieces}
 use Rattle.npf_show.specs.Rule.{return_pieces, decision_pieces, state_pieces, final_pieces, name_of_procedure, apply_pieces, rule_pieces}
 use Rattle.std.specs.Prelude.{slice_get}
 use Rattle.npf_show_meaning.specs.Regular.{IsRegularOn}
 use Rattle.npf_show_meaning.proofs.Goes.{Goes, Sees, HeadIn, token_goes, make, turn, keep, pick_first, pick_second, fit, said, absent, present, it_is, none_is, says_goes, pure_goes}
-use Rattle.npf_show_meaning.proofs.Lists.{onto, onto_both}
-use Rattle.npf_show_meaning.proofs.Says.{nameless}
-use Rattle.npf_show_meaning.proofs.Values.{keyword}
-use Rattle.npf_show_meaning.proofs.FilterOf.{SaysFilter, IsFineFilter, filter_goes, filter_head, filter_starts}
-use Rattle.npf_show_meaning.proofs.EndsOf.{where_stops}
-use Rattle.npf_show_meaning.proofs.Blocks.{feed}
+use Rattle.npf_show_meaning.proofs.{Lists.{onto, onto_both}, Says.nameless, Values.keyword}
+use Rattle.npf_show_meaning.proofs.{FilterOf.{SaysFilter, IsFineFilter, filter_goes, filter_head, filter_starts}, EndsOf.where_stops, Blocks.feed}
 
 abbrev pub IsText : List ℕ → Str → Type 0
 IsText text s = s.text ≡ text
@@ -73,13 +47,13 @@ state_starts = keyword (codes "stateful") ∷ keyword (codes "stateful-all") ∷
 answer_goes : (r : Return) (ks : List TokenKind) → HeadIn state_starts ks → Goes (optional answer) (λ o. return_of o ≡ r) (onto (return_pieces r) ks) ks
 unfolding answer
 answer_goes Nothing ks here = absent {g = answer} (none_is state_starts (λ s. refl) here) refl
-answer_goes Any ks here = present {g = answer} (it_is (λ s. refl)) (pick_first (it_is (λ s. refl)) (says_goes (codes "return") Answer.Return (λ a. return_of (Some a) ≡ Any) ks (λ s. refl)))
+answer_goes Any ks here = present {g = answer} (it_is (λ s. refl)) (pick_first (it_is (λ s. refl)) (says_goes (codes "return") BlockReturn.Return (λ a. return_of (Some a) ≡ Any) ks (λ s. refl)))
 answer_goes Rst ks here =
     present {g = answer} (it_is (λ s. refl))
-    (pick_second (it_is (λ s. refl)) (pick_first (it_is (λ s. refl)) (says_goes (codes "return-rst") Answer.ReturnRst (λ a. return_of (Some a) ≡ Rst) ks (λ s. refl))))
+    (pick_second (it_is (λ s. refl)) (pick_first (it_is (λ s. refl)) (says_goes (codes "return-rst") BlockReturn.ReturnRst (λ a. return_of (Some a) ≡ Rst) ks (λ s. refl))))
 answer_goes Icmp ks here =
     present {g = answer} (it_is (λ s. refl))
-    (pick_second (it_is (λ s. refl)) (pick_second (it_is (λ s. refl)) (says_goes (codes "return-icmp") Answer.ReturnIcmp (λ a. return_of (Some a) ≡ Icmp) ks (λ s. refl))))
+    (pick_second (it_is (λ s. refl)) (pick_second (it_is (λ s. refl)) (says_goes (codes "return-icmp") BlockReturn.ReturnIcmp (λ a. return_of (Some a) ≡ Icmp) ks (λ s. refl))))
 
 action_goes : (d : Decision) (ks : List TokenKind) → HeadIn state_starts ks → Goes action (λ a. decision_of a ≡ d) (onto (decision_pieces d) ks) ks
 unfolding action
@@ -251,7 +225,16 @@ module _ (ifaces : List Iface) (model : Model) where
       let h3 = final_head r.last k4 h4 in
       let h2 = dir_head r.dir k3 h3 in
       subst (λ from. Goes rule (SaysRule r) from behind) (sym (rule_kinds r behind))
-      (make (λ ts a q. says_rule r (record { action = a.0; stateful = a.1.0; dir = a.1.1.0; last = a.1.1.1.0; on = a.1.1.1.1.0; filter = a.1.1.1.1.1.0; apply = a.1.1.1.1.1.1; span = span_of ts }) q.0 q.1.0 q.1.1.0 q.1.1.1.0 q.1.1.1.1.0 q.1.1.1.1.1.0 q.1.1.1.1.1.1)
+      (make (λ ts a q. says_rule r (record {
+        action = a.0;
+        stateful = a.1.0;
+        dir = a.1.1.0;
+        last = a.1.1.1.0;
+        on = a.1.1.1.1.0;
+        filter = a.1.1.1.1.1.0;
+        apply = a.1.1.1.1.1.1;
+        span = span_of ts;
+      }) q.0 q.1.0 q.1.1.0 q.1.1.1.0 q.1.1.1.1.0 q.1.1.1.1.1.0 q.1.1.1.1.1.1)
       (turn (action_goes r.decision k1 (state_head r.state k2 h2))
       (turn (state_goes r.state k2 h2)
       (turn (dir_goes r.dir k3 (λ none. not_dir k3 h3))

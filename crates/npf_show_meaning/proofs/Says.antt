@@ -1,25 +1,12 @@
 -- What written values mean where no name is defined.
 use Rattle.std.proofs.Common.{◌≡◌, ℕ, ◌+◌, true, Option, Some, None, unwrap_or, List, [], ◌∷◌, ◌++◌, length, flat_map, filter_map, refl, sym, ap, subst, ◌∙◌, arith}
 use Rattle.std.proofs.lemmas.List.Sums.{sum_by-append}
-use Rattle.npf_types.specs.declared.prefix.Prefix.{Prefix}
-use Rattle.npf_types.specs.declared.span.Span.{Span}
-use Rattle.npf_types.specs.Address.{width}
-use Rattle.npf_types.specs.Block.{block}
+use Rattle.npf_types.specs.{declared.{prefix.Prefix.Prefix, span.Span.Span}, Address.width, Block.block}
 use Rattle.npf_faults.specs.declared.fault.ConfFault.{ConfFault}
-use Rattle.npf_syntax.specs.declared.filter.Addresses.{Addresses}
-use Rattle.npf_syntax.specs.declared.value.Value.{Value}
-use Rattle.npf_syntax.specs.declared.value.Values.{Values}
-use Rattle.npf_syntax.specs.declared.word.Address.{Address}
-use Rattle.npf_syntax.specs.declared.word.Number.{Number}
-use Rattle.npf_syntax.specs.declared.word.Word.{Word}
-use Rattle.npf_model.specs.declared.ends.AddrItem.TheVariants.{Net, InTable}
-use Rattle.npf_model.specs.declared.iface.Iface.{Iface}
-use Rattle.npf_parser_values.specs.Token.{nowhere}
-use Rattle.npf_parser_values.specs.Value.{is_port, is_port_end}
-use Rattle.npf_expand_values.specs.Address.{items_of, addresses_faults}
-use Rattle.npf_expand_values.specs.Atom.{Atom, Env}
-use Rattle.npf_expand_values.specs.Declarations.{table_number}
-use Rattle.npf_expand_values.specs.Port.{atom_ports, ports_faults}
+use Rattle.npf_syntax.specs.declared.{filter.Addresses.Addresses, value.{Value.Value, Values.Values}, word.{Address.Address, Number.Number, Word.Word}}
+use Rattle.npf_model.specs.declared.{ends.AddrItem.TheVariants.{Net, InTable}, iface.Iface.Iface}
+use Rattle.npf_parser_values.specs.{Token.nowhere, Value.{is_port, is_port_end}}
+use Rattle.npf_expand_values.specs.{Address.{items_of, addresses_faults}, Atom.{Atom, Env}, Declarations.table_number, Port.{atom_ports, ports_faults}}
 use Rattle.npf_expand_values.specs.Use.{element_count, count_of, atoms_of}
 use Rattle.npf_expand_values.specs.Variable.{alone_binding, binding_of, own_faults, spliced, length_of_block, number_atom, env_of}
 use Rattle.npf_expand.specs.Map.{first_block, side_faults, side_port, side_port_faults}
@@ -110,7 +97,8 @@ module _ (ifaces : List Iface) where
       (is.side, is.ports)
 
   -- the values of a list
-  module _ {A : Type 0} (faults_of : List Value → List ConfFault) (give : List Atom → List A) (clean : faults_of [] ≡ []) (none : give [] ≡ []) (both : (xs ys : List Atom) → give (xs ++ ys) ≡ give xs ++ give ys) where
+  module _ {A : Type 0} (faults_of : List Value → List ConfFault) (give : List Atom →
+      List A) (clean : faults_of [] ≡ []) (none : give [] ≡ []) (both : (xs ys : List Atom) → give (xs ++ ys) ≡ give xs ++ give ys) where
     pub elements_faults : (values : List Value) (vals : List A) → Each (IsElement faults_of give) values vals → faults_of values ≡ []
     elements_faults [] [] each = clean
     elements_faults (value ∷ values) (a ∷ vals) (one, each) = one.faults values (elements_faults values vals each)

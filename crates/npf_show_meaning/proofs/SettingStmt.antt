@@ -3,27 +3,16 @@ use Rattle.std.proofs.Common.{◌≡◌, ℕ, Bool, true, false, Option, Some, N
 use Rattle.npf_types.specs.declared.span.Span.{Span}
 use Rattle.npf_lexer.specs.declared.token.TokenKind.{TokenKind}
 use Rattle.npf_lexer.specs.declared.token.TokenKind.TheVariants as Kind
-use Rattle.npf_syntax.specs.declared.stmt.Setting.{Setting}
-use Rattle.npf_syntax.specs.declared.stmt.Stmt.{Stmt}
-use Rattle.npf_syntax.specs.declared.word.Str.{Str}
-use Rattle.npf_syntax.specs.declared.word.Word.{Word}
-use Rattle.npf_model.specs.declared.iface.Iface.{Iface}
-use Rattle.npf_model.specs.declared.model.Model.{Model}
-use Rattle.npf_model.specs.declared.settings.Parameter.{Parameter}
-use Rattle.npf_model.specs.declared.settings.Parameter.TheVariants.{StrictRst, KeyInterface}
+use Rattle.npf_syntax.specs.declared.{stmt.{Setting.Setting, Stmt.Stmt}, word.{Str.Str, Word.Word}}
+use Rattle.npf_model.specs.declared.{iface.Iface.Iface, model.Model.Model, settings.Parameter.{Parameter, TheVariants.{StrictRst, KeyInterface}}}
 use Rattle.npf_model.specs.Settings.{parameter_name, parameter_named, switch_word}
 use Rattle.npf_parser_values.specs.Token.{span_of}
 use Rattle.npf_parser.specs.Stmt.{alg, set, setting}
 use Rattle.npf_expand.specs.Settings.{setting_of, value_set}
-use Rattle.npf_show.specs.Piece.{Piece, glued, spaced}
+use Rattle.npf_show.specs.{Piece.{Piece, glued, spaced}, Setting.switch_text}
 use Rattle.npf_show.specs.Piece as Pieces
-use Rattle.npf_show.specs.Setting.{switch_text}
-use Rattle.npf_show_meaning.proofs.Goes.{Goes, make, turn, pick_second, said, it_is}
-use Rattle.npf_show_meaning.proofs.Lists.{onto}
-use Rattle.npf_show_meaning.proofs.Blocks.{feed}
-use Rattle.npf_show_meaning.proofs.RuleOf.{IsText, string_goes}
-use Rattle.npf_show_meaning.proofs.TableStmt.{IsWord, any_word_goes}
-use Rattle.npf_show_meaning.proofs.Parts.{OfSet, OfAlg, SaysPartOf}
+use Rattle.npf_show_meaning.proofs.{Goes.{Goes, make, turn, pick_second, said, it_is}, Lists.onto, Blocks.feed, RuleOf.{IsText, string_goes}}
+use Rattle.npf_show_meaning.proofs.{TableStmt.{IsWord, any_word_goes}, Parts.{OfSet, OfAlg, SaysPartOf}}
 
 parameter_again : (parameter : Parameter) → parameter_named (parameter_name parameter) ≡ Some parameter
 parameter_again StrictRst = refl

@@ -1,16 +1,11 @@
 -- The canonical text of a model means it again.
 use Rattle.std.proofs.Common.{[], ◌∷◌, refl, ap, ◌∙◌}
 use Rattle.npf_lexer.specs.declared.token.TokenKind.TheVariants as Kind
-use Rattle.npf_phrase.specs.Grammar.{meaning}
-use Rattle.npf_phrase.proofs.GrammarLemmas.{settled, read_takes}
-use Rattle.npf_parser.specs.Stmt.{file}
-use Rattle.npf_parser.proofs.LineLemmas.{file_advances}
+use Rattle.npf_phrase.{specs.Grammar.meaning, proofs.GrammarLemmas.{settled, read_takes}}
+use Rattle.npf_parser.{specs.Stmt.file, proofs.LineLemmas.file_advances}
 use Rattle.npf_expand.specs.Elaborates.{model_of}
 use Rattle.npf_show_tokens.proofs.Shown.{shows_tokens_lem}
-use Rattle.npf_show_meaning.specs.Law.{ShownTextMeans}
-use Rattle.npf_show_meaning.proofs.Lists.{onto}
-use Rattle.npf_show_meaning.proofs.FileOf.{parts_of, file_goes, model_rows}
-use Rattle.npf_show_meaning.proofs.Fine.{fine_parts}
+use Rattle.npf_show_meaning.{specs.Law.ShownTextMeans, proofs.{Lists.onto, FileOf.{parts_of, file_goes, model_rows}, Fine.fine_parts}}
 use Rattle.npf_show_meaning.proofs.Again.{clean_again, same_again}
 
 pub shown_text_means_lem : ShownTextMeans

@@ -1,36 +1,22 @@
 -- The statement of a table.
 use Rattle.std.proofs.Common.{◌≡◌, ℕ, true, is_some, Option, Some, None, IfSome, option_map, List, [], ◌∷◌, ◌++◌, codes, refl, sym, ap, subst, ◌∙◌}
 use Rattle.std.specs.Str.{is_utf8}
-use Rattle.npf_types.specs.declared.span.Span.{Span}
-use Rattle.npf_types.specs.Name.{name_bytes}
-use Rattle.npf_types.specs.Named.{named}
-use Rattle.npf_types.specs.NameText.{is_name}
+use Rattle.npf_types.specs.{declared.span.Span.Span, Name.name_bytes, Named.named, NameText.is_name}
 use Rattle.npf_lexer.specs.declared.token.Sign.TheVariants as Signs
 use Rattle.npf_lexer.specs.declared.token.TokenKind.{TokenKind}
 use Rattle.npf_lexer.specs.declared.token.TokenKind.TheVariants as Kind
-use Rattle.npf_syntax.specs.declared.stmt.Stmt.{Stmt}
-use Rattle.npf_syntax.specs.declared.stmt.TableType.{TableType}
-use Rattle.npf_syntax.specs.declared.word.Str.{Str}
-use Rattle.npf_syntax.specs.declared.word.Word.{Word}
-use Rattle.npf_model.specs.declared.iface.Iface.{Iface}
-use Rattle.npf_model.specs.declared.model.Model.{Model}
-use Rattle.npf_model.specs.declared.table.Kind.{Kind as TableKind}
-use Rattle.npf_model.specs.declared.table.Kind.TheVariants.{Ipset, Lpm, Const}
+use Rattle.npf_syntax.specs.declared.{stmt.{Stmt.Stmt, TableType.TableType}, word.{Str.Str, Word.Word}}
+use Rattle.npf_model.specs.declared.{iface.Iface.Iface, model.Model.Model, table.Kind.{Kind as TableKind, TheVariants.{Ipset, Lpm, Const}}}
 use Rattle.npf_model.specs.declared.table.TableDecl.{TableDecl}
 use Rattle.npf_phrase.specs.Grammar.{optional, preceded}
 use Rattle.npf_parser_values.specs.Token.{word, text_string, quoted, span_of}
 use Rattle.npf_parser.specs.Stmt.{table_type, table}
 use Rattle.npf_expand.specs.Table.{kind_of_type}
-use Rattle.npf_show.specs.Ends.{angled}
-use Rattle.npf_show.specs.Piece.{Piece, glued, spaced, optional_pieces}
+use Rattle.npf_show.specs.{Ends.angled, Piece.{Piece, glued, spaced, optional_pieces}, Table.{kind_pieces, file_pieces}}
 use Rattle.npf_show.specs.Piece as Pieces
-use Rattle.npf_show.specs.Table.{kind_pieces, file_pieces}
 use Rattle.npf_show_meaning.specs.Regular.{IsRegularDecl}
 use Rattle.npf_show_meaning.proofs.Goes.{Goes, token_goes, make, turn, keep, fit, pick_first, pick_second, said, signed, before, absent, present, it_is, says_goes}
-use Rattle.npf_show_meaning.proofs.Lists.{onto, onto_both}
-use Rattle.npf_show_meaning.proofs.Blocks.{feed}
-use Rattle.npf_show_meaning.proofs.RuleOf.{string_goes}
-use Rattle.npf_show_meaning.proofs.Parts.{OfTable, SaysPartOf}
+use Rattle.npf_show_meaning.proofs.{Lists.{onto, onto_both}, Blocks.feed, RuleOf.string_goes, Parts.{OfTable, SaysPartOf}}
 
 abbrev pub IsWord : List ℕ → Word → Type 0
 IsWord text w = w.text ≡ text
@@ -96,7 +82,8 @@ module _ (ifaces : List Iface) (model : Model) where
       let name = name_bytes t.name in
       let kind = kind_pieces t.kind in
       let file = optional_pieces file_pieces t.file in
-      subst (λ from. Goes table (SaysPartOf ifaces model (OfTable t)) (Kind.Word (codes "table") ∷ Kind.Sign Signs.Less ∷ Kind.Word name ∷ Kind.Sign Signs.Greater ∷ Kind.Word (codes "type") ∷ from) to) (sym (onto_both kind file to))
+      subst (λ from. Goes table (SaysPartOf ifaces model (OfTable t)) (Kind.Word (codes "table") ∷ Kind.Sign Signs.Less ∷
+      Kind.Word name ∷ Kind.Sign Signs.Greater ∷ Kind.Word (codes "type") ∷ from) to) (sym (onto_both kind file to))
       (make {P = λ a. IsWord name a.0 × ((kind_of_type a.1.0 ≡ t.kind) × IsFile t.file a.1.1)} (λ ts a q. says_table t is a.0 a.1.0 a.1.1 (span_of ts) q.0 q.1.0 q.1.1)
       (said (signed (turn (before (fit (λ w same. ap is_name same ∙ t.name.named) (any_word_goes name (Kind.Sign Signs.Greater ∷ Kind.Word (codes "type") ∷ onto kind (onto file to)))))
       (turn (said (kind_goes t.kind (onto file to))) (file_goes t.file is.file ks))))))

@@ -1,21 +1,17 @@
 -- Lists of values, in braces where they aren't of one.
-use Rattle.std.proofs.Common.{◌≡◌, inl, Bool, true, false, ◌||◌, Option, Some, List, [], ◌∷◌, codes, refl, sym, ap, subst}
-use Rattle.std.proofs.lemmas.List.Elements.{All-head}
+use Rattle.std.proofs.{Common.{◌≡◌, inl, Bool, true, false, ◌||◌, Option, Some, List, [], ◌∷◌, codes, refl, sym, ap, subst}, lemmas.List.Elements.All-head}
 use Rattle.std.specs.List.{All}
 use Rattle.npf_types.specs.declared.span.Span.{Span}
 use Rattle.npf_lexer.specs.declared.token.Sign.TheVariants as Signs
-use Rattle.npf_lexer.specs.declared.token.Token.{Token}
-use Rattle.npf_lexer.specs.declared.token.TokenKind.{TokenKind}
+use Rattle.npf_lexer.specs.declared.token.{Token.Token, TokenKind.TokenKind}
 use Rattle.npf_lexer.specs.declared.token.TokenKind.TheVariants as Kind
-use Rattle.npf_syntax.specs.declared.value.Value.{Value}
-use Rattle.npf_syntax.specs.declared.value.ValueList.{ValueList}
+use Rattle.npf_syntax.specs.declared.value.{Value.Value, ValueList.ValueList}
 use Rattle.npf_phrase.specs.Grammar.{meaning, making, pure, preceded, terminated, ◌or◌}
 use Rattle.npf_parser_values.specs.Token.{sign, quoted, line_feed, spaced, span_of}
 use Rattle.npf_parser_values.specs.Value.{number_value, address_value, table_value, function_value, function, iface, written, value, listed_values, values_inside, value_list}
 use Rattle.npf_show.specs.Piece.{Piece, comma_list, list_pieces}
 use Rattle.npf_show_meaning.proofs.Goes.{Goes, Sees, HeadIn, Anything, at, sees_first, sees_none, making_goes, preceded_goes, terminated_goes, first_goes, second_goes, sign_goes}
-use Rattle.npf_show_meaning.proofs.Lists.{onto, onto_both, comma, Each, list_goes}
-use Rattle.npf_show_meaning.proofs.Values.{Behind, spaced_goes}
+use Rattle.npf_show_meaning.proofs.{Lists.{onto, onto_both, comma, Each, list_goes}, Values.{Behind, spaced_goes}}
 
 -- what a value begins with: no brace, no line feed, and not `any`
 pub record HasHead (ks : List TokenKind) : Type 0 where
@@ -70,7 +66,8 @@ module _ {A : Type 0} (role : _) (R : Value → A → Type 0) (Q : A → Type 0)
       let opened = Kind.Sign Signs.OpenBrace ∷ inside in
       let P : List Value → Type 0 = λ vs. Each R vs elements in
       let head = subst HasHead (sym (onto_both (pieces x) _ ended)) (heads x (All-head Q x (y ∷ xs) all) _) in
-      let no : (test : _) → ((s : Span) → test (Some (at head.kind s)) ≡ false) → Sees false test inside = λ test is. subst (Sees false test) (sym head.is) (sees_first test false head.kind head.rest is) in
+      let no : (test : _) → ((s : Span) → test (Some (at head.kind s)) ≡ false) →
+      Sees false test inside = λ test is. subst (Sees false test) (sym head.is) (sees_first test false head.kind head.rest is) in
       let within = terminated (values_inside role) (sign Signs.CloseBrace) in
       subst (λ from. Goes (value_list role) (IsListed elements) (Kind.Sign Signs.OpenBrace ∷ from) to) (sym (onto_both (comma_list pieces elements) _ to))
       (making_goes (λ ts values. record { values = values; span = span_of ts }) (preceded (spaced true (sign Signs.OpenBrace)) within) P (IsListed elements) opened to (λ ts vs each. each)

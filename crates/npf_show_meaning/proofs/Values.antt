@@ -1,31 +1,22 @@
 -- Values as they are written: addresses, tables and ports.
-use Rattle.std.proofs.Common.{◌≡◌, ◌≤◌, ◌<◌, ◌^◌, ℕ, ◌==◌, nat_lt, nat_le, Bool, true, false, if◌then◌else◌, Option, Some, None, unwrap_or, List, [], ◌∷◌, ◌++◌, codes, refl, sym, ap, subst, ◌∙◌, arith}
-use Rattle.std.proofs.lemmas.Bool.Decides.{nat_tests}
-use Rattle.npf_types.specs.declared.address.Addr.{Addr}
-use Rattle.npf_types.specs.declared.prefix.Prefix.{Prefix}
-use Rattle.npf_types.specs.declared.span.Span.{Span}
-use Rattle.npf_types.specs.Address.{width}
-use Rattle.npf_types.specs.NameText.{is_name}
-use Rattle.npf_lexer.specs.declared.token.Sign.{Sign}
+use Rattle.std.proofs.Common.{◌≡◌, ◌≤◌, ◌<◌, ◌^◌, ℕ, ◌==◌, nat_lt, nat_le, Bool, true, false, if◌then◌else◌, Option, Some, None}
+use Rattle.std.proofs.{Common.{unwrap_or, List, [], ◌∷◌, ◌++◌, codes, refl, sym, ap, subst, ◌∙◌, arith}, lemmas.Bool.Decides.nat_tests}
+use Rattle.npf_types.specs.{declared.{address.Addr.Addr, prefix.Prefix.Prefix, span.Span.Span}, Address.width, NameText.is_name}
+use Rattle.npf_lexer.specs.declared.token.{Sign.Sign, Token.Token, TokenKind.TokenKind}
 use Rattle.npf_lexer.specs.declared.token.Sign.TheVariants as Signs
-use Rattle.npf_lexer.specs.declared.token.Token.{Token}
-use Rattle.npf_lexer.specs.declared.token.TokenKind.{TokenKind}
 use Rattle.npf_lexer.specs.declared.token.TokenKind.TheVariants as Kind
-use Rattle.npf_syntax.specs.declared.value.Value.{Value}
-use Rattle.npf_syntax.specs.declared.word.Address.{Address}
-use Rattle.npf_syntax.specs.declared.word.Number.{Number}
-use Rattle.npf_syntax.specs.declared.word.Word.{Word}
+use Rattle.npf_syntax.specs.declared.{value.Value.Value, word.{Address.Address, Number.Number, Word.Word}}
 use Rattle.npf_model.specs.declared.iface.Iface.{Iface}
 use Rattle.npf_phrase.specs.Grammar.{Grammar, meaning, both, fitted, any_number, preceded, terminated, ◌or◌}
 use Rattle.npf_parser_values.specs.Token.{sign, number, address, word, line_feed, gap, spaced, span_of}
-use Rattle.npf_parser_values.specs.Value.{number_behind, number_value, address_value, table_value, word_value, function_value, function, variable_value, string_value, written, value, is_range, is_prefix, is_port, is_port_end, can_stand}
+use Rattle.npf_parser_values.specs.Value.{number_behind, number_value, address_value, table_value, word_value, function_value, function, variable_value}
+use Rattle.npf_parser_values.specs.Value.{string_value, written, value, is_range, is_prefix, is_port, is_port_end, can_stand}
 use Rattle.npf_expand_values.specs.Variable.{length_of_block}
-use Rattle.npf_show.specs.Ends.{prefix_pieces, length_pieces, angled, range_pieces, last_pieces}
-use Rattle.npf_show.specs.Piece.{Piece, glued}
+use Rattle.npf_show.specs.{Ends.{prefix_pieces, length_pieces, angled, range_pieces, last_pieces}, Piece.{Piece, glued}}
 use Rattle.npf_show.specs.Piece as Pieces
 use Rattle.npf_show_tokens.proofs.Values.{values_come_back_lem}
-use Rattle.npf_show_meaning.proofs.Goes.{Goes, Sees, HeadIn, Anything, at, sees_first, sees_none, token_goes, both_goes, making_goes, preceded_goes, terminated_goes, fitted_goes, none_goes, first_goes, second_goes, pure_goes, absent_goes, present_goes, sign_goes, weaker}
-use Rattle.npf_show_meaning.proofs.Lists.{onto, comma}
+use Rattle.npf_show_meaning.proofs.Goes.{Goes, Sees, HeadIn, Anything, at, sees_first, sees_none, token_goes, both_goes, making_goes, preceded_goes, terminated_goes, fitted_goes}
+use Rattle.npf_show_meaning.proofs.{Goes.{none_goes, first_goes, second_goes, pure_goes, absent_goes, present_goes, sign_goes, weaker}, Lists.{onto, comma}}
 use Rattle.npf_show_meaning.proofs.Says.{SaysNet, SaysTable, SaysRange}
 
 abbrev pub keyword : List ℕ → TokenKind
@@ -34,7 +25,8 @@ keyword text = Kind.Word text
 -- what stands behind a value
 abbrev pub value_stops : Bool → List TokenKind
 value_stops true = comma ∷ Kind.Sign Signs.CloseBrace ∷ []
-value_stops false = keyword (codes "port") ∷ keyword (codes "to") ∷ keyword (codes "pass") ∷ keyword (codes "apply") ∷ Kind.LineFeed ∷ Kind.Sign Signs.Right ∷ Kind.Sign Signs.Left ∷ Kind.Sign Signs.Both ∷ []
+value_stops false = keyword (codes "port") ∷ keyword (codes "to") ∷ keyword (codes "pass") ∷ keyword (codes "apply") ∷
+    Kind.LineFeed ∷ Kind.Sign Signs.Right ∷ Kind.Sign Signs.Left ∷ Kind.Sign Signs.Both ∷ []
 
 abbrev pub Behind : Bool → List TokenKind → Type 0
 Behind inside to = HeadIn (value_stops inside) to
@@ -130,21 +122,26 @@ module _ (ifaces : List Iface) where
       making_goes (λ ts a. Value.Address a.0 a.1 (span_of ts)) (fitted is_prefix (both (spaced inside address) (number_behind Signs.Slash inside)))
       (λ a. IsAddress prefix.addr a.0 × IsLength prefix.addr prefix.len a.1) (SaysNet ifaces prefix) (Kind.Address prefix.addr ∷ behind) to
       (λ ts a is. net_says prefix a.0 a.1 (span_of ts) is.0 is.1)
-      (fitted_goes is_prefix (both (spaced inside address) (number_behind Signs.Slash inside)) (λ a. IsAddress prefix.addr a.0 × IsLength prefix.addr prefix.len a.1) (Kind.Address prefix.addr ∷ behind) to
+      (fitted_goes is_prefix (both (spaced inside address) (number_behind Signs.Slash inside)) (λ a. IsAddress prefix.addr a.0 ×
+      IsLength prefix.addr prefix.len a.1) (Kind.Address prefix.addr ∷ behind) to
       (λ a is. is_prefix_by a.0 prefix.len a.1 (subst (λ addr. prefix.len ≤ width addr) (sym is.0) prefix.short) (subst (λ addr. IsLength addr prefix.len a.1) (sym is.0) is.1))
       (both_goes (spaced inside address) (number_behind Signs.Slash inside) (IsAddress prefix.addr) (IsLength prefix.addr prefix.len) (Kind.Address prefix.addr ∷ behind) behind to
-      (spaced_goes inside address (IsAddress prefix.addr) (Kind.Address prefix.addr ∷ behind) behind (length_gap inside prefix.len (prefix.len == width prefix.addr) to here) (address_goes prefix.addr behind))
+      (spaced_goes inside address (IsAddress prefix.addr) (Kind.Address prefix.addr ∷ behind) behind
+      (length_gap inside prefix.len (prefix.len == width prefix.addr) to here) (address_goes prefix.addr behind))
       (length_goes inside prefix.addr prefix.len (prefix.len == width prefix.addr) refl to here)))
 
-  pub net_goes : (role : _) → ((a : Address) (o : Option Number) (span : Span) → can_stand role (Value.Address a o span) ≡ true) → (inside : Bool) (prefix : Prefix) (to : List TokenKind) → Behind inside to
+  pub net_goes : (role : _) → ((a : Address) (o : Option Number) (span : Span) → can_stand role (Value.Address a o span) ≡ true) →
+      (inside : Bool) (prefix : Prefix) (to : List TokenKind) → Behind inside to
       → Goes (value role inside) (SaysNet ifaces prefix) (onto (prefix_pieces prefix) to) to
   unfolding value written number_value address_value
   net_goes role stands inside prefix to here =
       let from = onto (prefix_pieces prefix) to in
       fitted_goes (can_stand role) (written inside) (SaysNet ifaces prefix) from to (λ v is. ap (can_stand role) is.form ∙ stands is.address is.written is.span)
-      (second_goes (meaning (number_value inside)).starts (number_value inside) (address_value inside or word_value inside or variable_value inside or string_value inside or table_value inside) (SaysNet ifaces prefix) from to
+      (second_goes (meaning (number_value inside)).starts (number_value inside)
+      (address_value inside or word_value inside or variable_value inside or string_value inside or table_value inside) (SaysNet ifaces prefix) from to
       (sees_first (meaning (number_value inside)).starts false (Kind.Address prefix.addr) (onto (length_pieces prefix) to) (λ s. refl))
-      (first_goes (meaning (address_value inside)).starts (address_value inside) (word_value inside or variable_value inside or string_value inside or table_value inside) (SaysNet ifaces prefix) from to
+      (first_goes (meaning (address_value inside)).starts (address_value inside)
+      (word_value inside or variable_value inside or string_value inside or table_value inside) (SaysNet ifaces prefix) from to
       (sees_first (meaning (address_value inside)).starts true (Kind.Address prefix.addr) (onto (length_pieces prefix) to) (λ s. refl))
       (address_value_goes inside prefix to here)))
 
@@ -182,8 +179,10 @@ module _ (ifaces : List Iface) where
       let rest = Kind.Word name ∷ Kind.Sign Signs.Greater ∷ to in
       let none : (test : Option Token → Bool) → ((s : Span) → test (Some (at (Kind.Sign Signs.Less) s)) ≡ false) → Sees false test from = λ test. sees_first test false (Kind.Sign Signs.Less) rest in
       fitted_goes (can_stand role) (written inside) (SaysTable ifaces name) from to (λ v says. ap (can_stand role) says.form ∙ stands says.word says.span)
-      (second_goes (meaning (number_value inside)).starts (number_value inside) (address_value inside or word_value inside or variable_value inside or string_value inside or table_value inside) (SaysTable ifaces name) from to (none _ (λ s. refl))
-      (second_goes (meaning (address_value inside)).starts (address_value inside) (word_value inside or variable_value inside or string_value inside or table_value inside) (SaysTable ifaces name) from to (none _ (λ s. refl))
+      (second_goes (meaning (number_value inside)).starts (number_value inside)
+      (address_value inside or word_value inside or variable_value inside or string_value inside or table_value inside) (SaysTable ifaces name) from to (none _ (λ s. refl))
+      (second_goes (meaning (address_value inside)).starts (address_value inside)
+      (word_value inside or variable_value inside or string_value inside or table_value inside) (SaysTable ifaces name) from to (none _ (λ s. refl))
       (second_goes (meaning (word_value inside)).starts (word_value inside) (variable_value inside or string_value inside or table_value inside) (SaysTable ifaces name) from to (none _ (λ s. refl))
       (second_goes (meaning (variable_value inside)).starts (variable_value inside) (string_value inside or table_value inside) (SaysTable ifaces name) from to (none _ (λ s. refl))
       (second_goes (meaning (string_value inside)).starts (string_value inside) (table_value inside) (SaysTable ifaces name) from to (none _ (λ s. refl))
@@ -255,7 +254,8 @@ module _ (ifaces : List Iface) where
   number_value_goes inside range is to here =
       let behind = onto (last_pieces range) to in
       let P : Number × Option Number → Type 0 = λ a. IsNumber range.0 a.0 × IsLast range a.1 in
-      making_goes (λ ts a. Value.Number a.0 a.1 (span_of ts)) (fitted is_range (both (spaced inside number) (number_behind Signs.Dash inside))) P (SaysRange ifaces range) (Kind.Number range.0 ∷ behind) to
+      making_goes (λ ts a. Value.Number a.0 a.1 (span_of ts)) (fitted is_range (both (spaced inside number) (number_behind Signs.Dash inside))) P
+      (SaysRange ifaces range) (Kind.Number range.0 ∷ behind) to
       (λ ts a same. range_says range is a.0 a.1 (span_of ts) same.0 same.1)
       (fitted_goes is_range (both (spaced inside number) (number_behind Signs.Dash inside)) P (Kind.Number range.0 ∷ behind) to
       (λ a same. is_range_by range a.0 a.1 is.forward same.0 same.1)
@@ -270,6 +270,7 @@ module _ (ifaces : List Iface) where
   range_goes role stands inside range is to here =
       let from = onto (range_pieces range) to in
       fitted_goes (can_stand role) (written inside) (SaysRange ifaces range) from to (λ v says. ap (can_stand role) says.form ∙ stands says.first says.last says.span says.port says.last_port)
-      (first_goes (meaning (number_value inside)).starts (number_value inside) (address_value inside or word_value inside or variable_value inside or string_value inside or table_value inside) (SaysRange ifaces range) from to
+      (first_goes (meaning (number_value inside)).starts (number_value inside)
+      (address_value inside or word_value inside or variable_value inside or string_value inside or table_value inside) (SaysRange ifaces range) from to
       (sees_first (meaning (number_value inside)).starts true (Kind.Number range.0) (onto (last_pieces range) to) (λ s. refl))
       (number_value_goes inside range is to here))

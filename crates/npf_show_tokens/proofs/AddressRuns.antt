@@ -1,17 +1,11 @@
 -- An address as it is spelled is one run, and no number.
-use Rattle.std.proofs.Common.{◌≡◌, ℕ, suc, ◌-◌, ◌<◌, ◌^◌, ◌==◌, ◌&&◌, Bool, true, false, List, [], ◌∷◌, ◌++◌, length, append-nil, flat_map, slice_index, decimal, codes, refl, sym, ap, subst, ◌∙◌, arith}
-use Rattle.std.proofs.lemmas.Bool.Decides.{nat_tests}
-use Rattle.std.proofs.lemmas.Grind.{common_steps}
-use Rattle.std.proofs.lemmas.Fmt.{decimal_nonempty}
-use Rattle.std.specs.Char.{digit_value, is_ascii_alphanumeric, is_ascii_digit}
-use Rattle.std.specs.List.{list_all}
-use Rattle.std.specs.Net.Grammar.{IsDotted}
-use Rattle.std.specs.Net.Text.{dotted_text, hex, groups_text}
-use Rattle.std.specs.Str.Parse.{AllDigits}
-use Rattle.npf_lexer.specs.ByteClass.{is_run_byte}
-use Rattle.npf_lexer.specs.Run.{is_decimal, is_no_colon}
+use Rattle.std.proofs.Common.{◌≡◌, ℕ, suc, ◌-◌, ◌<◌, ◌^◌, ◌==◌, Bool, true, false, List, [], ◌∷◌, ◌++◌, length, append-nil}
+use Rattle.std.proofs.{Common.{flat_map, slice_index, decimal, codes, refl, sym, ap, subst, ◌∙◌, arith}, lemmas.{Bool.Decides.nat_tests, Grind.common_steps}}
+use Rattle.std.{proofs.lemmas.Fmt.decimal_nonempty, specs.{Char.{digit_value, is_ascii_alphanumeric, is_ascii_digit}, List.list_all, Net.Grammar.IsDotted}}
+use Rattle.std.{specs.{Net.Text.{dotted_text, hex, groups_text}, Str.Parse.AllDigits}, proofs.{Math.Bool.and-false, lemmas.Bool.and_from}}
+use Rattle.npf_lexer.specs.{ByteClass.is_run_byte, Run.{is_decimal, is_no_colon}}
 use Rattle.npf_show_tokens.proofs.Addresses.{AreSmall, hex_group}
-use Rattle.npf_show_tokens.proofs.Digits.{all_join, all_weaker, one_lacks, never_both, no_colon_last, decimal_all, digit_in_run, digit_no_colon, digit_alphanumeric}
+use Rattle.npf_show_tokens.proofs.Digits.{all_join, all_weaker, one_lacks, no_colon_last, decimal_all, digit_in_run, digit_no_colon, digit_alphanumeric}
 use Rattle.npf_show_tokens.proofs.NoAddress.{dotted_parts, dotted_first, first_left}
 
 -- what a run needs to be an address
@@ -23,7 +17,7 @@ pub record IsAddressRun (text : List ℕ) : Type 0 where
   pub other : is_decimal text ≡ false
 
 no_number : (text : List ℕ) → list_all is_ascii_digit text ≡ false → is_decimal text ≡ false
-no_number text lacks = rw lacks (never_both (is_ascii_digit (slice_index text 0)))
+no_number text lacks = rw lacks (and-false (is_ascii_digit (slice_index text 0)))
 
 -- four numbers with dots
 dotted_all : (p : ℕ → Bool) (a b c d : ℕ) → a < 256 → b < 256 → c < 256 → d < 256
@@ -73,14 +67,9 @@ hex_no_colon b is = grind (arith, nat_tests)
 hex_alphanumeric : (b : ℕ) → digit_value b < 16 → is_ascii_alphanumeric b ≡ true
 hex_alphanumeric b is = grind (arith, nat_tests)
 
-both_hold : (a b : Bool) → a ≡ true → b ≡ true → (a && b) ≡ true
-both_hold true true h k = refl
-both_hold true false h k = k
-both_hold false b h k = h
-
 digits_all : (p : ℕ → Bool) → ((b : ℕ) → digit_value b < 16 → p b ≡ true) → (text : List ℕ) → AllDigits 16 text → list_all p text ≡ true
 digits_all p step [] are = refl
-digits_all p step (b ∷ bs) are = both_hold (p b) (list_all p bs) (step b are.0) (digits_all p step bs are.1)
+digits_all p step (b ∷ bs) are = and_from (p b) (list_all p bs) (step b are.0) (digits_all p step bs are.1)
 
 first_digit : (text : List ℕ) → 0 < length text → AllDigits 16 text → is_ascii_alphanumeric (slice_index text 0) ≡ true
 first_digit [] some are = absurd (omega (arith, some))

@@ -1,19 +1,11 @@
 -- How an address is spelled reads as that address.
 use Rattle.std.proofs.Common.{nat_le, ◌≡◌, ℕ, zero, suc, ◌+◌, ◌*◌, ◌/◌, ◌%◌, ◌<◌, ◌^◌, inl, Bool, true, false, List, [], ◌∷◌, ◌++◌, flat_map, get_or, codes, refl, sym, ap, ◌∙◌, arith}
-use Rattle.std.proofs.lemmas.Bool.Decides.{nat_tests}
-use Rattle.std.proofs.lemmas.Nat.{from_be_bytes-to_be_bytes_4}
-use Rattle.std.proofs.Math.Nat.{div-div-eq-div-mul, mod-add-div}
-use Rattle.std.proofs.NetLemmas.Texts.{IsDotted-ipv4_text}
-use Rattle.std.specs.Char.{digit_char, digit_value}
-use Rattle.std.specs.Int.{w32, w128, to_be_bytes, from_be_bytes}
+use Rattle.std.proofs.{lemmas.{Bool.Decides.nat_tests, Nat.from_be_bytes-to_be_bytes_4}, Math.Nat.{div-div-eq-div-mul, mod-add-div}}
+use Rattle.std.{proofs.NetLemmas.Texts.IsDotted-ipv4_text, specs.{Char.{digit_char, digit_value}, Int.{w32, w128, to_be_bytes, from_be_bytes}}}
 use Rattle.std.specs.declared.net.ip_addr.IpAddr.TheVariants as Ip
-use Rattle.std.specs.declared.net.ipv4_addr.Ipv4Addr.{Ipv4Addr}
-use Rattle.std.specs.declared.net.ipv6_addr.Ipv6Addr.{Ipv6Addr}
-use Rattle.std.specs.Net.Addr.{ipv4_bits, ipv6_bits, segments_of, octets_of}
-use Rattle.std.specs.Net.Grammar.{IsDotted, IsGroup, IsGroupsAfter, IsGroups}
-use Rattle.std.specs.Net.Text.{hex, groups_text}
-use Rattle.npf_types.specs.declared.address.Addr.TheVariants.{V4, V6}
-use Rattle.npf_types.specs.AddressText.{IsAddressText}
+use Rattle.std.specs.{declared.net.{ipv4_addr.Ipv4Addr.Ipv4Addr, ipv6_addr.Ipv6Addr.Ipv6Addr}, Net.Addr.{ipv4_bits, ipv6_bits, segments_of, octets_of}}
+use Rattle.std.specs.Net.{Grammar.{IsDotted, IsGroup, IsGroupsAfter, IsGroups}, Text.{hex, groups_text}}
+use Rattle.npf_types.specs.{declared.address.Addr.TheVariants.{V4, V6}, AddressText.IsAddressText}
 use Rattle.npf_show.specs.Address.{address_text}
 
 abbrev ipv4_of : ℕ → Ipv4Addr

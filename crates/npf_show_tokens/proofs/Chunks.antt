@@ -1,17 +1,11 @@
 -- Parts of lines: each can be told from what stands behind it, where that begins with a space, a line feed or a comma, and begins so itself.
 use Rattle.std.proofs.Common.{◌≡◌, ℕ, ◌<◌, ◌^◌, ◌==◌, ◌&&◌, ◌||◌, Bool, true, false, not, Option, Some, None, List, [], ◌∷◌, ◌++◌, slice_index, codes, refl, sym, subst, arith, append_assoc}
-use Rattle.std.proofs.lemmas.Bool.Decides.{nat_tests}
-use Rattle.std.proofs.lemmas.List.Elements.{All-head, All-tail}
-use Rattle.std.specs.List.{All, flat_map}
-use Rattle.std.specs.Prelude.{IfSome}
-use Rattle.npf_lexer.specs.declared.token.Sign.{Sign}
+use Rattle.std.{proofs.lemmas.{Bool.Decides.nat_tests, List.Elements.{All-head, All-tail}}, specs.{List.{All, flat_map}, Prelude.IfSome}}
+use Rattle.npf_lexer.specs.{declared.token.Sign.Sign, ByteClass.is_run_byte, Sign.sign_text}
 use Rattle.npf_lexer.specs.declared.token.Sign.TheVariants as Signs
-use Rattle.npf_lexer.specs.ByteClass.{is_run_byte}
-use Rattle.npf_lexer.specs.Sign.{sign_text}
 use Rattle.npf_show.specs.Piece.{Piece, spelled, glued, spaced, line_end, optional_pieces, comma_list, list_pieces}
 use Rattle.npf_show.specs.Piece as Pieces
-use Rattle.npf_show_tokens.specs.Showable.{IsPlain}
-use Rattle.npf_show_tokens.specs.Tokens.{AreTold, ends_run, ends_sign, leaves_colon, is_run_word}
+use Rattle.npf_show_tokens.specs.{Showable.IsPlain, Tokens.{AreTold, ends_run, ends_sign, leaves_colon, is_run_word}}
 
 -- a space, a line feed, a comma, or the end
 abbrev pub is_parting : ℕ → Bool

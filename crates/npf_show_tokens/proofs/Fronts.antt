@@ -1,26 +1,17 @@
 -- What begins where a piece stands.
-use Rattle.std.proofs.Common.{MatchBool, inl, inr, decimal, nat_lt, ◌^◌, ◌≡◌, ℕ, ◌+◌, ◌<◌, ◌==◌, ◌||◌, Bool, true, false, not, nat_eq, List, [], ◌∷◌, ◌++◌, length, slice_index, refl, sym, ap, subst, ◌∙◌, arith}
-use Rattle.std.proofs.lemmas.Bool.{and_parts}
-use Rattle.std.proofs.lemmas.Bool.Decides.{nat_tests}
-use Rattle.std.proofs.Math.Seq.{take-append_seam}
-use Rattle.std.proofs.lemmas.Fmt.{decimal_is_IsNumeral, decimal_nonempty}
-use Rattle.std.specs.Char.{is_ascii_alphabetic, is_ascii_alphanumeric, is_ascii_digit}
-use Rattle.npf_types.specs.declared.address.Addr.{Addr}
-use Rattle.npf_types.specs.AddressText.{IsAddressText}
-use Rattle.std.specs.List.{list_all, prefix_len}
-use Rattle.npf_lexer.specs.declared.token.Sign.{Sign}
+use Rattle.std.proofs.Common.{MatchBool, inl, inr, decimal, nat_lt, ◌^◌, ◌≡◌, ℕ, ◌+◌, ◌<◌, ◌==◌, ◌||◌, Bool, true, false, not, nat_eq, List}
+use Rattle.std.proofs.{Common.{[], ◌∷◌, ◌++◌, length, slice_index, refl, sym, ap, subst, ◌∙◌, arith}, lemmas.Bool.{and_parts, Decides.nat_tests}}
+use Rattle.std.proofs.{Math.Seq.take-append_seam, lemmas.Fmt.{decimal_is_IsNumeral, decimal_nonempty}}
+use Rattle.std.specs.{Char.{is_ascii_alphabetic, is_ascii_alphanumeric, is_ascii_digit}, List.{list_all, prefix_len}}
+use Rattle.npf_types.specs.{declared.address.Addr.Addr, AddressText.IsAddressText}
+use Rattle.npf_lexer.specs.{declared.token.Sign.Sign, ByteClass.{byte_class, is_run_byte, is_string_byte}, Front.{Begins, BeginsWith, token_front, run_front}}
 use Rattle.npf_lexer.specs.declared.token.Sign.TheVariants as Signs
 use Rattle.npf_lexer.specs.declared.token.TokenKind.TheVariants as Kind
-use Rattle.npf_lexer.specs.ByteClass.{byte_class, is_run_byte, is_string_byte}
-use Rattle.npf_lexer.specs.Front.{Begins, BeginsWith, token_front, run_front}
-use Rattle.npf_lexer.specs.Run.{run_len, longest_run, number_run, word_run, is_word, is_decimal, is_no_colon, ReadsRun, IsAddressOrWord}
-use Rattle.npf_lexer.specs.Sign.{sign_text}
-use Rattle.npf_lexer.specs.Place.{text_start}
-use Rattle.npf_lexer.proofs.RunLemmas.{run_begins}
+use Rattle.npf_lexer.specs.{Run.{run_len, longest_run, number_run, word_run, is_word, is_decimal, is_no_colon, ReadsRun, IsAddressOrWord}, Sign.sign_text}
+use Rattle.npf_lexer.{specs.Place.text_start, proofs.RunLemmas.run_begins}
 use Rattle.npf_show_tokens.specs.Tokens.{ends_sign, ends_run, leaves_colon, is_run_word}
-use Rattle.npf_show_tokens.proofs.RunTexts.{stops_there, stops_digits, run_len_whole, run_len_colon, longest_of_bytes, colon_leaves}
-use Rattle.npf_show_tokens.proofs.AddressRuns.{IsAddressRun}
-use Rattle.npf_show_tokens.proofs.Digits.{all_weaker, no_colon_last, digit_in_run, digit_no_colon, digit_alphanumeric, digit_no_letter, decimal_all, decimal_first, decimal_is_decimal}
+use Rattle.npf_show_tokens.proofs.{RunTexts.{stops_there, stops_digits, run_len_whole, run_len_colon, longest_of_bytes, colon_leaves}, AddressRuns.IsAddressRun}
+use Rattle.npf_show_tokens.proofs.Digits.{all_weaker, no_colon_last, digit_in_run, digit_no_colon, digit_alphanumeric, digit_no_letter, decimal_all, decimal_first, decimal_is_decimal, letter_some}
 
 -- The types of the lexer's places and of what begins at one, which its crate keeps for itself.
 abbrev TypeOf : {A : Type 0} → A → Type 0
@@ -67,10 +58,6 @@ run_token_begins p (b ∷ bs) rest run first len is =
     let read = subst (λ bytes. ReadsRun bytes run) (sym (take-append_seam (b ∷ bs) rest)) is in
     subst (λ class. BeginsWith class p (b ∷ (bs ++ rest)) front) (sym (run_class b first))
     (run_begins p (b ∷ (bs ++ rest)) (length (b ∷ bs)) run front (sym len) (grind (arith, nat_tests)) read refl)
-
-not_true : (b : Bool) → not b ≡ true → b ≡ false
-not_true true is = sym is
-not_true false is = refl
 
 left_begins : (p : At) (rest : List ℕ) → not (slice_index rest 0 == 62) ≡ true → Begins p (60 ∷ 45 ∷ rest) (token_front (Kind.Sign Signs.Left) 2 p)
 left_begins p [] ends = refl
@@ -144,10 +131,6 @@ letter_alphanumeric b is = grind (arith, nat_tests)
 
 letter_no_digit : (b : ℕ) → is_ascii_alphabetic b ≡ true → is_ascii_digit b ≡ false
 letter_no_digit b is = grind (arith, nat_tests)
-
-letter_some : (text : List ℕ) → is_ascii_alphabetic (slice_index text 0) ≡ true → 0 < length text
-letter_some [] is = cc
-letter_some (b ∷ bs) is = omega arith
 
 -- a word that is no address
 pub word_begins : (p : At) (text rest : List ℕ) → is_run_word text ≡ true → ((addr : Addr) → ¬ IsAddressText text addr)

@@ -1,32 +1,19 @@
 -- The lines of a model's canonical text.
-use Rattle.std.proofs.Common.{◌≡◌, ℕ, ◌<◌, ◌^◌, ◌==◌, ◌&&◌, Bool, true, false, not, if◌then◌else◌, List, [], ◌∷◌, ◌++◌, length, slice_index, decimal, codes, refl, sym, ap, subst, ◌∙◌, arith, append_assoc}
-use Rattle.std.specs.Prelude.{bit_and}
-use Rattle.std.proofs.lemmas.Bool.{and_parts}
-use Rattle.std.proofs.lemmas.Bool.Decides.{nat_tests}
-use Rattle.std.proofs.lemmas.List.Elements.{All-head, All-tail}
-use Rattle.std.proofs.lemmas.Fmt.{decimal_nonempty}
-use Rattle.std.specs.Char.{is_ascii_alphabetic, is_ascii_digit}
-use Rattle.std.specs.List.{All, flat_map, list_all}
-use Rattle.npf_types.specs.declared.address.Addr.{Addr}
-use Rattle.npf_types.specs.declared.address.Addr.TheVariants.{V4, V6}
-use Rattle.npf_types.specs.declared.name.Name.{Name}
-use Rattle.npf_types.specs.declared.prefix.Prefix.{Prefix}
-use Rattle.npf_types.specs.Address.{width}
-use Rattle.npf_types.specs.Name.{name_bytes}
+use Rattle.std.proofs.Common.{◌≡◌, ℕ, ◌<◌, ◌^◌, ◌==◌, ◌&&◌, Bool, true, false, not, if◌then◌else◌, List, [], ◌∷◌, ◌++◌, length}
+use Rattle.std.{proofs.{Common.{slice_index, decimal, codes, refl, sym, ap, subst, ◌∙◌, arith, append_assoc}, lemmas.Bool.and_parts}, specs.Prelude.bit_and}
+use Rattle.std.proofs.lemmas.{Bool.Decides.nat_tests, List.Elements.{All-head, All-tail}, Fmt.decimal_nonempty}
+use Rattle.std.specs.{Char.{is_ascii_alphabetic, is_ascii_digit}, List.{All, flat_map, list_all}}
+use Rattle.npf_types.specs.{declared.{address.Addr.{Addr, TheVariants.{V4, V6}}, name.Name.Name, prefix.Prefix.Prefix}, Address.width, Name.name_bytes}
 use Rattle.npf_types.specs.NameText.{is_name_byte}
 use Rattle.npf_lexer.specs.declared.token.Sign.TheVariants as Signs
-use Rattle.npf_lexer.specs.ByteClass.{is_run_byte, is_string_byte}
-use Rattle.npf_lexer.specs.Run.{is_word, is_no_colon, longest_run}
-use Rattle.npf_show.specs.Ends.{prefix_pieces, range_pieces, angled}
-use Rattle.npf_show.specs.Filter.{flag_text, flags_pieces, letter_if_set, letters_of_bits}
+use Rattle.npf_lexer.specs.{ByteClass.{is_run_byte, is_string_byte}, Run.{is_word, is_no_colon, longest_run}}
+use Rattle.npf_show.specs.{Ends.{prefix_pieces, range_pieces, angled}, Filter.{flag_text, flags_pieces, letter_if_set, letters_of_bits}}
 use Rattle.npf_show.specs.Piece.{Piece, spelled, glued, spaced, line_end, indent, closing_line}
 use Rattle.npf_show.specs.Piece as Pieces
 use Rattle.npf_show_tokens.specs.Showable.{IsPlain, FitsAddr, FitsByte, IsShowablePrefix, IsShowableRange, AreShowableFlags}
 use Rattle.npf_show_tokens.specs.Tokens.{AreTold, IsTold, ends_run, is_run_word}
 use Rattle.npf_show_tokens.proofs.Chunks.{Stands, Follows, ends_here, behind_space, behind_line, word_told, number_told, sign_told, word_follows}
-use Rattle.npf_show_tokens.proofs.Digits.{all_join, all_weaker, decimal_first}
-use Rattle.npf_show_tokens.proofs.NoAddress.{first_left}
-use Rattle.npf_show_tokens.proofs.RunTexts.{longest_of_bytes}
+use Rattle.npf_show_tokens.proofs.{Digits.{all_join, all_weaker, decimal_first, letter_some}, NoAddress.first_left, RunTexts.longest_of_bytes}
 
 -- an address where its run ends
 address_is_told : (addr : Addr) → FitsAddr addr → (text : List ℕ) → ends_run text ≡ true → IsTold (Pieces.Address addr) text
@@ -70,15 +57,11 @@ range_follows range is = by_last range.0 range.1 is.0 is.1 (range.0 == range.1)
 letter_no_dash : (b : ℕ) → is_ascii_alphabetic b ≡ true → not (b == 45) ≡ true
 letter_no_dash b is = grind (arith, nat_tests)
 
-word_some : (text : List ℕ) → is_ascii_alphabetic (slice_index text 0) ≡ true → 0 < length text
-word_some [] is = cc
-word_some (b ∷ bs) is = omega arith
-
 pub angled_follows : (name : List ℕ) → is_run_word name ≡ true → Follows (angled name)
 angled_follows name is rest stands =
     let word = (and_parts (is_word name) (longest_run true name == length name) is).0 in
     let letter = (and_parts (is_ascii_alphabetic (slice_index name 0)) (list_all is_no_colon name) word).0 in
-    let first = first_left name (62 ∷ spelled rest) (word_some name letter) in
+    let first = first_left name (62 ∷ spelled rest) (letter_some name letter) in
     let ends = ap (λ b. not (b == 45)) first ∙ letter_no_dash (slice_index name 0) letter in
     behind_space (Pieces.Sign (codes "<") ∷ Pieces.Word name ∷ Pieces.Sign (codes ">") ∷ rest)
     (record { sign = Signs.Less; spelled = refl; ends = ends }, ((is, refl), sign_told Signs.Greater rest stands))

@@ -1,15 +1,9 @@
 -- A word is no address: one of IPv4 begins with a digit, and one of IPv6 has a colon.
 use Rattle.std.proofs.Common.{◌≡◌, ℕ, ◌<◌, ◌^◌, inl, inr, true, false, List, [], ◌∷◌, ◌++◌, length, slice_index, decimal, codes, refl, sym, ap, ◌∙◌, arith, append_assoc}
-use Rattle.std.proofs.lemmas.Fmt.{decimal_nonempty}
-use Rattle.std.specs.Char.{is_ascii_alphabetic, is_ascii_digit}
-use Rattle.std.specs.List.{list_all}
-use Rattle.std.specs.declared.net.ip_addr.IpAddr.{IpAddr}
+use Rattle.std.{proofs.lemmas.Fmt.decimal_nonempty, specs.{Char.{is_ascii_alphabetic, is_ascii_digit}, List.list_all, declared.net.ip_addr.IpAddr.IpAddr}}
 use Rattle.std.specs.declared.net.ip_addr.IpAddr.TheVariants as Ip
-use Rattle.std.specs.Net.Addr.{segments_of}
-use Rattle.std.specs.Net.Grammar.{IsDotted, IsGroupsAfter, IsGroups, IsElided, IsColonHex, IsIpText}
-use Rattle.std.specs.Net.Text.{dotted_text}
-use Rattle.npf_types.specs.declared.address.Addr.{Addr}
-use Rattle.npf_types.specs.AddressText.{IsAddressText}
+use Rattle.std.specs.Net.{Addr.segments_of, Grammar.{IsDotted, IsGroupsAfter, IsGroups, IsElided, IsColonHex, IsIpText}, Text.dotted_text}
+use Rattle.npf_types.specs.{declared.address.Addr.Addr, AddressText.IsAddressText}
 use Rattle.npf_lexer.specs.Run.{is_no_colon}
 use Rattle.npf_show_tokens.proofs.Digits.{decimal_first, digit_no_letter, one_lacks}
 

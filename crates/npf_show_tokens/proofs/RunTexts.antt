@@ -1,12 +1,8 @@
 -- How far a run goes, where the text behind it ends it.
-use Rattle.std.proofs.Common.{◌≡◌, ℕ, zero, suc, ◌+◌, ◌-◌, ◌<◌, ◌==◌, ◌&&◌, ◌||◌, Bool, true, false, not, nat_le, if◌then◌else◌, List, [], ◌∷◌, ◌++◌, length, slice_index, refl, sym, ap, ◌∙◌, arith}
-use Rattle.std.proofs.lemmas.Bool.{and_parts}
-use Rattle.std.proofs.lemmas.Bool.Decides.{nat_tests}
-use Rattle.std.proofs.lemmas.Grind.{common_steps}
-use Rattle.std.specs.Char.{is_ascii_alphabetic, is_ascii_alphanumeric}
+use Rattle.std.proofs.Common.{◌≡◌, ℕ, zero, suc, ◌+◌, ◌-◌, ◌<◌, ◌==◌, ◌&&◌, ◌||◌, Bool, true, false, not, nat_le, if◌then◌else◌, List, [], ◌∷◌, ◌++◌, length, slice_index, refl, ap, ◌∙◌, arith}
+use Rattle.std.{proofs.lemmas.{Bool.{and_parts, not-true, Decides.nat_tests}, Grind.common_steps}, specs.Char.{is_ascii_alphabetic, is_ascii_alphanumeric}}
 use Rattle.std.specs.List.{list_all}
-use Rattle.npf_lexer.specs.ByteClass.{is_run_byte}
-use Rattle.npf_lexer.specs.Run.{goes_on, longest_run, ends_in_colon, run_len}
+use Rattle.npf_lexer.specs.{ByteClass.is_run_byte, Run.{goes_on, longest_run, ends_in_colon, run_len}}
 use Rattle.npf_show_tokens.specs.Tokens.{ends_run, leaves_colon}
 
 -- what goes on in a text goes on in a longer one
@@ -37,10 +33,6 @@ not_going : (lettered : Bool) (rest : List ℕ) → goes_on lettered rest ≡ fa
 not_going lettered [] ends = refl
 not_going lettered (b ∷ bs) ends = rw ends refl
 
-is_false : (b : Bool) → not b ≡ true → b ≡ false
-is_false true is = sym is
-is_false false is = refl
-
 both_false : (run dash other lettered : Bool) → (not run && not dash) ≡ true → (run || (lettered && dash && other)) ≡ false
 both_false false false other true is = refl
 both_false false false other false is = refl
@@ -55,7 +47,7 @@ stops_there lettered rest ends =
 
 -- digits don't go on with `-`
 pub stops_digits : (rest : List ℕ) → not (is_run_byte (slice_index rest 0)) ≡ true → longest_run false rest ≡ 0
-stops_digits rest ends = not_going false rest (rw (is_false _ ends) refl)
+stops_digits rest ends = not_going false rest (rw (not-true _ ends) refl)
 
 -- the last byte of a text in front of another
 last_stays : (text rest : List ℕ) → 0 < length text → slice_index (text ++ rest) (length text - 1) ≡ slice_index text (length text - 1)

@@ -1,41 +1,17 @@
 -- The canonical text of a showable model has the tokens of its pieces.
 use Rattle.std.proofs.Common.{zero, suc, ◌≡◌, ℕ, ◌<◌, ◌^◌, ◌||◌, Bool, true, false, if◌then◌else◌, Option, Some, None, List, [], ◌∷◌, ◌++◌, codes, refl, subst, arith, append-nil}
-use Rattle.std.proofs.lemmas.List.Elements.{All-append}
-use Rattle.std.specs.Prelude.{IfSome, slice_get, length}
-use Rattle.std.specs.List.{slice_index_or, All, flat_map}
-use Rattle.npf_types.specs.declared.decision.Decision.{Decision}
-use Rattle.npf_types.specs.declared.decision.Decision.TheVariants.{Pass, Block}
-use Rattle.npf_types.specs.declared.decision.Return.{Return}
-use Rattle.npf_types.specs.declared.decision.Return.TheVariants.{Nothing, Any, Rst, Icmp}
-use Rattle.npf_types.specs.declared.direction.Dir.{Dir}
-use Rattle.npf_types.specs.declared.direction.Dir.TheVariants.{In, Out}
-use Rattle.npf_types.specs.declared.name.Name.{Name}
-use Rattle.npf_types.specs.Name.{name_bytes}
+use Rattle.std.{proofs.lemmas.List.Elements.{All-append, All-nil}, specs.{Prelude.{IfSome, slice_get, length}, List.{slice_index_or, All, flat_map}}}
+use Rattle.npf_types.specs.declared.decision.{Decision.{Decision, TheVariants.{Pass, Block}}, Return.{Return, TheVariants.{Nothing, Any, Rst, Icmp}}}
+use Rattle.npf_types.specs.{declared.{direction.Dir.{Dir, TheVariants.{In, Out}}, name.Name.Name}, Name.name_bytes}
 use Rattle.npf_lexer.specs.declared.token.Sign.TheVariants as Signs
-use Rattle.npf_model.specs.declared.ends.AddrItem.{AddrItem}
-use Rattle.npf_model.specs.declared.ends.AddrItem.TheVariants.{Net, InTable}
-use Rattle.npf_model.specs.declared.ends.Ends.{Ends}
-use Rattle.npf_model.specs.declared.group.Group.{Group}
-use Rattle.npf_model.specs.declared.group.Item.{Item}
-use Rattle.npf_model.specs.declared.group.Item.TheVariants.{One, Dynamic}
-use Rattle.npf_model.specs.declared.map.Algo.{Algo}
+use Rattle.npf_model.specs.declared.{ends.{AddrItem.{AddrItem, TheVariants.{Net, InTable}}, Ends.Ends}, group.{Group.Group, Item.Item}}
+use Rattle.npf_model.specs.declared.{group.Item.TheVariants.{One, Dynamic}, map.{Algo.Algo, Arrow.Arrow, Map.Map, Side.Side}, model.Model.Model}
 use Rattle.npf_model.specs.declared.map.Algo.TheVariants as Algos
-use Rattle.npf_model.specs.declared.map.Arrow.{Arrow}
 use Rattle.npf_model.specs.declared.map.Arrow.TheVariants as Arrows
-use Rattle.npf_model.specs.declared.map.Map.{Map}
-use Rattle.npf_model.specs.declared.map.Side.{Side}
-use Rattle.npf_model.specs.declared.model.Model.{Model}
-use Rattle.npf_model.specs.declared.procedure.Procedure.{Procedure}
-use Rattle.npf_model.specs.declared.rule.OnIf.{OnIf}
-use Rattle.npf_model.specs.declared.rule.Rule.{Rule}
-use Rattle.npf_model.specs.declared.rule.StateOpt.{StateOpt}
-use Rattle.npf_model.specs.declared.rule.StateOpt.TheVariants.{Not, OnInterface, Everywhere}
-use Rattle.npf_model.specs.declared.settings.Parameter.{Parameter}
-use Rattle.npf_model.specs.declared.settings.Parameter.TheVariants.{StrictRst, KeyInterface}
-use Rattle.npf_model.specs.declared.table.Kind.{Kind}
-use Rattle.npf_model.specs.declared.table.Kind.TheVariants.{Ipset, Lpm, Const}
-use Rattle.npf_model.specs.declared.table.TableDecl.{TableDecl}
-use Rattle.npf_model.specs.Settings.{parameter_name}
+use Rattle.npf_model.specs.declared.{procedure.Procedure.Procedure, rule.{OnIf.OnIf, Rule.Rule, StateOpt.StateOpt}}
+use Rattle.npf_model.specs.declared.{rule.StateOpt.TheVariants.{Not, OnInterface, Everywhere}, settings.Parameter.Parameter}
+use Rattle.npf_model.specs.declared.{settings.Parameter.TheVariants.{StrictRst, KeyInterface}, table.Kind.{Kind, TheVariants.{Ipset, Lpm, Const}}}
+use Rattle.npf_model.specs.{declared.table.TableDecl.TableDecl, Settings.parameter_name}
 use Rattle.npf_show.specs.Bound.{dir_pieces, on_pieces}
 use Rattle.npf_show.specs.Ends.{angled, prefix_pieces, item_pieces, name_of_table, range_pieces, ports_pieces, ends_pieces, end_pieces, is_said, where_pieces}
 use Rattle.npf_show.specs.Filter.{family_pieces, protocol_pieces, protocols_pieces, flags_pieces, code_pieces, icmp_pieces, filter_pieces}
@@ -46,13 +22,13 @@ use Rattle.npf_show.specs.Piece.{Piece, spelled, glued, spaced, line_end, indent
 use Rattle.npf_show.specs.Piece as Pieces
 use Rattle.npf_show.specs.Procedure.{log_line, normal_option, least_option, greatest_option, fragment_option, normal_options, normalize_line, procedure_head, procedure_lines}
 use Rattle.npf_show.specs.Rule.{return_pieces, decision_pieces, state_pieces, final_pieces, apply_pieces, rule_pieces, name_of_procedure}
-use Rattle.npf_show.specs.Setting.{alg_line, set_line, shown_settings, switch_text}
-use Rattle.npf_show.specs.Table.{kind_pieces, file_pieces, table_line}
-use Rattle.npf_show_tokens.specs.Showable.{IsPlain, FitsByte, IsShowableRange, IsShowableItem, AreShowableEnds, AreShowableFlags, IsShowableFilter, IsShowableRule, IsShowableEntry, IsShowableGroup, IsShowableSide, IsShowableMap, IsShowableProcedure, IsShowableTable, IsShowable, ShowsTokens}
-use Rattle.npf_show_tokens.specs.Tokens.{AreTold, is_run_word}
-use Rattle.npf_show_tokens.proofs.Told.{tells_tokens_lem}
+use Rattle.npf_show.specs.{Setting.{alg_line, set_line, shown_settings, switch_text}, Table.{kind_pieces, file_pieces, table_line}}
+use Rattle.npf_show_tokens.specs.Showable.{IsPlain, FitsByte, IsShowableRange, IsShowableItem, AreShowableEnds, AreShowableFlags, IsShowableFilter, IsShowableRule, IsShowableEntry}
+use Rattle.npf_show_tokens.specs.Showable.{IsShowableGroup, IsShowableSide, IsShowableMap, IsShowableProcedure, IsShowableTable, IsShowable, ShowsTokens}
+use Rattle.npf_show_tokens.{specs.Tokens.{AreTold, is_run_word}, proofs.Told.tells_tokens_lem}
 use Rattle.npf_show_tokens.proofs.Chunks.{Follows, nothing_follows, both_follow, option_follows, word_follows, quoted_follows, number_follows, sign_follows, list_follows, comma_list_follows}
-use Rattle.npf_show_tokens.proofs.Lines.{Opens, Lines, prefix_follows, range_follows, angled_follows, flags_follow, name_is_plain, opens_word, opens_colon, no_lines, opens_more, opens_indented, opens_line, closes, both_lines, each_lines}
+use Rattle.npf_show_tokens.proofs.Lines.{Opens, Lines, prefix_follows, range_follows, angled_follows, flags_follow, name_is_plain, opens_word, opens_colon}
+use Rattle.npf_show_tokens.proofs.Lines.{no_lines, opens_more, opens_indented, opens_line, closes, both_lines, each_lines}
 
 -- a word and what follows it
 word_then : (text : List ℕ) (more : List Piece) → is_run_word text ≡ true → Follows more → Follows (spaced (Pieces.Word text) ++ more)
@@ -291,28 +267,25 @@ table_told table is =
     (option_follows IsPlain file_pieces file_follows table.file is.file))
 
 -- the options of a normalisation
-all_none : {A : Type 0} (P : A → Type 0) → All P []
-all_none P k d within = absurd (omega (arith, within))
-
 all_one : {A : Type 0} (P : A → Type 0) (xs : List A) → length xs ≡ 1 → ((d : A) → P (slice_index_or xs 0 d)) → All P xs
 all_one P xs one is zero d within = is d
 all_one P xs one is (suc k) d within = absurd (omega (arith, one, within))
 
 least_follows : (o : Option ℕ) → IfSome o FitsByte → All (λ option. Follows (normal_option option)) (least_option o)
-least_follows None is = all_none (λ option. Follows (normal_option option))
+least_follows None is = All-nil (λ option. Follows (normal_option option))
 least_follows (Some n) is =
     all_one (λ option. Follows (normal_option option)) (least_option (Some n)) refl
     (λ d. both_follow (spaced (Pieces.Quoted (codes "min-ttl"))) (spaced (Pieces.Number n)) (quoted_follows (codes "min-ttl") refl) (byte_follows n is))
 
 greatest_follows : (o : Option ℕ) → IfSome o (λ n. n < 2 ^ 16) → All (λ option. Follows (normal_option option)) (greatest_option o)
-greatest_follows None is = all_none (λ option. Follows (normal_option option))
+greatest_follows None is = All-nil (λ option. Follows (normal_option option))
 greatest_follows (Some n) is =
     all_one (λ option. Follows (normal_option option)) (greatest_option (Some n)) refl
     (λ d. both_follow (spaced (Pieces.Quoted (codes "max-mss"))) (spaced (Pieces.Number n)) (quoted_follows (codes "max-mss") refl)
     (number_follows n (omega (arith, is))))
 
 fragment_follows : (b : Bool) → All (λ option. Follows (normal_option option)) (fragment_option b)
-fragment_follows false = all_none (λ option. Follows (normal_option option))
+fragment_follows false = All-nil (λ option. Follows (normal_option option))
 fragment_follows true =
     all_one (λ option. Follows (normal_option option)) (fragment_option true) refl (λ d. quoted_follows (codes "no-df") refl)
 

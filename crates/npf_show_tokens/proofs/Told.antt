@@ -1,30 +1,17 @@
 -- The tokens of pieces, piece by piece from the last on.
 use Rattle.std.proofs.Common.{◌≡◌, ℕ, ◌+◌, ◌==◌, true, Ok, List, [], ◌∷◌, ◌++◌, length, drop, map, slice_index, decimal, refl, sym, ap, subst, ◌∙◌, arith, append_assoc}
-use Rattle.std.proofs.lemmas.Bool.{and_parts}
-use Rattle.std.proofs.lemmas.Grind.{common_steps}
-use Rattle.std.proofs.Math.Seq.{drop-append_seam}
-use Rattle.std.specs.Char.{is_ascii_alphabetic}
-use Rattle.std.specs.Int.{w32, to_be_bytes}
+use Rattle.std.{proofs.{lemmas.{Bool.and_parts, Grind.common_steps}, Math.Seq.drop-append_seam}, specs.{Char.is_ascii_alphabetic, Int.{w32, to_be_bytes}}}
 use Rattle.std.specs.List.{list_all}
-use Rattle.npf_show.specs.Address.{address_text}
-use Rattle.npf_lexer.specs.Run.{is_word, is_no_colon, longest_run}
+use Rattle.npf_show.specs.{Address.address_text, Piece.{Piece, spelled, piece_text}}
+use Rattle.npf_lexer.specs.{Run.{is_word, is_no_colon, longest_run}, declared.token.{Sign.Sign, Token.Token, TokenKind.TokenKind}, Front.{Begins, token_front}}
 use Rattle.npf_types.specs.declared.address.Addr.TheVariants.{V4, V6}
-use Rattle.npf_lexer.specs.declared.token.Sign.{Sign}
 use Rattle.npf_lexer.specs.declared.token.Sign.TheVariants as Signs
-use Rattle.npf_lexer.specs.declared.token.Token.{Token}
-use Rattle.npf_lexer.specs.declared.token.TokenKind.{TokenKind}
 use Rattle.npf_lexer.specs.declared.token.TokenKind.TheVariants as Kind
-use Rattle.npf_lexer.specs.Front.{Begins, token_front}
-use Rattle.npf_lexer.specs.Lexer.{Lexes, end, skip, token, end_token}
-use Rattle.npf_lexer.specs.Place.{along, over_line, span_of, text_start}
-use Rattle.npf_lexer.specs.Sign.{sign_text, sign_at}
-use Rattle.npf_show.specs.Piece.{Piece, spelled, piece_text}
+use Rattle.npf_lexer.specs.{Lexer.{Lexes, end, skip, token, end_token}, Place.{along, over_line, span_of, text_start}, Sign.{sign_text, sign_at}}
 use Rattle.npf_show.specs.Piece as Pieces
 use Rattle.npf_show_tokens.specs.Tokens.{kind_of_piece, kinds_of_pieces, sign_kind, AreTold, IsSignBefore, TellsTokens}
-use Rattle.npf_show_tokens.proofs.Addresses.{v4_dotted, v4_reads, v6_reads, v6_segments, v6_small}
-use Rattle.npf_show_tokens.proofs.AddressRuns.{dotted_is_run, eight_are_run}
-use Rattle.npf_show_tokens.proofs.Fronts.{At, quoted_begins, sign_begins, number_begins, word_begins, address_begins}
-use Rattle.npf_show_tokens.proofs.NoAddress.{word_not_address}
+use Rattle.npf_show_tokens.proofs.{Addresses.{v4_dotted, v4_reads, v6_reads, v6_segments, v6_small}, AddressRuns.{dotted_is_run, eight_are_run}}
+use Rattle.npf_show_tokens.proofs.{Fronts.{At, quoted_begins, sign_begins, number_begins, word_begins, address_begins}, NoAddress.word_not_address}
 
 -- pieces from a place on, whose tokens are found
 abbrev Found : At → List Piece → Type 0

@@ -1,15 +1,8 @@
 -- Values of a model, written and read.
 use Rattle.std.proofs.Common.{◌≡◌, ℕ, zero, suc, ◌+◌, ◌-◌, ◌<◌, ◌==◌, ◌&&◌, ◌^◌, Bool, true, false, unwrap_or, Some, None, List, [], ◌∷◌, length, replicate, refl, sym, ap, subst, ◌∙◌, arith}
-use Rattle.std.proofs.lemmas.Bool.{and_parts, false_from_ne_true}
-use Rattle.std.proofs.lemmas.Bool.Decides.{nat_tests}
-use Rattle.std.proofs.lemmas.Slice.Eq.{bytes_eq-Decides}
-use Rattle.std.proofs.Math.Seq.{take-append_seam}
+use Rattle.std.proofs.{lemmas.{Bool.{and_parts, false_from_ne_true, Decides.nat_tests}, Slice.Eq.bytes_eq-Decides}, Math.Seq.take-append_seam}
 use Rattle.std.specs.Str.{bytes_eq}
-use Rattle.npf_types.specs.declared.prefix.Prefix.{Prefix}
-use Rattle.npf_types.specs.Block.{block}
-use Rattle.npf_types.specs.Name.{name_bytes}
-use Rattle.npf_types.specs.NameText.{is_name}
-use Rattle.npf_types.specs.Named.{named, name_where}
+use Rattle.npf_types.specs.{declared.prefix.Prefix.Prefix, Block.block, Name.name_bytes, NameText.is_name, Named.{named, name_where}}
 use Rattle.npf_types.proofs.PrefixLemmas.{block_is}
 use Rattle.npf_model.specs.Verdict.{first_where}
 use Rattle.npf_expand_values.specs.Declarations.{no_number, table_number}

@@ -1,3 +1,4 @@
+// A tree in a box of its own.
 ghost use Rattle.std.specs.Prelude.{◌≡◌, IfOk};
 
 use std::alloc::{AllocFailed, Global};

@@ -1,3 +1,4 @@
+// The trees of filters.
 use crate::boxed::Boxed;
 use crate::value::{One, OneList, Value, ValueList, Values};
 use crate::word::{Number, Word};
@@ -52,7 +53,7 @@ pub enum Addresses {
 /// An end of a connection: addresses, and the ports behind them if they are said, or ports alone. A written port is a
 /// number up to 65535, a range of such, a word or a variable.
 #[derive(Debug, Drop)]
-pub enum Ends {
+pub enum EndsTree {
     Addresses {
         addresses: Addresses,
         ports: Option<Values>,
@@ -71,12 +72,12 @@ pub enum Where {
         span: Span,
     },
     From {
-        from: Boxed<Ends>,
-        to: Option<Boxed<Ends>>,
+        from: Boxed<EndsTree>,
+        to: Option<Boxed<EndsTree>>,
         span: Span,
     },
     To {
-        to: Boxed<Ends>,
+        to: Boxed<EndsTree>,
         span: Span,
     },
 }

@@ -1,6 +1,7 @@
+// The trees of groups.
 use crate::boxed::Boxed;
 use crate::rule::{Direction, RuleTree};
-use crate::value::Iface;
+use crate::value::IfaceTree;
 use crate::word::Str;
 use npf_types::Span;
 
@@ -11,7 +12,7 @@ pub enum GroupHead {
     Named {
         name: Str,
         dir: Option<Direction>,
-        on: Option<Boxed<Iface>>,
+        on: Option<Boxed<IfaceTree>>,
         span: Span,
     },
     Default {
@@ -21,7 +22,7 @@ pub enum GroupHead {
 
 /// An item of a group: a rule, or the place of dynamic rules, whose name is a `Name`.
 #[derive(Debug, Drop)]
-pub enum Item {
+pub enum ItemTree {
     Rule {
         rule: RuleTree,
         span: Span,
@@ -29,7 +30,7 @@ pub enum Item {
     Ruleset {
         name: Str,
         dir: Option<Direction>,
-        on: Option<Boxed<Iface>>,
+        on: Option<Boxed<IfaceTree>>,
         span: Span,
     },
 }

@@ -20,11 +20,11 @@ mod value;
 mod word;
 
 pub use boxed::Boxed;
-pub use filter::{Addresses, Detail, Ends, Family, Filter, ProtoPart, Protocols, Where};
-pub use group::{GroupHead, Item};
-pub use map::{Arrow, MapKind, Side};
+pub use filter::{Addresses, Detail, EndsTree, Family, Filter, ProtoPart, Protocols, Where};
+pub use group::{GroupHead, ItemTree};
+pub use map::{ArrowTree, MapKind, SideTree};
 pub use procedure::{Call, LogName, Opt};
-pub use rule::{Answer, Direction, RuleAction, RuleTree, Stateful};
+pub use rule::{BlockReturn, Direction, RuleAction, RuleTree, Stateful};
 pub use stmt::{Setting, Stmt, TableType, Tree};
-pub use value::{Function, Iface, One, OneList, Value, ValueList, Values};
+pub use value::{Function, IfaceTree, One, OneList, Value, ValueList, Values};
 pub use word::{Address, Number, Str, Var, Word};

@@ -1,3 +1,4 @@
+// The trees of maps.
 use crate::value::Value;
 use crate::word::Word;
 use npf_types::Span;
@@ -11,7 +12,7 @@ pub enum MapKind {
 
 /// Which way a map translates: outward, inward, or both.
 #[derive(Clone, Copy, Debug, PartialEq, Eq)]
-pub enum Arrow {
+pub enum ArrowTree {
     Right { span: Span },
     Left { span: Span },
     Both { span: Span },
@@ -20,7 +21,7 @@ pub enum Arrow {
 /// One side of a map: an address, and a port if it is said. A written value is an address, a table, a variable or a function; a
 /// written port is a number up to 65535, a range of such, a word or a variable.
 #[derive(Debug, Drop)]
-pub struct Side {
+pub struct SideTree {
     pub value: Value,
     pub port: Option<Value>,
     pub span: Span,

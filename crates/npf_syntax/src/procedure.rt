@@ -1,3 +1,4 @@
+// The trees of procedures.
 use crate::word::{Number, Str, Word};
 use npf_types::{List, Span};
 

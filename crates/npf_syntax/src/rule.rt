@@ -2,7 +2,7 @@
 // the plain types. The field for the word `final` is `last`, since `final` is a reserved word of Rust.
 use crate::boxed::Boxed;
 use crate::filter::Filter;
-use crate::value::Iface;
+use crate::value::IfaceTree;
 use crate::word::Str;
 use npf_types::Span;
 
@@ -15,7 +15,7 @@ pub enum Direction {
 
 /// What a rule that blocks answers to the sender.
 #[derive(Clone, Copy, Debug, PartialEq, Eq)]
-pub enum Answer {
+pub enum BlockReturn {
     Return { span: Span },
     ReturnRst { span: Span },
     ReturnIcmp { span: Span },
@@ -24,8 +24,13 @@ pub enum Answer {
 /// Whether a rule blocks, and with which answer if any, or passes.
 #[derive(Clone, Copy, Debug, PartialEq, Eq)]
 pub enum RuleAction {
-    Block { answer: Option<Answer>, span: Span },
-    Pass { span: Span },
+    Block {
+        answer: Option<BlockReturn>,
+        span: Span,
+    },
+    Pass {
+        span: Span,
+    },
 }
 
 /// Of which packets a rule keeps state: those of its interface, or all.
@@ -44,7 +49,7 @@ pub struct RuleTree {
     pub dir: Option<Direction>,
     /// Whether the word `final` stands there.
     pub last: bool,
-    pub on: Option<Boxed<Iface>>,
+    pub on: Option<Boxed<IfaceTree>>,
     pub filter: Filter,
     /// The procedure's name.
     pub apply: Option<Str>,

@@ -1,9 +1,10 @@
+// The trees of statements.
 use crate::boxed::Boxed;
 use crate::filter::Filter;
-use crate::group::{GroupHead, Item};
-use crate::map::{Arrow, MapKind, Side};
+use crate::group::{GroupHead, ItemTree};
+use crate::map::{ArrowTree, MapKind, SideTree};
 use crate::procedure::Call;
-use crate::value::{Iface, One, Values};
+use crate::value::{IfaceTree, One, Values};
 use crate::word::{Number, Str, Var, Word};
 use npf_types::{List, Span};
 
@@ -47,18 +48,18 @@ pub enum Stmt {
         span: Span,
     },
     Map {
-        iface: Boxed<Iface>,
+        iface: Boxed<IfaceTree>,
         kind: Boxed<MapKind>,
         proto: Option<Boxed<One>>,
-        left: Boxed<Side>,
-        arrow: Arrow,
-        right: Boxed<Side>,
+        left: Boxed<SideTree>,
+        arrow: ArrowTree,
+        right: Boxed<SideTree>,
         pass: Option<Boxed<Filter>>,
         span: Span,
     },
     Group {
         head: GroupHead,
-        items: List<Item>,
+        items: List<ItemTree>,
         span: Span,
     },
     Procedure {

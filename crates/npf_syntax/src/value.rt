@@ -1,10 +1,11 @@
+// The trees of values.
 use crate::boxed::Boxed;
 use crate::word::{Address, Number, Str, Var, Word};
 use npf_types::{List, Span};
 
 /// An interface: a word or a string, which is a `Name`, or a variable.
 #[derive(Debug, Drop)]
-pub enum Iface {
+pub enum IfaceTree {
     Word { word: Word, span: Span },
     Str { string: Str, span: Span },
     Var { var: Var, span: Span },
@@ -65,7 +66,7 @@ pub enum Value {
     },
     Function {
         function: Function,
-        iface: Boxed<Iface>,
+        iface: Boxed<IfaceTree>,
         span: Span,
     },
 }

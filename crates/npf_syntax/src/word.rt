@@ -1,3 +1,4 @@
+// Words, numbers and addresses as they are written.
 use npf_types::{Addr, Span, Text};
 
 /// A quoted string, without its quotes.

@@ -1,14 +1,9 @@
 -- A text is one entry at most.
 use Rattle.std.proofs.Common.{◌≡◌, ◌↔◌, ◌≤◌, ◌-◌, ◌*◌, ◌/◌, ◌^◌, ℕ, List, Option, Some, None, IsSome, IfSome, refl, sym, ap, subst, ◌∙◌, arith, true≢false, length}
 use Rattle.std.proofs.Math.Nat.{div-one, mul-one}
-use Rattle.npf_types.specs.declared.address.Addr.{Addr}
-use Rattle.npf_types.specs.declared.address.Addr.TheVariants.{V4, V6}
-use Rattle.npf_types.specs.declared.prefix.Prefix.{Prefix}
-use Rattle.npf_types.specs.Address.{width, cleared}
-use Rattle.npf_types.proofs.PrefixLemmas.{Prefix-same}
-use Rattle.npf_types.specs.AddressText.{IsAddressText}
+use Rattle.npf_types.specs.{declared.{address.Addr.{Addr, TheVariants.{V4, V6}}, prefix.Prefix.Prefix}, Address.{width, cleared}}
+use Rattle.npf_types.{proofs.PrefixLemmas.Prefix-same, specs.{AddressText.IsAddressText, Reading.{IsOnly, IsReading}}}
 use Rattle.npf_table.specs.PrefixText.{IsHostText, IsBlockText, IsLengthText, IsByteLengthText}
-use Rattle.npf_types.specs.Reading.{IsOnly, IsReading}
 
 -- the whole width clears nothing
 kept_whole : (bits a : ℕ) → a / 2 ^ (bits - bits) * 2 ^ (bits - bits) ≡ a

@@ -1,17 +1,11 @@
 -- The entries of a file's lines, line by line.
 use Rattle.std.proofs.Common.{◌↔◌, ◌≡◌, ◌≢◌, ◌<◌, ◌+◌, ℕ, List, Contains, length, take, get_or, ◌++◌, ◌∷◌, [], refl, sym, ap, subst, ◌∙◌, ◌⊎◌, ⊎_elim, inl, inr, true≢false, arith, add-one}
-use Rattle.std.proofs.lemmas.List.{get_or-take, length-take-le}
-use Rattle.std.proofs.lemmas.Option.{slice_get_read, get_or_from_slice_get}
-use Rattle.std.proofs.lemmas.List.Elements.{Contains-push, Contains-append_left, Contains-push_cases}
-use Rattle.std.proofs.Math.Seq.{take-suc}
+use Rattle.std.proofs.lemmas.{List.{get_or-take, length-take-le}, Option.{slice_get_read, get_or_from_slice_get}}
+use Rattle.std.proofs.{lemmas.{List.Elements.{Contains-push, Contains-append_left, Contains-push_cases}, Bool.cases_Bool}, Math.Seq.take-suc}
 use Rattle.npf_model.specs.declared.table.Kind.{Kind}
-use Rattle.npf_types.specs.declared.prefix.Prefix.{Prefix}
+use Rattle.npf_types.{specs.{declared.prefix.Prefix.Prefix, Reading.IsOnly}, proofs.PrefixLemmas.{same_prefix, same_prefix_laws, same_prefix_tells}}
 use Rattle.npf_lpm.specs.Lpm.{Gains}
-use Rattle.npf_types.proofs.PrefixLemmas.{same_prefix, same_prefix_laws, same_prefix_tells}
-use Rattle.std.proofs.lemmas.Bool.{cases_Bool}
-use Rattle.npf_table.specs.Line.{IsBlankLine, IsEntry, IsBad}
-use Rattle.npf_types.specs.Reading.{IsOnly}
-use Rattle.npf_table.specs.TableFile.{Writes, AreEntries, IsFirstBadLine}
+use Rattle.npf_table.specs.{Line.{IsBlankLine, IsEntry, IsBad}, TableFile.{Writes, AreEntries, IsFirstBadLine}}
 
 -- no line, no entry
 pub no_lines : (kind : Kind) → AreEntries kind [] []

@@ -1,16 +1,9 @@
 -- The bound on resets.
-use Rattle.std.proofs.Common.{◌≡◌, ◌≢◌, ◌≤◌, ◌&&◌, ℕ, Bool, true, false, not, if◌then◌else◌, refl, ap, arith}
-use Rattle.std.proofs.lemmas.Bool.{and_parts}
-use Rattle.std.proofs.lemmas.Bool.Decides.{nat_tests}
+use Rattle.std.proofs.{Common.{◌≡◌, ◌≢◌, ◌≤◌, ◌&&◌, ℕ, Bool, true, false, not, if◌then◌else◌, refl, ap, arith}, lemmas.Bool.{and_parts, Decides.nat_tests}}
 use Rattle.std.specs.Prelude.{nat_le}
 use Rattle.npf_types.specs.declared.facts.Segment.{Segment}
-use Rattle.npf_tcp.specs.declared.class.SegmentClass.TheVariants.{Rst}
-use Rattle.npf_tcp.specs.declared.state.Known.{Known}
-use Rattle.npf_tcp.specs.declared.state.Known.TheVariants.{Nothing, Expected, Seen}
-use Rattle.npf_tcp.specs.declared.state.TcpSide.{TcpSide}
-use Rattle.npf_tcp.specs.Bound.{is_unknown, is_in_bounds_by, is_reset_in_bounds, is_in_bounds}
-use Rattle.npf_tcp.specs.Class.{segment_class, is_reset}
-use Rattle.npf_tcp.specs.Sequence.{minus}
+use Rattle.npf_tcp.specs.declared.{class.SegmentClass.TheVariants.Rst, state.{Known.{Known, TheVariants.{Nothing, Expected, Seen}}, TcpSide.TcpSide}}
+use Rattle.npf_tcp.specs.{Window.{is_unknown, is_in_bounds_by, is_reset_in_bounds, is_in_bounds}, Class.{segment_class, is_reset}, Sequence.minus}
 
 known : (k : Known) → k ≢ Nothing → is_unknown k ≡ false
 known Nothing h = absurd (h refl)

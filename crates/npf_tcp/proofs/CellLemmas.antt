@@ -1,11 +1,7 @@
 use Rattle.std.proofs.Common.{◌≡◌, Some, None, true, false, refl}
-use Rattle.npf_types.specs.declared.key.Way.{Way}
-use Rattle.npf_types.specs.declared.key.Way.TheVariants.{Forward, Backward, Port}
-use Rattle.npf_tcp.specs.declared.class.SegmentClass.{SegmentClass}
-use Rattle.npf_tcp.specs.declared.class.SegmentClass.TheVariants.{Rst, Syn, SynAck, Fin, Invalid}
-use Rattle.npf_tcp.specs.declared.state.TcpPhase.{TcpPhase}
-use Rattle.npf_tcp.specs.declared.state.TcpPhase.TheVariants.{Closed}
-use Rattle.npf_tcp.specs.Cell.{row, no, cell, forward_cell, backward_cell}
+use Rattle.npf_types.specs.declared.key.Way.{Way, TheVariants.{Forward, Backward, Port}}
+use Rattle.npf_tcp.specs.declared.{class.SegmentClass.{SegmentClass, TheVariants.{Rst, Syn, SynAck, Fin, Invalid}}, state.TcpPhase.TcpPhase}
+use Rattle.npf_tcp.specs.{declared.state.TcpPhase.TheVariants.Closed, Cell.{row, no, cell, forward_cell, backward_cell}}
 use Rattle.npf_tcp.specs.Mirror.{mirrored_phase, mirrored_cell, opposite_way, is_one_sided, is_symmetric}
 
 -- a reset leads to CLOSED from every phase
@@ -52,7 +48,8 @@ forward_mirrored = elim [ Closed ↦ elim [ Rst ↦ λ h. cc | _ ↦ λ h. cc ] 
 backward_mirrored : (phase : TcpPhase) (class : SegmentClass) → is_one_sided phase class ≡ false → forward_cell (mirrored_phase phase) class ≡ mirrored_cell (backward_cell phase class)
 backward_mirrored = elim [ Closed ↦ elim [ Rst ↦ λ h. cc | _ ↦ λ h. cc ] | _ ↦ elim [ Rst ↦ λ h. cc | _ ↦ λ h. cc ] ]
 
-pub cell-mirrored : (phase : TcpPhase) (class : SegmentClass) → is_one_sided phase class ≡ false → (way : Way) → cell (mirrored_phase phase) (opposite_way way) class ≡ mirrored_cell (cell phase way class)
+pub cell-mirrored : (phase : TcpPhase) (class : SegmentClass) → is_one_sided phase class ≡ false → (way : Way) →
+    cell (mirrored_phase phase) (opposite_way way) class ≡ mirrored_cell (cell phase way class)
 cell-mirrored phase class h Forward = forward_mirrored phase class h
 cell-mirrored phase class h Backward = backward_mirrored phase class h
 cell-mirrored phase class h Port = forward_mirrored phase class h

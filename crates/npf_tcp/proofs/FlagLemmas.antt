@@ -1,9 +1,5 @@
-use Rattle.std.proofs.Common.{◌≡◌, ◌==◌, ℕ, ◌*◌, ◌^◌, ◌<◌, not, arith, zero, suc, refl, zero-mul, one-mul}
-use Rattle.std.proofs.lemmas.Bool.Decides.{nat_tests}
-use Rattle.std.proofs.lemmas.Nat.{pow_pos}
-use Rattle.std.proofs.lemmas.Nat.Bits.{and_pow}
-use Rattle.std.specs.Int.{bit_at}
-use Rattle.std.specs.Prelude.{bit_and}
+use Rattle.std.proofs.{Common.{◌≡◌, ◌==◌, ℕ, ◌*◌, ◌^◌, ◌<◌, not, arith, zero, suc, refl, zero-mul, one-mul}, lemmas.{Bool.Decides.nat_tests, Nat.pow_pos}}
+use Rattle.std.{proofs.lemmas.Nat.Bits.and_pow, specs.{Int.bit_at, Prelude.bit_and}}
 
 -- a bit times a power
 scaled_test : (b p : ℕ) → 0 < p → b < 2 → not (b * p == 0) ≡ (b == 1)

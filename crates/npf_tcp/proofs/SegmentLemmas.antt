@@ -1,15 +1,7 @@
 use Rattle.std.proofs.Common.{◌≡◌, Option, Some, None, Bool, true, false, refl}
-use Rattle.npf_types.specs.declared.key.Way.{Way}
-use Rattle.npf_types.specs.declared.key.Way.TheVariants.{Forward, Backward, Port}
-use Rattle.npf_types.specs.declared.facts.Segment.{Segment}
-use Rattle.npf_tcp.specs.declared.state.TcpPhase.{TcpPhase}
-use Rattle.npf_tcp.specs.declared.state.TcpSide.{TcpSide}
-use Rattle.npf_tcp.specs.declared.state.TcpState.{TcpState}
-use Rattle.npf_tcp.specs.Bound.{is_in_bounds}
-use Rattle.npf_tcp.specs.Cell.{cell}
-use Rattle.npf_tcp.specs.Class.{segment_class}
-use Rattle.npf_tcp.specs.Laws.{EachSide, is_accepted}
-use Rattle.npf_tcp.specs.Segment.{sender_of, receiver_of, sender_after, receiver_after, state_after, answer, segment_step}
+use Rattle.npf_types.specs.declared.{key.Way.{Way, TheVariants.{Forward, Backward, Port}}, facts.Segment.Segment}
+use Rattle.npf_tcp.specs.{declared.state.{TcpPhase.TcpPhase, TcpSide.TcpSide, TcpState.TcpState}, Window.is_in_bounds, Cell.cell, Class.segment_class}
+use Rattle.npf_tcp.specs.{Laws.{EachSide, is_accepted}, Segment.{sender_of, receiver_of, sender_after, receiver_after, state_after, answer, segment_step}}
 
 -- what holds of a refusal, and of a move where the table has a cell and the numbers lie within the bounds, holds of the answer
 answer_cases : (cell : Option TcpPhase) (bounded : Bool) (state : TcpState) (way : Way) (seg : Segment) (P : TcpState × Bool → Type 0) →
@@ -20,7 +12,8 @@ answer_cases (Some phase) false state way seg P accepted refused = refused
 answer_cases None bounded state way seg P accepted refused = refused
 
 pub step_cases : (state : TcpState) (way : Way) (seg : Segment) (P : TcpState × Bool → Type 0) →
-    ((phase : TcpPhase) → cell state.phase way (segment_class seg.flags) ≡ Some phase → is_in_bounds state.strict (sender_of state way) (receiver_of state way) seg ≡ true → P (state_after phase state way seg, true)) →
+    ((phase : TcpPhase) → cell state.phase way (segment_class seg.flags) ≡ Some phase →
+    is_in_bounds state.strict (sender_of state way) (receiver_of state way) seg ≡ true → P (state_after phase state way seg, true)) →
     P (state, false) → P (segment_step state way seg)
 unfolding segment_step
 step_cases state way seg = answer_cases (cell state.phase way (segment_class seg.flags)) (is_in_bounds state.strict (sender_of state way) (receiver_of state way) seg) state way seg
@@ -31,7 +24,8 @@ answer-accepted (Some _) phase true state way seg h = refl
 answer-accepted (Some _) phase false state way seg h = refl
 answer-accepted None phase bounded state way seg h = cc
 
-pub step-accepted : (state : TcpState) (way : Way) (seg : Segment) (phase : TcpPhase) → cell state.phase way (segment_class seg.flags) ≡ Some phase → is_accepted state way seg ≡ is_in_bounds state.strict (sender_of state way) (receiver_of state way) seg
+pub step-accepted : (state : TcpState) (way : Way) (seg : Segment) (phase : TcpPhase) → cell state.phase way (segment_class seg.flags) ≡ Some phase →
+    is_accepted state way seg ≡ is_in_bounds state.strict (sender_of state way) (receiver_of state way) seg
 unfolding segment_step
 step-accepted state way seg phase = answer-accepted (cell state.phase way (segment_class seg.flags)) phase (is_in_bounds state.strict (sender_of state way) (receiver_of state way) seg) state way seg
 

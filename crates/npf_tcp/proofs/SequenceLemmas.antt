@@ -1,5 +1,4 @@
-use Rattle.std.proofs.Common.{◌≡◌, ◌↔◌, ◌<◌, ◌^◌, ℕ, true, arith}
-use Rattle.std.proofs.lemmas.Bool.Decides.{nat_tests}
+use Rattle.std.proofs.{Common.{◌≡◌, ◌↔◌, ◌<◌, ◌^◌, ℕ, true, arith}, lemmas.Bool.Decides.nat_tests}
 use Rattle.npf_tcp.specs.Sequence.{plus, minus, is_at_or_before}
 
 -- the bytes from x to y lead there

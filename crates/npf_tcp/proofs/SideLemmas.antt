@@ -1,10 +1,6 @@
 use Rattle.std.proofs.Common.{◌≡◌, ◌≤◌, ℕ, Bool, true, false, if◌then◌else◌, Option, None, refl, sym, arith}
 use Rattle.npf_types.specs.declared.facts.Segment.{Segment}
-use Rattle.npf_tcp.specs.declared.state.Known.{Known}
-use Rattle.npf_tcp.specs.declared.state.Known.TheVariants.{Nothing, Expected, Seen}
-use Rattle.npf_tcp.specs.declared.state.TcpSide.{TcpSide}
-use Rattle.npf_tcp.specs.Extent.{segment_end, window}
-use Rattle.npf_tcp.specs.Flag.{has_ack}
+use Rattle.npf_tcp.specs.{declared.state.{Known.{Known, TheVariants.{Nothing, Expected, Seen}}, TcpSide.TcpSide}, Extent.{segment_end, window}, Flag.has_ack}
 use Rattle.npf_tcp.specs.Laws.{BothSides, StaysSeen, KeepsMaxwin, IsQuietUnseen}
 use Rattle.npf_tcp.specs.Opening.{opening_state, opening_forward, opening_backward, expected_side, unknown_side}
 use Rattle.npf_tcp.specs.Segment.{side_after_sending_by, side_after_sending, side_after_ack_by, side_after_ack, sender_after, receiver_after, receiver_scale}

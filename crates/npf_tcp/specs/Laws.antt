@@ -8,7 +8,7 @@ use Rattle.npf_tcp.specs.declared.state.TcpPhase.{TcpPhase}
 use Rattle.npf_tcp.specs.declared.state.TcpPhase.TheVariants.{Closed}
 use Rattle.npf_tcp.specs.declared.state.TcpSide.{TcpSide}
 use Rattle.npf_tcp.specs.declared.state.TcpState.{TcpState}
-use Rattle.npf_tcp.specs.Bound.{is_in_bounds}
+use Rattle.npf_tcp.specs.Window.{is_in_bounds}
 use Rattle.npf_tcp.specs.Cell.{cell}
 use Rattle.npf_tcp.specs.Class.{segment_class}
 use Rattle.npf_tcp.specs.Mirror.{mirrored_state, mirrored_phase, mirrored_cell, opposite_way, is_one_sided, is_symmetric}

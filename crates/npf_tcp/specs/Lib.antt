@@ -1,4 +1,4 @@
-pub mod Bound
+pub mod Window
 pub mod Cell
 pub mod Class
 pub mod Extent

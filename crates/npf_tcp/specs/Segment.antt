@@ -7,7 +7,7 @@ use Rattle.npf_tcp.specs.declared.state.Known.TheVariants.{Nothing, Expected, Se
 use Rattle.npf_tcp.specs.declared.state.TcpPhase.{TcpPhase}
 use Rattle.npf_tcp.specs.declared.state.TcpSide.{TcpSide}
 use Rattle.npf_tcp.specs.declared.state.TcpState.{TcpState}
-use Rattle.npf_tcp.specs.Bound.{is_in_bounds}
+use Rattle.npf_tcp.specs.Window.{is_in_bounds}
 use Rattle.npf_tcp.specs.Cell.{cell}
 use Rattle.npf_tcp.specs.Class.{segment_class}
 use Rattle.npf_tcp.specs.Extent.{segment_end, window}

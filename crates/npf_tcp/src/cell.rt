@@ -12,10 +12,10 @@ use npf_types::Way;
 use npf_types::Way::Backward;
 
 /// Where a segment leads, or None where it is refused.
-type Cell = Option<TcpPhase>;
+type NextPhase = Option<TcpPhase>;
 
 /// The phase to which a segment of this class leads, or None where it is refused.
-pub fn cell(phase: TcpPhase, way: Way, class: SegmentClass) -> Cell
+pub fn cell(phase: TcpPhase, way: Way, class: SegmentClass) -> NextPhase
     ensures { result ≡ cell phase way class }
 {
     let (no, stays) = (None, Some(phase));
@@ -44,7 +44,13 @@ pub fn cell(phase: TcpPhase, way: Way, class: SegmentClass) -> Cell
 }
 
 /// The cell of a class in a row of the table. A reset leads to CLOSED in each row.
-fn row(class: SegmentClass, syn: Cell, syn_ack: Cell, ack: Cell, fin: Cell) -> Cell
+fn row(
+    class: SegmentClass,
+    syn: NextPhase,
+    syn_ack: NextPhase,
+    ack: NextPhase,
+    fin: NextPhase,
+) -> NextPhase
     ensures { result ≡ row syn syn_ack ack fin class }
 {
     match class {

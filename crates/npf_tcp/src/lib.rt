@@ -11,7 +11,6 @@
 // machine words. Both answer at every state and segment. A refused segment changes nothing.
 #![tactic(auto)]
 
-mod bound;
 mod cell;
 mod class;
 mod extent;
@@ -21,6 +20,7 @@ mod opening;
 mod segment;
 mod sequence;
 mod state;
+mod window;
 
 pub use opening::open_tcp;
 pub use segment::step_tcp;

@@ -5,13 +5,13 @@
 ghost use Rattle.std.specs.Prelude.{◌≡◌, Option};
 ghost use Rattle.npf_tcp.specs.Segment.{sender_of, receiver_of, state_after, sender_after, receiver_after, side_after_sending, side_after_ack, sender_scale, receiver_scale, is_without_scales, segment_step};
 
-use crate::bound::is_in_bounds;
 use crate::cell::cell;
 use crate::class::SegmentClass;
 use crate::extent::{segment_end, window};
 use crate::flag::{has_ack, has_syn};
 use crate::sequence::later_of;
 use crate::state::{Known, TcpPhase, TcpSide, TcpState};
+use crate::window::is_in_bounds;
 use npf_types::{Segment, Way};
 
 /// The state after a segment that goes this way, and whether it is accepted, at any state and segment. A refused

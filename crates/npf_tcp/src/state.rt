@@ -1,3 +1,5 @@
+// The state of a TCP connection, as npf keeps it.
+
 /// The phase of a connection, as a filter between the two hosts sees it. After the states of RFC 9293 section 3.3.2.
 /// "Forward" is the side that sent the connection's first segment.
 #[derive(Clone, Copy, Debug, PartialEq, Eq, PartialOrd, Ord, Hash)]

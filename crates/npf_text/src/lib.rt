@@ -6,6 +6,6 @@
 // it may stand there.
 #![tactic(auto)]
 
-mod writing;
+mod write;
 
-pub use writing::{write_bytes, write_counted, write_number, write_text};
+pub use write::{write_bytes, write_counted, write_number, write_text};

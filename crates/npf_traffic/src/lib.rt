@@ -6,5 +6,7 @@
 #![tactic(auto)]
 
 mod packet;
+mod phase;
 
 pub use packet::{FragWhy, Packet, PacketBytes};
+pub use phase::{Command, Phase, Spread};

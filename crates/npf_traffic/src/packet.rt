@@ -1,3 +1,4 @@
+// A packet that is played.
 ghost use Rattle.std.specs.Prelude.{◌≡◌};
 ghost use Rattle.std.specs.Borrow.{sem};
 ghost use Rattle.npf_traffic.specs.Bytes.{LendsBytes};

@@ -1,23 +1,16 @@
 -- New stays of a hold: what it is building stays.
-use Rattle.std.proofs.Common.{◌≡◌, ℕ, ◌+◌, ◌≤◌, Bool, None, [], refl, sym, ap, ◌∙◌, subst, arith}
-use Rattle.std.specs.List.{Contains}
+use Rattle.std.{proofs.Common.{◌≡◌, ℕ, ◌+◌, ◌≤◌, Bool, None, [], refl, sym, ap, ◌∙◌, subst, arith}, specs.List.Contains}
 use Rattle.atomic_table.specs.Table.{Me}
 use Rattle.npf_types.specs.declared.key.Way.{Way}
-use Rattle.npf_core.specs.declared.conn_id.ConnId.{ConnId}
-use Rattle.npf_core.specs.History.{state_of}
-use Rattle.npf_core.specs.Machine.{HoldsNone}
-use Rattle.npf_core.specs.Meaning.{Meaning}
+use Rattle.npf_core.specs.{declared.conn_id.ConnId.ConnId, History.state_of, Machine.HoldsNone, Meaning.Meaning}
 use Rattle.npf_cells_words.specs.declared.layout.Layout.{Layout}
-use Rattle.npf_cells_rule.specs.declared.view.CellView.{CellView}
-use Rattle.npf_cells_pins.specs.declared.pin.EpochSide.{EpochSide}
-use Rattle.npf_cells_pins.specs.Pinning.{loading}
+use Rattle.npf_cells_rule.specs.{declared.view.CellView.CellView, Passes.IsProtected, Views.with_epochs}
+use Rattle.npf_cells_pins.specs.{declared.pin.EpochSide.EpochSide, Pinning.loading}
 use Rattle.npf_cells_moves.specs.Kinds.{unpinned}
-use Rattle.npf_cells_rule.specs.Passes.{IsProtected}
-use Rattle.npf_cells_rule.specs.Views.{with_epochs}
 use Rattle.npf_connections.specs.Worn.{last_epoch}
 use Rattle.npf_epoch.specs.Stays.{HasEntered}
 use Rattle.npf_turn.specs.TakingOff.{HasNoNodes, ReturnsNode}
-use Rattle.npf_trie.specs.HoldKey.{CanHold, HoldsOn, StaysAnew, having_held}
+use Rattle.npf_trie.specs.HoldKey.{CanHold, HoldsOn, StaysAnew, IsInNewStay, having_held}
 
 -- who can hold a key may clear a mark
 pub nodeless : {S A R : Type 0} {m : Meaning S A R} {layout : Layout} {v : CellView S A R} {id : ConnId} {way : Way} → CanHold m layout v id way → HasNoNodes v.pools
@@ -25,7 +18,18 @@ nodeless can = record { nodes = can.nodes; unfreed = can.unfreed }
 
 module _ {S A R F : Type 0} where
   pub anew_self : (a : Me F (CellView S A R)) → IsProtected a.0.epochs.pin → StaysAnew a a
-  anew_self a protected = record { is = refl; history = refl; sweeps = omega arith; unpublished = refl; noted = refl; places = omega arith; protected = protected; greatest = omega arith; known = omega arith; most = λ low. low }
+  anew_self a protected = record {
+    is = refl;
+    history = refl;
+    sweeps = omega arith;
+    unpublished = refl;
+    noted = refl;
+    places = omega arith;
+    protected = protected;
+    greatest = omega arith;
+    known = omega arith;
+    most = λ low. low;
+  }
 
   pub anew_after : (a b c : Me F (CellView S A R)) → StaysAnew a b → StaysAnew b c → StaysAnew a c
   anew_after a b c ab bc =
@@ -81,19 +85,30 @@ module _ {S A R F : Type 0} where
   }
 
   -- a stay is ended and another begun, in which a mark may have been cleared
-  module _ (a left tried entered loaded now : Me F (CellView S A R)) (epoch : ℕ) (freed : Bool) (leaves : left ≡ unpinned a) (tries : tried ≡ with_epochs left tried.0.epochs) (enters : entered ≡ with_epochs tried entered.0.epochs)
+  module _ (a left tried entered loaded now : Me F (CellView S A R)) (epoch : ℕ) (freed : Bool) (leaves : left ≡ unpinned a)
+      (tries : tried ≡ with_epochs left tried.0.epochs) (enters : entered ≡ with_epochs tried entered.0.epochs)
       (loads : loaded ≡ with_epochs entered (loading entered.0.epochs epoch)) (returns : ReturnsNode freed loaded now) (same : now.0.epochs ≡ loaded.0.epochs) where
     abbrev side : EpochSide
     side = loading entered.0.epochs epoch
 
     stays_loaded : loaded ≡ with_epochs (unpinned a) side
-    stays_loaded = loads ∙ (ap (λ (y : Me F (CellView S A R)). with_epochs y side) enters ∙ (ap (λ (y : Me F (CellView S A R)). with_epochs y side) tries ∙ ap (λ (y : Me F (CellView S A R)). with_epochs y side) leaves))
+    stays_loaded = loads ∙ (ap (λ (y : Me F (CellView S A R)). with_epochs y side) enters
+        ∙ (ap (λ (y : Me F (CellView S A R)). with_epochs y side) tries ∙ ap (λ (y : Me F (CellView S A R)). with_epochs y side) leaves))
 
     stays_is : now ≡ (
       record a.0 {
         epochs = now.0.epochs;
         pools = record a.0.pools { found = now.0.pools.found; stored = now.0.pools.stored };
-        trie = record a.0.trie { stands = None; leaf = None; seen = now.0.trie.seen; meets = now.0.trie.meets; answered = []; emptied = now.0.trie.emptied; met_mark = now.0.trie.met_mark; regained = now.0.trie.regained };
+        trie = record a.0.trie {
+          stands = None;
+          leaf = None;
+          seen = now.0.trie.seen;
+          meets = now.0.trie.meets;
+          answered = [];
+          emptied = now.0.trie.emptied;
+          met_mark = now.0.trie.met_mark;
+          regained = now.0.trie.regained;
+        };
       },
       a.1,
     )
@@ -107,6 +122,14 @@ module _ {S A R F : Type 0} where
           },
           y.1,
         ) in z) stays_loaded
+
+    pub in_new_stay : IsProtected entered.0.epochs.pin → IsInNewStay now.0
+    in_new_stay protected = record {
+      protected = subst (λ (e : EpochSide). IsProtected e.pin) (sym (same ∙ ap (λ (y : Me F (CellView S A R)). y.0.epochs) loads)) protected;
+      stands = ap (λ (y : Me F (CellView S A R)). y.0.trie.stands) stays_is;
+      leaf = ap (λ (y : Me F (CellView S A R)). y.0.trie.leaf) stays_is;
+      answered = ap (λ (y : Me F (CellView S A R)). y.0.trie.answered) stays_is;
+    }
 
     pub stays_anew : HasEntered tried.0.epochs entered.0.epochs → IsProtected entered.0.epochs.pin → left.0.epochs.greatest ≤ tried.0.epochs.greatest → left.0.epochs.known ≤ tried.0.epochs.known →
         (left.0.epochs.greatest ≤ last_epoch → tried.0.epochs.greatest ≤ last_epoch) → epoch ≤ last_epoch → StaysAnew a now

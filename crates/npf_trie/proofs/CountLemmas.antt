@@ -1,23 +1,15 @@
 -- How many places of the trie a pass has loaded: each load is counted, and what else a hold does loads none.
 use Rattle.std.proofs.Common.{◌≡◌, ℕ, ◌+◌, Bool, true, false, Some, refl, sym, ap, subst, inl, inr}
 use Rattle.atomic_table.specs.Table.{Me}
-use Rattle.npf_core.specs.Machine.{is_key}
-use Rattle.npf_core.specs.Meaning.{Meaning}
+use Rattle.npf_core.specs.{Machine.is_key, Meaning.Meaning}
 use Rattle.npf_types.specs.declared.key.Key.{Key}
-use Rattle.npf_paths.specs.declared.cell.Cell.{Cell}
-use Rattle.npf_paths.specs.declared.cell.Cell.TheVariants.{Empty, Leaf, Node, Mark}
-use Rattle.npf_cells_holds.specs.declared.aim.Aim.{Aim}
-use Rattle.npf_cells_holds.specs.Aims.{TellsAim}
-use Rattle.npf_cells_holds.specs.HoldKinds.{HoldsAt}
-use Rattle.npf_cells_holds.specs.PublishKinds.{Published, HasHeld}
+use Rattle.npf_paths.specs.declared.cell.Cell.{Cell, TheVariants.{Empty, Leaf, Node, Mark}}
+use Rattle.npf_cells_holds.specs.{declared.aim.Aim.Aim, Aims.TellsAim, HoldKinds.HoldsAt, PublishKinds.{Published, HasHeld}}
 use Rattle.npf_cells_leaves.specs.declared.trie.TrieSide.{TrieSide}
 use Rattle.npf_cells_lives.specs.declared.pools.PoolSide.{PoolSide}
-use Rattle.npf_cells_rule.specs.declared.view.CellView.{CellView}
-use Rattle.npf_cells_rule.specs.Views.{with_trie, with_pools}
+use Rattle.npf_cells_rule.specs.{declared.view.CellView.CellView, Views.{with_trie, with_pools}}
 use Rattle.npf_cells_words.specs.declared.layout.Layout.{Layout}
-use Rattle.npf_trie.specs.declared.step.Point.{Point}
-use Rattle.npf_trie.specs.declared.step.Wanted.{Wanted}
-use Rattle.npf_trie.specs.LookUp.{ComparesWords}
+use Rattle.npf_trie.specs.{declared.step.{Point.Point, Wanted.Wanted}, LookUp.ComparesWords}
 
 module _ {S A R F : Type 0} where
   pub by_pools : (a b : Me F (CellView S A R)) (side : PoolSide) → b ≡ with_pools a side → b.0.trie.places ≡ a.0.trie.places

@@ -1,54 +1,33 @@
 -- A place is filled under its lock.
-use Rattle.std.proofs.Common.{◌≡◌, ℕ, ◌<◌, Some, None, length, List, [], ◌∷◌, refl, sym, ap, ◌∙◌, subst, inl, arith}
-use Rattle.std.specs.List.{Contains}
+use Rattle.std.{proofs.Common.{◌≡◌, ℕ, ◌<◌, Some, None, length, List, [], ◌∷◌, refl, sym, ap, ◌∙◌, subst, inl, arith}, specs.List.Contains}
 use Rattle.atomic_table.specs.Table.{Me}
-use Rattle.npf_core.specs.Meaning.{Meaning}
-use Rattle.npf_core.specs.declared.held.Held.{Held}
-use Rattle.npf_types.specs.declared.key.Key.{Key}
-use Rattle.npf_types.specs.declared.key.Way.{Way}
-use Rattle.npf_core.specs.declared.found.Found.{Found}
-use Rattle.npf_paths.specs.declared.cell.Cell.{Cell}
-use Rattle.npf_paths.specs.declared.cell.Cell.TheVariants.{Empty, Leaf, Node, Mark}
-use Rattle.npf_paths.specs.declared.place.Lock.{Lock}
-use Rattle.npf_paths.specs.declared.place.Place.{Place}
-use Rattle.npf_paths.specs.Places.{lock_of}
-use Rattle.npf_cells_holds.specs.declared.aim.Aim.{Aim}
-use Rattle.npf_cells_words.specs.declared.layout.Layout.{Layout}
-use Rattle.npf_cells_rule.specs.declared.view.CellView.{CellView}
-use Rattle.npf_cells_leaves.specs.declared.trie.LoadedLeaf.{LoadedLeaf}
+use Rattle.npf_core.specs.{Meaning.Meaning, declared.{held.Held.Held, found.Found.Found}}
+use Rattle.npf_types.specs.declared.key.{Key.Key, Way.Way}
+use Rattle.npf_paths.specs.{declared.{cell.Cell.{Cell, TheVariants.{Empty, Leaf, Node, Mark}}, place.{Lock.Lock, Place.Place}}, Places.lock_of}
+use Rattle.npf_cells_holds.specs.{declared.aim.Aim.Aim, Aims.{MayAim, TellsAim, aim_key}, HoldKinds.MayHoldSo, LockKinds.locking, LookKinds.StandsOnPath}
+use Rattle.npf_cells_words.specs.{declared.layout.Layout.Layout, Codes.place_code, Layout.note_field}
+use Rattle.npf_cells_rule.specs.{declared.view.CellView.CellView, Views.{with_trie, with_pools}}
+use Rattle.npf_cells_leaves.specs.declared.trie.{LoadedLeaf.LoadedLeaf, TrieSide.TrieSide}
 use Rattle.npf_cells_lives.specs.declared.pools.StoredWord.{StoredWord}
-use Rattle.npf_cells_leaves.specs.declared.trie.TrieSide.{TrieSide}
-use Rattle.npf_cells_holds.specs.Aims.{MayAim, TellsAim, aim_key}
-use Rattle.npf_cells_holds.specs.HoldKinds.{MayHoldSo}
-use Rattle.npf_cells_holds.specs.LockKinds.{locking}
-use Rattle.npf_cells_holds.specs.LookKinds.{StandsOnPath}
-use Rattle.npf_cells_rule.specs.Views.{with_trie, with_pools}
-use Rattle.npf_cells_holds.specs.PublishKinds.{HasStoredKey, MayPublish, MayPublishFor, Published}
-use Rattle.npf_cells_holds.specs.PublishKinds.PutsFor.{fills}
-use Rattle.npf_trie.specs.declared.step.Met.{Met}
-use Rattle.npf_trie.specs.declared.step.Met.TheVariants.{Holder, Other}
-use Rattle.npf_trie.specs.declared.step.Point.{Point}
-use Rattle.npf_trie.specs.declared.step.Step.{Step}
-use Rattle.npf_trie.specs.declared.step.Step.TheVariants.{Ends, Leads, Again, Anew}
-use Rattle.npf_trie.specs.declared.step.Wanted.{Wanted}
-use Rattle.npf_trie.specs.HoldKey.{CanHold, IsAtPlace, StepsSo, TellsMet}
-use Rattle.npf_trie.specs.LookUp.{ComparesWords}
-use Rattle.npf_trie.specs.Stores.{MayStoreKey}
+use Rattle.npf_cells_holds.specs.PublishKinds.{HasStoredKey, MayPublish, MayPublishFor, Published, PutsFor.fills}
+use Rattle.npf_trie.specs.declared.step.{LeafKey.{LeafKey, TheVariants.{Holder, Other}}, Point.Point, Step.{Step, TheVariants.{Ends, Leads, Again, Anew}}}
+use Rattle.npf_trie.specs.{declared.step.Wanted.Wanted, HoldKey.{CanHold, IsAtPlace, StepsSo, TellsMet}, LookUp.ComparesWords, Stores.MayStoreKey}
 use Rattle.npf_turn.proofs.MarkLemmas.{none_in_place}
 use Rattle.npf_trie.proofs.StoreLemmas.{noting}
-use Rattle.npf_cells_words.specs.Codes.{place_code}
-use Rattle.npf_cells_words.specs.Layout.{note_field}
 use Rattle.npf_trie.proofs.HoldLemmas.{comes_after, comes_then, steps_so, StaysOn, stays_after, stays_trie, stays_stored, at_after, may_after}
 use Rattle.npf_trie.proofs.StepLemmas.{Comes, Loads, node_leads, mark_anew, sees_empty, empty_stays, holder_read_ends, other_read_stays, published_ends}
 
 -- what a load for the key asks, and tells
-pub aims_there : (digest : Key → ℕ) (side : TrieSide) (wanted : Wanted) (p : Place) (aim : Aim) → aim ≡ Aim.Hold wanted.id wanted.key wanted.way → StandsOnPath digest side wanted.key p → StandsOnPath digest side (aim_key aim) p
+pub aims_there : (digest : Key → ℕ) (side : TrieSide) (wanted : Wanted) (p : Place) (aim : Aim) → aim ≡ Aim.Hold wanted.id wanted.key wanted.way →
+    StandsOnPath digest side wanted.key p → StandsOnPath digest side (aim_key aim) p
 aims_there digest side wanted p aim aimed on = subst (λ (x : Aim). StandsOnPath digest side (aim_key x) p) (sym aimed) on
 
-pub aims_so : {S A R : Type 0} (m : Meaning S A R) (v : CellView S A R) (wanted : Wanted) (aim : Aim) → aim ≡ Aim.Hold wanted.id wanted.key wanted.way → MayHoldSo m v wanted.id wanted.way → MayAim m v aim
+pub aims_so : {S A R : Type 0} (m : Meaning S A R) (v : CellView S A R) (wanted : Wanted) (aim : Aim) →
+    aim ≡ Aim.Hold wanted.id wanted.key wanted.way → MayHoldSo m v wanted.id wanted.way → MayAim m v aim
 aims_so m v wanted aim aimed may = subst (λ (x : Aim). MayAim m v x) (sym aimed) may
 
-pub aim_tells : {S A R F : Type 0} (m : Meaning S A R) (digest : Key → ℕ) (layout : Layout) (wanted : Wanted) (point : Point) (aim : Aim) (cell : Cell) (a b : Me F (CellView S A R)) → aim ≡ Aim.Hold wanted.id wanted.key wanted.way →
+pub aim_tells : {S A R F : Type 0} (m : Meaning S A R) (digest : Key → ℕ) (layout : Layout) (wanted : Wanted) (point : Point) (aim : Aim) (cell : Cell) (a b : Me F (CellView S A R)) →
+    aim ≡ Aim.Hold wanted.id wanted.key wanted.way →
     TellsAim m digest layout aim point.place cell a b → Loads m digest layout wanted point cell a b
 aim_tells m digest layout wanted point aim cell a b aimed tells = subst (λ (x : Aim). TellsAim m digest layout x point.place cell a b) aimed tells
 
@@ -68,7 +47,8 @@ pub record IsReady {S A R F : Type 0} (m : Meaning S A R) (digest : Key → ℕ)
 
 -- it stored the key and got the lock
 pub ready_now : {S A R F : Type 0} (m : Meaning S A R) (digest : Key → ℕ) (layout : Layout) (wanted : Wanted) (point : Point) (lock : Lock) (words : List StoredWord) (a b d : Me F (CellView S A R)) →
-    CanHold m layout a.0 wanted.id wanted.way → a.0.trie.marks ≡ [] → IsAtPlace digest layout a.0 wanted.key point → lock ≡ lock_of point.place → b ≡ with_pools a (record a.0.pools { stored = words }) →
+    CanHold m layout a.0 wanted.id wanted.way → a.0.trie.marks ≡ [] → IsAtPlace digest layout a.0 wanted.key point →
+    lock ≡ lock_of point.place → b ≡ with_pools a (record a.0.pools { stored = words }) →
     HasStoredKey layout b.0.pools.stored wanted.id.slot wanted.way wanted.key → d ≡ with_trie b (locking lock b.0.trie) → IsReady m digest layout wanted point a d
 ready_now {S} {A} {R} {F} m digest layout wanted point lock words a b d can unmarked at is_lock stores has gets =
     let stays = stays_after a b d (stays_stored a b words stores) (stays_trie b d _ gets refl) in
@@ -93,7 +73,8 @@ left_anew {S} {A} {R} {F} m digest layout wanted point words a b d stores same =
     let is = same ∙ stores in
     steps_so m digest layout wanted point Anew a d (stays_stored a d words is) (ap (λ (y : Me F (CellView S A R)). y.0.trie.locks) is)
 
-module _ {S A R F : Type 0} {m : Meaning S A R} {digest : Key → ℕ} {layout : Layout} {wanted : Wanted} {point : Point} {a d : Me F (CellView S A R)} (ready : IsReady m digest layout wanted point a d) where
+module _ {S A R F : Type 0} {m : Meaning S A R} {digest : Key →
+    ℕ} {layout : Layout} {wanted : Wanted} {point : Point} {a d : Me F (CellView S A R)} (ready : IsReady m digest layout wanted point a d) where
   -- behind what it comes to under the lock the pass has no other
   pub only_lock : (step : Step) (e e' : Me F (CellView S A R)) (lock : Lock) → e' ≡ e → lock ≡ lock_of point.place → Comes m digest layout wanted point step d e → e'.0.trie.locks ≡ lock ∷ []
   only_lock step e e' lock same is came = ap (λ (y : Me F (CellView S A R)). y.0.trie.locks) same ∙ (came.locks ∙ (ready.locks ∙ ap (λ l. l ∷ []) (sym is)))
@@ -103,7 +84,8 @@ module _ {S A R F : Type 0} {m : Meaning S A R} {digest : Key → ℕ} {layout :
   still_unmarked step e e' same came = ap (λ (y : Me F (CellView S A R)). y.0.trie.marks) same ∙ (came.marks ∙ ready.unmarked)
 
   -- and frees it
-  pub freed_so : (step step' : Step) (e e' f : Me F (CellView S A R)) → step' ≡ step → e' ≡ e → f ≡ with_trie e' (record e'.0.trie { locks = []; emptied = None; met_mark = None }) → Comes m digest layout wanted point step d e → StepsSo m digest layout wanted point step' a f
+  pub freed_so : (step step' : Step) (e e' f : Me F (CellView S A R)) → step' ≡ step → e' ≡ e → f ≡ with_trie e' (record e'.0.trie { locks = []; emptied = None; met_mark = None }) →
+      Comes m digest layout wanted point step d e → StepsSo m digest layout wanted point step' a f
   freed_so step step' e e' f step_is same frees came =
       let came' : Comes m digest layout wanted point step d e' = subst (λ (y : Me F (CellView S A R)). Comes m digest layout wanted point step d y) (sym same) came in
       subst (λ (x : Step). StepsSo m digest layout wanted point x a f) (sym step_is) (steps_so m digest layout wanted point step a f
@@ -124,7 +106,7 @@ module _ {S A R F : Type 0} {m : Meaning S A R} {digest : Key → ℕ} {layout :
     came_mark e tells = mark_anew m digest layout wanted point d e (loads_so Mark e tells)
 
     module _ (slot : ℕ) (way : Way) (e f : Me F (CellView S A R)) (tells : Tells (Leaf slot way) e) (compares : ComparesWords 5 e f) where
-      abbrev pub IsTold : Met → Type 0
+      abbrev pub IsTold : LeafKey → Type 0
       IsTold met = (leaf : LoadedLeaf) → e.0.trie.leaf ≡ Some leaf → length leaf.key.0 ≡ 5 → TellsMet leaf wanted.key met
 
       pub came_holder : (found : Found) → IsTold (Holder found) → Comes m digest layout wanted point (Ends (Held.Taken found)) d f
@@ -145,9 +127,11 @@ module _ {S A R F : Type 0} {m : Meaning S A R} {digest : Key → ℕ} {layout :
       may_note = record { id = wanted.id; there = refl; hold = may_after m d e wanted.id wanted.way stayed.comes.0 ready.may }
 
       -- once its note names the place
-      module _ (leaf : Cell) (aim' : Aim) (aimed' : aim' ≡ Aim.Hold wanted.id wanted.key wanted.way) (value : ℕ) (n : Me F (CellView S A R)) (noted : n ≡ noting wanted.id.slot wanted.way value e) where
+      module _ (leaf : Cell) (aim' : Aim) (aimed' : aim' ≡ Aim.Hold wanted.id wanted.key wanted.way) (value : ℕ)
+          (n : Me F (CellView S A R)) (noted : n ≡ noting wanted.id.slot wanted.way value e) where
         pub may_fill : value ≡ place_code point.place → leaf ≡ Leaf wanted.id.slot wanted.way → MayPublish m digest layout n.0 point.place leaf (Some aim')
-        may_fill names leaf_is = subst (λ (x : Cell). MayPublish m digest layout n.0 point.place x (Some aim')) (sym leaf_is) (subst (λ (x : Aim). MayPublish m digest layout n.0 point.place (Leaf wanted.id.slot wanted.way) (Some x)) (sym aimed')
+        may_fill names leaf_is = subst (λ (x : Cell). MayPublish m digest layout n.0 point.place x (Some aim')) (sym leaf_is)
+            (subst (λ (x : Aim). MayPublish m digest layout n.0 point.place (Leaf wanted.id.slot wanted.way) (Some x)) (sym aimed')
             (subst (λ (y : Me F (CellView S A R)). MayPublishFor m digest layout y.0 wanted.id wanted.key wanted.way point.place (Leaf wanted.id.slot wanted.way)) (sym noted) (record {
               hold = let may = may_after m d e wanted.id wanted.way stayed.comes.0 ready.may in record { built = may.built; bare = may.bare };
               stands = stayed.comes.1.stands;

@@ -1,35 +1,16 @@
 -- Nodes that lead two keys on, from the foot up.
 use Rattle.std.proofs.Common.{◌≡◌, ◌≢◌, ℕ, ◌+◌, ◌%◌, ◌<◌, ◌≤◌, Bool, true, false, cond, eqb, eq-eqb, ne_eqb, List, [], ◌∷◌, length, slice_index, zero, suc, refl, sym, ap, ◌∙◌, subst, arith}
-use Rattle.std.specs.Prelude.{Contains}
-use Rattle.std.proofs.lemmas.Grind.{get_or_default_zero}
-use Rattle.npf_types.specs.declared.key.Key.{Key}
-use Rattle.npf_types.specs.declared.key.Way.{Way}
-use Rattle.npf_paths.specs.CellWords.{cell_word}
-use Rattle.npf_paths.specs.Digits.{digit_of, PartsAt}
-use Rattle.npf_paths.specs.declared.cell.Cell.{Cell}
+use Rattle.std.{specs.Prelude.Contains, proofs.lemmas.Grind.get_or_default_zero}
+use Rattle.npf_types.specs.declared.key.{Key.Key, Way.Way}
+use Rattle.npf_shelf.proofs.ListLemmas.{Contains-later, Contains-first}
+use Rattle.npf_paths.specs.{CellWords.cell_word, Digits.{digit_of, PartsAt}, declared.{cell.Cell.Cell, place.Place.{Place, TheVariants.Node}}, Growing.IsBranch}
 use Rattle.npf_paths.specs.declared.cell.Cell.TheVariants as Cells
-use Rattle.npf_paths.specs.declared.place.Place.{Place}
-use Rattle.npf_paths.specs.declared.place.Place.TheVariants.{Node}
-use Rattle.npf_paths.specs.Growing.{IsBranch}
-use Rattle.npf_paths.specs.Growing.IsBranch.{parts, goes_on}
-use Rattle.npf_paths.specs.LevelLaw.{AreApart}
-use Rattle.npf_paths.specs.Paths.{AreDigits}
-use Rattle.npf_paths.proofs.BranchLemmas.{branch_same}
-use Rattle.npf_cells_words.specs.declared.layout.Layout.{Layout}
-use Rattle.npf_cells_words.specs.declared.layout.Pool.TheVariants.{Nodes}
-use Rattle.npf_cells_lives.specs.declared.pools.PoolSide.{PoolSide}
-use Rattle.npf_cells_lives.specs.declared.pools.StoredWord.{StoredWord}
-use Rattle.npf_cells_words.specs.Layout.{parent_field, field_at}
-use Rattle.npf_cells_words.specs.Codes.{place_code}
+use Rattle.npf_paths.{specs.{Growing.IsBranch.{parts, goes_on}, LevelLaw.AreApart}, proofs.BranchLemmas.branch_same}
+use Rattle.npf_cells_words.specs.{declared.layout.{Layout.Layout, Pool.TheVariants.Nodes}, Layout.{parent_field, field_at}, Codes.place_code}
+use Rattle.npf_cells_leaves.{proofs.{TrieLemmas.are_digits, ParentLemmas.names_so}, specs.{Parents.NameParents, Trie.digits_of}}
+use Rattle.npf_cells_lives.specs.{declared.pools.{PoolSide.PoolSide, StoredWord.StoredWord}, Stored.stored_value}
 use Rattle.npf_cells_holds.specs.PublishKinds.{IsParentStored, cell_stored, stored_cell}
-use Rattle.npf_cells_lives.specs.Stored.{stored_value}
-use Rattle.npf_cells_leaves.specs.Parents.{NameParents}
-use Rattle.npf_cells_leaves.specs.Trie.{digits_of}
-use Rattle.npf_cells_leaves.proofs.ParentLemmas.{names_so}
 use Rattle.npf_trie.specs.Stores.{HasNewNodes, LiesOutside, KeepsOutside, forked_cell}
-
-are_digits : (digest : Key → ℕ) (key : Key) → AreDigits (digits_of digest key)
-are_digits digest key = record { root = grind arith; node = λ level h. grind arith }
 
 -- what stands at the first digit, at the second, and elsewhere
 at_mine : (d d' : ℕ) (leaf other : Cell) (digit : ℕ) → digit ≡ d → forked_cell d leaf d' other digit ≡ leaf
@@ -81,13 +62,6 @@ module _ (mine theirs : ℕ → ℕ) (cell : Place → Cell) (leaf other : Cell)
       (λ digit small not_mine. cells digit small ∙ at_neither d d (Cells.Node next) (Cells.Node next) digit (λ e. not_mine (e ∙ is)) (λ e. not_mine (e ∙ is)))
       below
 
--- the first node, and the others
-first_of : (node : ℕ) (rest : List ℕ) → Contains (node ∷ rest) node
-first_of node rest = (0, omega arith, refl)
-
-later_of : (node : ℕ) (rest : List ℕ) (n : ℕ) → Contains rest n → Contains (node ∷ rest) n
-later_of node rest n has = let within = has.1 in (suc has.0, omega arith, has.2)
-
 only_of : (node n : ℕ) → Contains (node ∷ []) n → n ≡ node
 only_of node n (zero, low, e) = sym e
 only_of node n (suc i, low, e) = absurd (omega (arith, low))
@@ -105,14 +79,14 @@ others_apart node rest n apart (i, low, at) e =
 
 module _ (layout : Layout) (nodes : List ℕ) (node : ℕ) (rest : List ℕ) (e : nodes ≡ node ∷ rest) where
   pub first_in : Contains nodes node
-  first_in = subst (λ xs. Contains xs node) (sym e) (first_of node rest)
+  first_in = subst (λ xs. Contains xs node) (sym e) (Contains-first node rest)
 
   pub rest_new : (side : PoolSide) → HasNewNodes layout side nodes → HasNewNodes layout side rest
   rest_new side new =
       let all = subst (λ xs. HasNewNodes layout side xs) e new in
       record {
-        exist = λ n has. all.exist n (later_of node rest n has);
-        owned = λ n has. all.owned n (later_of node rest n has);
+        exist = λ n has. all.exist n (Contains-later node n rest has);
+        owned = λ n has. all.owned n (Contains-later node n rest has);
         apart = λ i j low low' same. let one : suc i ≡ suc j = all.apart (suc i) (suc j) (omega (arith, low)) (omega (arith, low')) same in omega (arith, one);
       }
 
@@ -124,7 +98,7 @@ module _ (layout : Layout) (nodes : List ℕ) (node : ℕ) (rest : List ℕ) (e 
   parent_apart word out = out node parent_field first_in (omega arith)
 
   rest_outside : (word : ℕ) → LiesOutside layout 18 nodes word → LiesOutside layout 18 rest word
-  rest_outside word out n field has low = out n field (subst (λ xs. Contains xs n) (sym e) (later_of node rest n has)) low
+  rest_outside word out n field has low = out n field (subst (λ xs. Contains xs n) (sym e) (Contains-later node n rest has)) low
 
   -- the words of the others are outside the first, and its own outside the others
   others_outside : AreApart nodes → (n field : ℕ) → Contains rest n → field < 18 → LiesOutside layout 16 (node ∷ []) (field_at layout Nodes n field)
@@ -139,20 +113,24 @@ module _ (layout : Layout) (nodes : List ℕ) (node : ℕ) (rest : List ℕ) (e 
   parent_outside n field has low same = let is = only_of node n has in omega (arith, same, is, low)
 
   -- what is kept outside all of them: by the store of the first's parent, the stores in the others, and those in its places
-  pub keeps_foot : (old put now : List StoredWord) → ((word : ℕ) → field_at layout Nodes node parent_field ≢ word → stored_value layout put word ≡ stored_value layout old word) → KeepsOutside layout 16 (node ∷ []) put now → KeepsOutside layout 18 nodes old now
+  pub keeps_foot : (old put now : List StoredWord) → ((word : ℕ) → field_at layout Nodes node parent_field ≢ word → stored_value layout put word ≡ stored_value layout old word) →
+      KeepsOutside layout 16 (node ∷ []) put now → KeepsOutside layout 18 nodes old now
   keeps_foot old put now puts fills word out = fills word (first_outside word out) ∙ puts word (parent_apart word out)
 
-  pub keeps_above : (old put built now : List StoredWord) → ((word : ℕ) → field_at layout Nodes node parent_field ≢ word → stored_value layout put word ≡ stored_value layout old word) → KeepsOutside layout 18 rest put built → KeepsOutside layout 16 (node ∷ []) built now →
+  pub keeps_above : (old put built now : List StoredWord) → ((word : ℕ) → field_at layout Nodes node parent_field ≢ word → stored_value layout put word ≡ stored_value layout old word) →
+      KeepsOutside layout 18 rest put built → KeepsOutside layout 16 (node ∷ []) built now →
       KeepsOutside layout 18 nodes old now
   keeps_above old put built now puts builds fills word out = fills word (first_outside word out) ∙ (builds word (rest_outside word out) ∙ puts word (parent_apart word out))
 
   -- the parents of all of them are stored
-  pub foot_named : (mine : ℕ → ℕ) (level : ℕ) (p : Place) (put now : List StoredWord) → length rest ≡ 0 → IsParentStored layout put node (place_code p) → KeepsOutside layout 16 (node ∷ []) put now → NameParents mine (IsParentStored layout now) level p nodes
+  pub foot_named : (mine : ℕ → ℕ) (level : ℕ) (p : Place) (put now : List StoredWord) → length rest ≡ 0 → IsParentStored layout put node (place_code p) →
+      KeepsOutside layout 16 (node ∷ []) put now → NameParents mine (IsParentStored layout now) level p nodes
   foot_named mine level p put now none there fills =
       let one : nodes ≡ node ∷ [] = e ∙ ap (λ xs. node ∷ xs) (none_left rest none) in
       subst (λ xs. NameParents mine (IsParentStored layout now) level p xs) (sym one) (fills (field_at layout Nodes node parent_field) parent_outside ∙ there, tt)
 
-  pub above_named : (mine : ℕ → ℕ) (level d : ℕ) (p : Place) (put built now : List StoredWord) → AreApart nodes → d ≡ mine level → IsParentStored layout put node (place_code p) → KeepsOutside layout 18 rest put built → KeepsOutside layout 16 (node ∷ []) built now →
+  pub above_named : (mine : ℕ → ℕ) (level d : ℕ) (p : Place) (put built now : List StoredWord) → AreApart nodes → d ≡ mine level →
+      IsParentStored layout put node (place_code p) → KeepsOutside layout 18 rest put built → KeepsOutside layout 16 (node ∷ []) built now →
       NameParents mine (IsParentStored layout built) (level + 1) (Node node d) rest → NameParents mine (IsParentStored layout now) level p nodes
   above_named mine level d p put built now apart is there builds fills below =
       let still = names_so mine (IsParentStored layout built) (IsParentStored layout now) (level + 1) (Node node d) rest
@@ -162,7 +140,8 @@ module _ (layout : Layout) (nodes : List ℕ) (node : ℕ) (rest : List ℕ) (e 
         subst (λ x. NameParents mine (IsParentStored layout now) (level + 1) (Node node x) rest) is still,
       )
 
-  module _ (digest : Key → ℕ) (key other : Key) (hash hash' level : ℕ) (hashed : hash ≡ digest key) (hashed' : hash' ≡ digest other) (parting : PartsAt hash key hash' other (level + length nodes)) where
+  module _ (digest : Key → ℕ) (key other : Key) (hash hash' level : ℕ) (hashed : hash ≡ digest key)
+      (hashed' : hash' ≡ digest other) (parting : PartsAt hash key hash' other (level + length nodes)) where
     digit_is : (l : ℕ) → digit_of hash key l ≡ digits_of digest key l
     digit_is l = ap (λ h. digit_of h key l) hashed
 
@@ -177,7 +156,8 @@ module _ (layout : Layout) (nodes : List ℕ) (node : ℕ) (rest : List ℕ) (e 
         let one : nodes ≡ node ∷ [] = e ∙ ap (λ xs. node ∷ xs) (none_left rest none) in
         let at : level + length nodes ≡ level + 1 = ap (λ xs. level + length xs) one in
         subst (λ xs. IsBranch (digits_of digest key) (digits_of digest other) cell leaf other_leaf (level + 1) (slice_index xs 0) xs) (sym one)
-        (foot (digits_of digest key) (digits_of digest other) cell leaf other_leaf (level + 1) node d (is ∙ digit_is (level + 1)) ((are_digits digest key).node (level + 1) (omega arith)) d' (is' ∙ digit_is' (level + 1))
+        (foot (digits_of digest key) (digits_of digest other) cell leaf other_leaf (level + 1) node d (is ∙ digit_is (level + 1))
+        ((are_digits digest key).node (level + 1) (omega arith)) d' (is' ∙ digit_is' (level + 1))
         ((are_digits digest other).node (level + 1) (omega arith))
         (λ same. parting.here (subst (λ l. digit_of hash key l ≡ digit_of hash' other l) (sym at) (digit_is (level + 1) ∙ (same ∙ sym (digit_is' (level + 1))))))
         cells)
@@ -194,5 +174,6 @@ module _ (layout : Layout) (nodes : List ℕ) (node : ℕ) (rest : List ℕ) (e 
         let still = branch_same below (are_digits digest key) (are_digits digest other) (omega arith)
         (λ n digit has low. ap stored_cell (keeps (field_at layout Nodes n digit) (others_outside apart n digit has (omega (arith, low))))) in
         subst (λ xs. IsBranch (digits_of digest key) (digits_of digest other) (cell_stored layout now) leaf other_leaf (level + 1) (slice_index xs 0) xs) (sym e)
-        (above (digits_of digest key) (digits_of digest other) (cell_stored layout now) leaf other_leaf (level + 1) node d (is ∙ digit_is (level + 1)) ((are_digits digest key).node (level + 1) (omega arith))
+        (above (digits_of digest key) (digits_of digest other) (cell_stored layout now) leaf other_leaf (level + 1) node d
+        (is ∙ digit_is (level + 1)) ((are_digits digest key).node (level + 1) (omega arith))
         (slice_index rest 0) rest agree cells still)

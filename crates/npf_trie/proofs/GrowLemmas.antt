@@ -1,47 +1,23 @@
 -- What a pass has once it built nodes and locked the place where they are to hang, and what it has once it unlocked it.
+use Rattle.std.proofs.lemmas.List.{length-append}
 use Rattle.std.proofs.Common.{◌≡◌, ◌≢◌, ℕ, ◌+◌, ◌-◌, ◌≤◌, ◌<◌, ◌∷◌, [], ◌++◌, None, List, zero, suc, length, slice_index, refl, sym, ap, ◌∙◌, subst, arith}
 use Rattle.atomic_table.specs.Table.{Me}
 use Rattle.npf_types.specs.declared.key.Key.{Key}
-use Rattle.npf_core.specs.declared.entry.Entry.{Entry}
-use Rattle.npf_core.specs.declared.held.Held.{Held}
-use Rattle.npf_core.specs.Meaning.{Meaning}
-use Rattle.npf_connections.specs.Adding.{AddsOwn}
-use Rattle.npf_connections.specs.Entries.{hold_entries}
-use Rattle.npf_connections.specs.Pass.{Pass, IsPass}
-use Rattle.npf_paths.specs.Digits.{PartsAt, digit_of}
-use Rattle.npf_paths.specs.declared.cell.Cell.{Cell}
+use Rattle.npf_core.specs.{declared.{entry.Entry.Entry, held.Held.Held}, Meaning.Meaning}
+use Rattle.npf_connections.specs.{Adding.AddsOwn, Entries.hold_entries, Pass.{Pass, IsPass}}
+use Rattle.npf_paths.{specs.{Digits.{PartsAt, digit_of}, declared.{cell.Cell.Cell, place.Place.Place}, Growing.IsBranch}, proofs.BranchLemmas.branch_same}
 use Rattle.npf_paths.specs.declared.cell.Cell.TheVariants as Cells
 use Rattle.npf_paths.specs.declared.place.Place.TheVariants as Places
-use Rattle.npf_paths.specs.declared.place.Place.{Place}
-use Rattle.npf_paths.specs.Growing.{IsBranch}
-use Rattle.npf_paths.specs.Paths.{AreDigits}
-use Rattle.npf_paths.proofs.BranchLemmas.{branch_same}
-use Rattle.npf_cells_words.specs.declared.layout.Layout.{Layout}
-use Rattle.npf_cells_rule.specs.declared.view.CellView.{CellView}
-use Rattle.npf_cells_lives.specs.declared.pools.PoolSide.{PoolSide}
-use Rattle.npf_cells_lives.specs.declared.pools.StoredWord.{StoredWord}
-use Rattle.npf_cells_leaves.specs.declared.trie.TrieSide.{TrieSide}
-use Rattle.npf_cells_holds.specs.HoldKinds.{MayHoldSo}
-use Rattle.npf_cells_rule.specs.Views.{with_pools}
-use Rattle.npf_cells_rule.specs.Passes.{cell_pass}
-use Rattle.npf_cells_holds.specs.PublishKinds.{HasStoredKey, IsParentStored, cell_stored, stored_cell}
-use Rattle.npf_cells_words.specs.declared.layout.Pool.TheVariants.{Nodes}
-use Rattle.npf_cells_words.specs.Layout.{parent_field, note_field, field_at}
-use Rattle.npf_cells_leaves.proofs.ParentLemmas.{names_so}
-use Rattle.npf_cells_leaves.specs.Parents.{foot_place, NameParents}
-use Rattle.npf_cells_lives.specs.declared.pools.Note.{Note}
-use Rattle.npf_cells_lives.specs.Notes.{notes_but, with_ahead}
-use Rattle.npf_trie.specs.declared.step.Branch.{Branch}
-use Rattle.npf_trie.specs.Stores.{KeepsNodes}
+use Rattle.npf_cells_words.specs.{declared.layout.{Layout.Layout, Pool.TheVariants.Nodes}, Layout.{parent_field, note_field, field_at}}
+use Rattle.npf_cells_leaves.{proofs.{TrieLemmas.are_digits, ParentLemmas.names_so}, specs.{declared.trie.TrieSide.TrieSide, Parents.{foot_place, NameParents}}}
+use Rattle.npf_cells_rule.specs.{declared.view.CellView.CellView, Views.with_pools, Passes.cell_pass}
+use Rattle.npf_cells_lives.specs.{declared.pools.{PoolSide.PoolSide, StoredWord.StoredWord, Note.Note}, Notes.{notes_but, with_ahead}}
+use Rattle.npf_cells_holds.specs.{HoldKinds.MayHoldSo, PublishKinds.{HasStoredKey, IsParentStored, cell_stored, stored_cell}}
+use Rattle.npf_trie.specs.{declared.step.{Branch.Branch, OtherLeaf.OtherLeaf, Point.Point, Step.Step}, Stores.KeepsNodes}
 use Rattle.npf_cells_leaves.specs.Trie.{digits_of}
-use Rattle.npf_trie.specs.declared.step.OtherLeaf.{OtherLeaf}
-use Rattle.npf_trie.specs.declared.step.Point.{Point}
-use Rattle.npf_trie.specs.declared.step.Step.{Step}
-use Rattle.npf_trie.specs.declared.step.Step.TheVariants.{Ends, Leads, Again, Anew}
-use Rattle.npf_trie.specs.declared.step.Wanted.{Wanted}
+use Rattle.npf_trie.specs.declared.step.{Step.TheVariants.{Ends, Leads, Again, Anew}, Wanted.Wanted}
 use Rattle.npf_trie.specs.HoldKey.{CanHold, SettlesHold, HoldsOn, IsAtPlace, StepsSo, having_held, noted_after, HasGrown, HoldsNodes, HasHung, HangsSo, HasMet}
-use Rattle.npf_trie.specs.Nodes.{TakesNodes, FindsTooFew, left_with}
-use Rattle.npf_trie.proofs.HangLemmas.{place_stays}
+use Rattle.npf_trie.{specs.Nodes.{TakesNodes, FindsTooFew, left_with}, proofs.HangLemmas.place_stays}
 
 -- the level at which two keys part, by its distance from this one
 pub parts_below : (hash hash' mine theirs : ℕ) (key other : Key) (parting level long : ℕ) → PartsAt hash key hash' other parting → hash ≡ mine → hash' ≡ theirs → level < parting →
@@ -50,19 +26,13 @@ parts_below hash hash' mine theirs key other parting level long parts is is' bel
     let same : parting ≡ level + long = omega arith in
     subst (λ l. PartsAt mine key theirs other l) same (subst (λ h. PartsAt h key theirs other parting) is (subst (λ h. PartsAt hash key h other parting) is' parts))
 
-digits_fit : (digest : Key → ℕ) (key : Key) → AreDigits (digits_of digest key)
-digits_fit digest key = record { root = grind arith; node = λ level h. grind arith }
-
-nothing_ends : {E : Type 0} (init : List E) (last : E) → [] ≡ init ++ last ∷ [] → ⊥
-nothing_ends [] last e = cc
-nothing_ends (x ∷ init) last e = cc
-
 all_there : {E : Type 0} (xs : List E) → xs ≡ xs ++ []
 all_there [] = refl
 all_there (x ∷ xs) = ap (λ ys. x ∷ ys) (all_there xs)
 
 -- the place at the foot of new nodes is one of the last
-pub foot_is : (digits : ℕ → ℕ) (level : ℕ) (p : Place) (nodes : List ℕ) (last : ℕ) → last + 1 ≡ length nodes → foot_place digits level p nodes ≡ Places.Node (slice_index nodes last) (digits (level + last))
+pub foot_is : (digits : ℕ → ℕ) (level : ℕ) (p : Place) (nodes : List ℕ) (last : ℕ) → last + 1 ≡ length nodes →
+    foot_place digits level p nodes ≡ Places.Node (slice_index nodes last) (digits (level + last))
 foot_is digits level p [] last counted = absurd (omega (arith, counted))
 foot_is digits level p (node ∷ []) last counted = let none : last ≡ 0 = omega (arith, counted) in
     (λ i. Places.Node node (digits ((let same : level ≡ level + 0 = omega arith in same) i))) ∙ ap (λ n. Places.Node (slice_index (node ∷ []) n) (digits (level + n))) (sym none)
@@ -72,7 +42,8 @@ foot_is digits level p (node ∷ next ∷ rest) (suc last) counted =
     ∙ (λ i. Places.Node (slice_index (next ∷ rest) last) (digits ((let same : level + 1 + last ≡ level + suc last = omega arith in same) i)))
 
 -- a key's place in the last of the nodes that were taken is at their foot
-pub foot_of : (digest : Key → ℕ) (hash : ℕ) (key : Key) (level parting : ℕ) (p : Place) (nodes : List ℕ) (node : ℕ) (place : Place) → hash ≡ digest key → level < parting → length nodes ≡ parting - level → node ≡ slice_index nodes (parting - level - 1) →
+pub foot_of : (digest : Key → ℕ) (hash : ℕ) (key : Key) (level parting : ℕ) (p : Place) (nodes : List ℕ) (node : ℕ) (place : Place) →
+    hash ≡ digest key → level < parting → length nodes ≡ parting - level → node ≡ slice_index nodes (parting - level - 1) →
     place ≡ Places.Node node (digit_of hash key parting) → place ≡ foot_place (digits_of digest key) (level + 1) p nodes
 foot_of digest hash key level parting p nodes node place hashed below counted node_is is =
     let same : parting ≡ level + 1 + (parting - level - 1) = omega (arith, below) in
@@ -146,13 +117,15 @@ module _ {S A R F : Type 0} where
       let nodes = ap (λ ns. let y : Me F (CellView S A R) = (settled old.0 history pools found ns stored notes side, old.1) in y) (sym none) in
       subst (λ (y : Me F (CellView S A R)). y ≡ (having_held old.0 y.0, old.1)) (sym (is ∙ nodes)) refl
 
-module _ {S A R F : Type 0} (m : Meaning S A R) (digest : Key → ℕ) (layout : Layout) (wanted : Wanted) (point : Point) (old : Me F (CellView S A R)) (can : CanHold m layout old.0 wanted.id wanted.way) where
+module _ {S A R F : Type 0} (m : Meaning S A R) (digest : Key → ℕ) (layout : Layout) (wanted : Wanted) (point : Point)
+    (old : Me F (CellView S A R)) (can : CanHold m layout old.0 wanted.id wanted.way) where
   -- too few nodes were left: no entry
-  pub ends_without : (other : OtherLeaf) (now : Me F (CellView S A R)) → HasMet old.0.trie wanted.key point.level other → FindsTooFew layout old now → SettlesHold m layout wanted.id wanted.key wanted.way Held.NoNode old now
+  pub ends_without : (other : OtherLeaf) (now : Me F (CellView S A R)) → HasMet old.0.trie wanted.key point.level other →
+      FindsTooFew layout old now → SettlesHold m layout wanted.id wanted.key wanted.way Held.NoNode old now
   ends_without other now met few = record {
     adds = record {
       adds = record { rest = []; goes_on = ap (λ (y : Me F (CellView S A R)). y.0.seats.history) few.is ∙ all_there old.0.seats.history; own = refl; listed = λ number has. refl };
-      ends = λ init last e. absurd (nothing_ends init last e);
+      ends = λ init last e. absurd (omega (arith, ap length e, length-append init (last ∷ [])));
     };
     legal = λ differs. absurd (differs refl);
     same = λ e. ap (λ (y : Me F (CellView S A R)). y.0.seats.history) few.is;
@@ -174,9 +147,11 @@ module _ {S A R F : Type 0} (m : Meaning S A R) (digest : Key → ℕ) (layout :
   pub has_grown : (branch : Branch) (count : ℕ) (nodes : List ℕ) (took filled : Me F (CellView S A R)) (before stored : List StoredWord) → IsAtPlace digest layout old.0 wanted.key point →
       TakesNodes layout count nodes old took → filled ≡ (readied old.0 took.0.pools stored, old.1) → HasStoredKey layout stored wanted.id.slot wanted.way wanted.key →
       KeepsNodes layout before stored →
-      IsBranch (digits_of digest wanted.key) (digits_of digest branch.other.key) (cell_stored layout before) (Cells.Leaf wanted.id.slot wanted.way) (Cells.Leaf branch.other.slot branch.other.way) (point.level + 1) branch.first nodes →
+      IsBranch (digits_of digest wanted.key) (digits_of digest branch.other.key) (cell_stored layout before) (Cells.Leaf wanted.id.slot wanted.way)
+      (Cells.Leaf branch.other.slot branch.other.way) (point.level + 1) branch.first nodes →
       NameParents (digits_of digest wanted.key) (IsParentStored layout before) (point.level + 1) point.place nodes → 1 ≤ length nodes →
-      branch.own_place ≡ foot_place (digits_of digest wanted.key) (point.level + 1) point.place nodes → branch.moved_to ≡ foot_place (digits_of digest branch.other.key) (point.level + 1) point.place nodes →
+      branch.own_place ≡ foot_place (digits_of digest wanted.key) (point.level + 1) point.place nodes →
+      branch.moved_to ≡ foot_place (digits_of digest branch.other.key) (point.level + 1) point.place nodes →
       old.0.trie.marks ≡ [] → HasGrown m digest layout filled.0 wanted point branch
   has_grown branch count nodes took filled before stored at takes ready key_stored keeps leads parents some own moved unmarked =
       let made : HasGrown m digest layout (readied old.0 took.0.pools stored) wanted point branch = record {
@@ -187,7 +162,8 @@ module _ {S A R F : Type 0} (m : Meaning S A R) (digest : Key → ℕ) (layout :
         at = place_stays digest layout old.0 _ wanted.key point refl at;
         key_stored = key_stored;
         nodes = nodes;
-        leads = branch_same leads (digits_fit digest wanted.key) (digits_fit digest branch.other.key) (omega arith) (λ node digit has low. let within = takes.within node has in ap stored_cell (keeps (field_at layout Nodes node digit) (omega (arith, within, low))));
+        leads = branch_same leads (are_digits digest wanted.key) (are_digits digest branch.other.key) (omega arith) (λ node digit has low. let within = takes.within node has in
+            ap stored_cell (keeps (field_at layout Nodes node digit) (omega (arith, within, low))));
         owned = takes.owned;
         apart = takes.apart;
         parents = names_so (digits_of digest wanted.key) (IsParentStored layout before) (IsParentStored layout stored) (point.level + 1) point.place nodes
@@ -257,10 +233,18 @@ module _ {S A R F : Type 0} (m : Meaning S A R) (digest : Key → ℕ) (layout :
 
     -- and then they are given back
     module _ (now : Me F (CellView S A R)) (found : ℕ) (left : List StoredWord) (gives : now ≡ gave_back found left hung) where
-      at_end : (history : List (Entry S A R)) (side : TrieSide) → hung ≡ (record filled.0 { seats = record filled.0.seats { history = history }; trie = record side { locks = filled.0.trie.locks; marks = filled.0.trie.marks } }, filled.1) →
+      at_end : (history : List (Entry S A R)) (side : TrieSide) →
+          hung ≡ (record filled.0 { seats = record filled.0.seats { history = history }; trie = record side { locks = filled.0.trie.locks; marks = filled.0.trie.marks } }, filled.1) →
           now ≡ (settled old.0 history pools found [] left old.0.pools.notes side, old.1)
       at_end history side stays =
-          gives ∙ ap (gave_back found left) (stays ∙ ap (λ (y : Me F (CellView S A R)). (record y.0 { seats = record y.0.seats { history = history }; trie = record side { locks = y.0.trie.locks; marks = y.0.trie.marks } }, y.1)) ready)
+          gives ∙ ap (gave_back found left)
+          (stays ∙ ap (λ (y : Me F (CellView S A R)). (
+            record y.0 {
+              seats = record y.0.seats { history = history };
+              trie = record side { locks = y.0.trie.locks; marks = y.0.trie.marks };
+            },
+            y.1,
+          )) ready)
 
       same_place : (point' : Point) → IsAtPlace digest layout hung.0 wanted.key point' → IsAtPlace digest layout now.0 wanted.key point'
       same_place point' at = place_stays digest layout hung.0 now.0 wanted.key point' (ap (λ (y : Me F (CellView S A R)). y.0.trie.stands) gives) at

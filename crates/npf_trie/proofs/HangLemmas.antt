@@ -1,72 +1,32 @@
 -- What a pass meets in a place that it has locked, and what it has once it hung its new nodes there.
 use Rattle.std.proofs.Common.{◌≡◌, ◌≢◌, ℕ, ◌+◌, ◌^◌, ◌<◌, ◌∷◌, [], Bool, true, false, Option, Some, None, List, length, refl, sym, ap, ◌∙◌, subst, arith}
-use Rattle.std.specs.Prelude.{nat_eq, ◌&&◌}
-use Rattle.std.proofs.lemmas.Bool.Decides.{Decides-and, Decides-eqb}
+use Rattle.std.{specs.Prelude.{nat_eq, ◌&&◌}, proofs.lemmas.Bool.Decides.{Decides-and, Decides-eqb}}
 use denote.Enum.Bare.{sameb}
 use Rattle.atomic_table.specs.Table.{Me}
-use Rattle.npf_types.specs.declared.key.Key.{Key}
-use Rattle.npf_types.specs.declared.key.Way.{Way}
-use Rattle.npf_types.specs.declared.key.Way.TheVariants.{Forward, Backward, Port}
-use Rattle.npf_types.specs.contracts.key.Way.{the_type}
-use Rattle.npf_core.specs.declared.conn_id.ConnId.{ConnId}
-use Rattle.npf_core.specs.declared.entry.Entry.{Entry}
-use Rattle.npf_core.specs.declared.found.Found.{Found}
-use Rattle.npf_core.specs.declared.held.Held.{Held}
-use Rattle.npf_core.specs.Machine.{is_key}
-use Rattle.npf_core.specs.Meaning.{Meaning}
+use Rattle.npf_types.specs.{declared.key.{Key.Key, Way.{Way, TheVariants.{Forward, Backward, Port}}}, contracts.key.Way.the_type}
+use Rattle.npf_core.specs.{declared.{conn_id.ConnId.ConnId, entry.Entry.Entry, found.Found.Found, held.Held.Held}, Machine.is_key, Meaning.Meaning}
 use Rattle.npf_core.proofs.EqualityLemmas.{is_key-Decides}
-use Rattle.npf_connections.specs.Adding.{AddsOwn}
-use Rattle.npf_connections.specs.Entries.{hold_entries}
-use Rattle.npf_connections.specs.Pass.{IsPass}
-use Rattle.npf_paths.specs.declared.cell.Cell.{Cell}
+use Rattle.npf_connections.specs.{Adding.AddsOwn, Entries.hold_entries, Pass.IsPass}
+use Rattle.npf_paths.specs.{declared.{cell.Cell.Cell, place.{Place.Place, Lock.Lock}}, Growing.{IsBranch, IsBranch.{parts, goes_on}}, Places.lock_of}
 use Rattle.npf_paths.specs.declared.cell.Cell.TheVariants as Cells
-use Rattle.npf_paths.specs.declared.place.Place.{Place}
 use Rattle.npf_paths.specs.declared.place.Place.TheVariants as Places
-use Rattle.npf_paths.specs.Growing.{IsBranch}
-use Rattle.npf_paths.specs.Growing.IsBranch.{parts, goes_on}
-use Rattle.npf_paths.specs.Places.{lock_of}
-use Rattle.npf_cells_holds.specs.declared.aim.Aim.{Aim}
-use Rattle.npf_cells_holds.specs.declared.aim.Aim.TheVariants.{Hold}
-use Rattle.npf_cells_words.specs.declared.layout.Layout.{Layout}
-use Rattle.npf_cells_rule.specs.declared.view.CellView.{CellView}
-use Rattle.npf_cells_leaves.specs.declared.trie.LoadedLeaf.{LoadedLeaf}
-use Rattle.npf_cells_leaves.specs.declared.trie.TrieSide.{TrieSide}
-use Rattle.npf_cells_holds.specs.Aims.{TellsAim}
-use Rattle.npf_cells_holds.specs.HoldKinds.{meeting, renewed, HasMetHolder, MeetsLeaf, HoldsAt}
+use Rattle.npf_cells_holds.specs.{declared.aim.Aim.{Aim, TheVariants.Hold}, Aims.TellsAim, HoldKinds.{meeting, renewed, HasMetHolder, MeetsLeaf, HoldsAt}}
+use Rattle.npf_cells_words.specs.{declared.layout.Layout.Layout, Codes.place_code, Layout.note_field}
+use Rattle.npf_cells_rule.specs.{declared.view.CellView.CellView, Views.with_trie, Passes.{IsProtected, cell_pass}}
+use Rattle.npf_cells_leaves.specs.{declared.trie.{LoadedLeaf.LoadedLeaf, TrieSide.TrieSide}, Parents.{foot_place, NameParents}, Sights.SeesLocked}
 use Rattle.npf_cells_holds.specs.LookKinds.{StandsOnPath, level_of, level_at, IsLeafIn, IsLeafOf}
-use Rattle.npf_cells_rule.specs.Views.{with_trie}
-use Rattle.npf_cells_rule.specs.Passes.{IsProtected, cell_pass}
 use Rattle.npf_cells_holds.specs.PublishKinds.{MayPublish, MayPublishFor, IsParentStored, GrowsNodes, PutsFor, IsAheadTo, MovesLeaf, HasHeld, Published, nodes_but, publishing, cell_stored}
-use Rattle.npf_cells_holds.specs.PublishKinds.PutsFor.{fills, grows}
-use Rattle.npf_cells_holds.specs.LockKinds.{locking}
-use Rattle.npf_cells_leaves.specs.Parents.{foot_place, NameParents}
-use Rattle.npf_cells_leaves.specs.Sights.{SeesLocked}
-use Rattle.npf_cells_lives.specs.declared.pools.Note.{Note}
-use Rattle.npf_cells_lives.specs.declared.pools.StoredWord.{StoredWord}
-use Rattle.npf_cells_lives.specs.declared.turn.Ahead.{Ahead}
-use Rattle.npf_cells_lives.specs.declared.turn.Turn.{Turn}
-use Rattle.npf_cells_lives.specs.Notes.{notes_but, with_ahead}
+use Rattle.npf_cells_holds.specs.{PublishKinds.PutsFor.{fills, grows}, LockKinds.locking}
+use Rattle.npf_cells_lives.specs.{declared.{pools.{Note.Note, StoredWord.StoredWord}, turn.{Ahead.Ahead, Turn.Turn}}, Notes.{notes_but, with_ahead}}
 use Rattle.npf_cells_lives.specs.Turns.{Running}
 use Rattle.npf_cells_takes.specs.PrivateKinds.{MayStoreAhead, leading}
-use Rattle.npf_cells_turns.specs.declared.act.TurnAct.TheVariants.{Nothing}
-use Rattle.npf_cells_turns.specs.EndKinds.{MayEndBy}
-use Rattle.npf_cells_turns.specs.TurnKinds.{HasTaken, turn_at}
-use Rattle.npf_cells_words.specs.Codes.{place_code}
-use Rattle.npf_cells_words.specs.Layout.{note_field}
-use Rattle.npf_paths.specs.declared.place.Lock.{Lock}
+use Rattle.npf_cells_turns.specs.{declared.act.TurnAct.TheVariants.Nothing, EndKinds.MayEndBy, TurnKinds.{HasTaken, turn_at}}
 use Rattle.npf_cells_leaves.specs.Trie.{digits_of}
-use Rattle.npf_trie.specs.declared.step.Met.TheVariants.{Holder, Other}
-use Rattle.npf_trie.specs.declared.step.OtherLeaf.{OtherLeaf}
-use Rattle.npf_trie.specs.declared.step.Point.{Point}
-use Rattle.npf_trie.specs.declared.step.Wanted.{Wanted}
-use Rattle.npf_trie.specs.declared.step.Branch.{Branch}
-use Rattle.npf_trie.specs.declared.step.Step.{Step}
+use Rattle.npf_trie.specs.declared.step.{LeafKey.TheVariants.{Holder, Other}, OtherLeaf.OtherLeaf, Point.Point, Wanted.Wanted, Branch.Branch, Step.Step}
 use Rattle.npf_trie.specs.declared.step.Step.TheVariants.{Ends, Leads, Again, Anew}
 use Rattle.npf_turn.proofs.MarkLemmas.{none_in_place}
-use Rattle.npf_trie.specs.HoldKey.{IsAtPlace, TellsMet, HasNewTurn, HasGrown, SeesOtherLeaf, HoldsNodes, HasHung, HangsSo}
-use Rattle.npf_trie.specs.Stores.{MayStoreKey}
-use Rattle.npf_trie.proofs.StoreLemmas.{noting, notes_once}
-use Rattle.npf_trie.specs.LookUp.{ComparesWords}
+use Rattle.npf_trie.specs.{HoldKey.{IsAtPlace, TellsMet, HasNewTurn, HasGrown, SeesOtherLeaf, HoldsNodes, HasHung, HangsSo}, Stores.MayStoreKey}
+use Rattle.npf_trie.{proofs.StoreLemmas.{noting, notes_once}, specs.LookUp.ComparesWords}
 
 -- a branch as its first node has it: either key's leaf is there, or a node that leads on
 pub data BeginsSo (mine theirs : ℕ → ℕ) (cell : Place → Cell) (leaf other : Cell) (level first : ℕ) (nodes : List ℕ) : Type 0 where
@@ -123,7 +83,8 @@ path_stays digest key (Places.Root digit) side side' same stands = stands
 path_stays digest key (Places.Node node digit) side side' same stands = (stands.0, same ∙ stands.1)
 
 module _ {S A R : Type 0} where
-  pub place_stays : (digest : Key → ℕ) (layout : Layout) (v v' : CellView S A R) (key : Key) (point : Point) → v'.trie.stands ≡ v.trie.stands → IsAtPlace digest layout v key point → IsAtPlace digest layout v' key point
+  pub place_stays : (digest : Key → ℕ) (layout : Layout) (v v' : CellView S A R) (key : Key) (point : Point) →
+      v'.trie.stands ≡ v.trie.stands → IsAtPlace digest layout v key point → IsAtPlace digest layout v' key point
   place_stays digest layout v v' key point same at = record {
     place = at.place;
     stands = path_stays digest key point.place v.trie v'.trie same at.stands;
@@ -222,7 +183,13 @@ module _ {S A R F : Type 0} (m : Meaning S A R) (digest : Key → ℕ) (layout :
           legal = subst (λ (y : Me F (CellView S A R)). IsPass m (cell_pass y.0)) (sym compares.is) held.legal;
           answered = ap (λ (y : Me F (CellView S A R)). y.0.trie.answered) is ∙ ap (λ (f : Found). f.id ∷ []) (sym tells.1);
           done = λ e. absurd cc;
-          taken = λ e. subst (λ (y : Me F (CellView S A R)). y ≡ (record old.0 { seats = record old.0.seats { history = y.0.seats.history }; trie = record y.0.trie { locks = old.0.trie.locks; marks = old.0.trie.marks } }, old.1)) (sym is) refl;
+          taken = λ e. subst (λ (y : Me F (CellView S A R)). y ≡ (
+            record old.0 {
+              seats = record old.0.seats { history = y.0.seats.history };
+              trie = record y.0.trie { locks = old.0.trie.locks; marks = old.0.trie.marks };
+            },
+            old.1,
+          )) (sym is) refl;
         }
 
 -- it is protected still
@@ -251,7 +218,8 @@ module _ {S A R F : Type 0} (digest : Key → ℕ) (layout : Layout) where
 
 -- nodes that were built to be hung are so whatever the pass loads or locks beside them
 module _ {S A R : Type 0} (m : Meaning S A R) (digest : Key → ℕ) (layout : Layout) (wanted : Wanted) (point : Point) (branch : Branch) (v : CellView S A R) where
-  grown_beside : (side : TrieSide) → side.stands ≡ v.trie.stands → side.marks ≡ v.trie.marks → HasGrown m digest layout v wanted point branch → HasGrown m digest layout (record v { trie = side }) wanted point branch
+  grown_beside : (side : TrieSide) → side.stands ≡ v.trie.stands → side.marks ≡ v.trie.marks →
+      HasGrown m digest layout v wanted point branch → HasGrown m digest layout (record v { trie = side }) wanted point branch
   grown_beside side stands marks grown = record {
     may = record { built = grown.may.built; bare = grown.may.bare };
     exists = grown.exists;
@@ -282,7 +250,8 @@ module _ {S A R F : Type 0} (m : Meaning S A R) (digest : Key → ℕ) (layout :
     side = record (meeting wanted.key point.place (Cells.Leaf branch.other.slot branch.other.way) (level_at old.0.trie point.place) sees.leaf old.0.trie) { words = now.0.trie.words }
 
     pub grown_still : HasGrown m digest layout old.0 wanted point branch → HasGrown m digest layout now.0 wanted point branch
-    grown_still grown = subst (λ (y : Me F (CellView S A R)). HasGrown m digest layout y.0 wanted point branch) (sym sees.is) (grown_beside m digest layout wanted point branch old.0 side refl refl grown)
+    grown_still grown = subst (λ (y : Me F (CellView S A R)). HasGrown m digest layout y.0 wanted point branch)
+        (sym sees.is) (grown_beside m digest layout wanted point branch old.0 side refl refl grown)
 
     pub turn_still : HasNewTurn old.0.turn branch.other.slot → HasNewTurn now.0.turn branch.other.slot
     turn_still turn = subst (λ (y : Me F (CellView S A R)). HasNewTurn y.0.turn branch.other.slot) (sym sees.is) turn
@@ -327,7 +296,8 @@ module _ {S A R F : Type 0} (m : Meaning S A R) (digest : Key → ℕ) (layout :
         }
 
   -- a pass that sees the other leaf under the lock, and has its slot's turn
-  module _ (old : Me F (CellView S A R)) (grown : HasGrown m digest layout old.0 wanted point branch) (turn : HasNewTurn old.0.turn branch.other.slot) (sees : SeesOtherLeaf old.0.trie wanted.key point branch.other)
+  module _ (old : Me F (CellView S A R)) (grown : HasGrown m digest layout old.0 wanted point branch)
+      (turn : HasNewTurn old.0.turn branch.other.slot) (sees : SeesOtherLeaf old.0.trie wanted.key point branch.other)
       (own moved : ℕ) (own_is : own ≡ place_code branch.own_place) (moved_is : moved ≡ place_code branch.moved_to) where
     abbrev noted : Me F (CellView S A R)
     noted = noting wanted.id.slot wanted.way own old
@@ -357,9 +327,12 @@ module _ {S A R F : Type 0} (m : Meaning S A R) (digest : Key → ℕ) (layout :
         let level : point.level ≡ level_at led.0.trie point.place = sym grown.at.level_is in
         let cell : Place → Cell = cell_stored layout old.0.pools.stored in
         record {
-          branch = subst (λ l. IsBranch (digits_of digest wanted.key) (digits_of digest sees.leaf.key) cell (Cells.Leaf wanted.id.slot wanted.way) (Cells.Leaf sees.leaf.slot sees.leaf.way) (l + 1) branch.first grown.nodes) level
-              (subst (λ c. IsBranch (digits_of digest wanted.key) (digits_of digest sees.leaf.key) cell (Cells.Leaf wanted.id.slot wanted.way) c (point.level + 1) branch.first grown.nodes) (λ i. Cells.Leaf (sym sees.is.0 i) (sym sees.is.1 i))
-              (subst (λ k. IsBranch (digits_of digest wanted.key) (digits_of digest k) cell (Cells.Leaf wanted.id.slot wanted.way) (Cells.Leaf branch.other.slot branch.other.way) (point.level + 1) branch.first grown.nodes) (sym sees.is.2) grown.leads));
+          branch = subst (λ l. IsBranch (digits_of digest wanted.key) (digits_of digest sees.leaf.key) cell
+              (Cells.Leaf wanted.id.slot wanted.way) (Cells.Leaf sees.leaf.slot sees.leaf.way) (l + 1) branch.first grown.nodes) level
+              (subst (λ c. IsBranch (digits_of digest wanted.key) (digits_of digest sees.leaf.key) cell (Cells.Leaf wanted.id.slot wanted.way) c (point.level + 1) branch.first grown.nodes)
+              (λ i. Cells.Leaf (sym sees.is.0 i) (sym sees.is.1 i))
+              (subst (λ k. IsBranch (digits_of digest wanted.key) (digits_of digest k) cell (Cells.Leaf wanted.id.slot wanted.way)
+              (Cells.Leaf branch.other.slot branch.other.way) (point.level + 1) branch.first grown.nodes) (sym sees.is.2) grown.leads));
           owned = grown.owned;
           apart = grown.apart;
           parents = subst (λ l. NameParents (digits_of digest wanted.key) (IsParentStored layout old.0.pools.stored) (l + 1) point.place grown.nodes) level grown.parents;
@@ -370,7 +343,8 @@ module _ {S A R F : Type 0} (m : Meaning S A R) (digest : Key → ℕ) (layout :
         (record { locked = sees.sees.locked; saw = sees.sees.saw; seen = sees.sees.seen; there = sees.sees.there; was = sees.sees.was }) grown_for
 
     -- where that leaf will stand
-    foot : (leaf : LoadedLeaf) → Some sees.leaf ≡ Some leaf → IsAheadTo led.0.turn leaf.slot leaf.way (place_code (foot_place (digits_of digest leaf.key) (level_at led.0.trie point.place + 1) point.place grown.nodes))
+    foot : (leaf : LoadedLeaf) → Some sees.leaf ≡ Some leaf →
+        IsAheadTo led.0.turn leaf.slot leaf.way (place_code (foot_place (digits_of digest leaf.key) (level_at led.0.trie point.place + 1) point.place grown.nodes))
     foot leaf same =
         let here : sees.leaf ≡ leaf = cc in
         let moved_at : moved ≡ place_code (foot_place (digits_of digest branch.other.key) (level_at led.0.trie point.place + 1) point.place grown.nodes) =
@@ -388,7 +362,8 @@ module _ {S A R F : Type 0} (m : Meaning S A R) (digest : Key → ℕ) (layout :
     moves : (nodes : List ℕ) → nodes ≡ grown.nodes → MovesLeaf digest led.0 point.place nodes
     moves [] none = absurd (let some = grown.some in let long = ap length none in omega (arith, some, long))
     moves (node ∷ nodes) same = λ leaf known.
-        subst (λ ns. IsAheadTo led.0.turn leaf.slot leaf.way (place_code (foot_place (digits_of digest leaf.key) (level_at led.0.trie point.place + 1) point.place ns))) (sym same) (foot leaf (sym sees.known ∙ known))
+        subst (λ ns. IsAheadTo led.0.turn leaf.slot leaf.way (place_code (foot_place (digits_of digest leaf.key) (level_at led.0.trie point.place + 1) point.place ns)))
+        (sym same) (foot leaf (sym sees.known ∙ known))
 
     -- so the nodes may be hung there
     pub may_hang : (h : Me F (CellView S A R)) → h ≡ led → (aim : Aim) → aim ≡ Hold wanted.id wanted.key wanted.way → MayPublish m digest layout h.0 point.place (Cells.Node branch.first) (Some aim)
@@ -434,7 +409,11 @@ module _ {S A R F : Type 0} (m : Meaning S A R) (digest : Key → ℕ) (layout :
           turn = t;
         } in w) in
         let is : next ≡ (view [] (notes_but wanted.id.slot (note_field wanted.way) old.0.pools.notes) (with_ahead None old.0.turn), old.1) =
-        held.is ∙ (λ i. (view (none i) (notes_once wanted.id.slot (note_field wanted.way) own old.0.pools.notes i) (led_back old.0.turn (Some (record { field = note_field branch.other.way; value = moved })) i), old.1)) in
+        held.is ∙ (λ i. (
+          view (none i) (notes_once wanted.id.slot (note_field wanted.way) own old.0.pools.notes i)
+              (led_back old.0.turn (Some (record { field = note_field branch.other.way; value = moved })) i),
+          old.1,
+        )) in
         record {
           some = λ e. cc;
           adds = record { adds = record { rest = held.adds.adds.rest; goes_on = held.adds.adds.goes_on; own = held.adds.adds.own; listed = held.adds.adds.listed }; ends = held.adds.ends };
@@ -457,7 +436,8 @@ module _ {S A R F : Type 0} (m : Meaning S A R) (digest : Key → ℕ) (layout :
     (free : old.0.trie.locks ≡ []) (gets : locked ≡ with_trie old (locking lock old.0.trie)) where
   pub grown_locked : (branch : Branch) → HasGrown m digest layout old.0 wanted point branch → HasGrown m digest layout locked.0 wanted point branch
   grown_locked branch grown =
-      subst (λ (y : Me F (CellView S A R)). HasGrown m digest layout y.0 wanted point branch) (sym gets) (grown_beside m digest layout wanted point branch old.0 (locking lock old.0.trie) refl refl grown)
+      subst (λ (y : Me F (CellView S A R)). HasGrown m digest layout y.0 wanted point branch) (sym gets)
+      (grown_beside m digest layout wanted point branch old.0 (locking lock old.0.trie) refl refl grown)
 
   module _ (hung : Me F (CellView S A R)) where
     module _ (now : Me F (CellView S A R)) (frees : now ≡ with_trie hung (record hung.0.trie { locks = []; emptied = None; met_mark = None })) where
@@ -469,7 +449,8 @@ module _ {S A R F : Type 0} (m : Meaning S A R) (digest : Key → ℕ) (layout :
           let last : TrieSide = hung.0.trie in
           let at_last = frees ∙ (ap freed stays.is ∙ ap (λ (y : Me F (CellView S A R)). freed (with_trie y (record last { locks = y.0.trie.locks; marks = y.0.trie.marks }))) gets) in
           record {
-            is = subst (λ (y : Me F (CellView S A R)). y ≡ with_trie old (record y.0.trie { locks = old.0.trie.locks; marks = old.0.trie.marks })) (sym at_last) (λ i. with_trie old (record last { locks = sym free i; marks = old.0.trie.marks; emptied = None; met_mark = None }));
+            is = subst (λ (y : Me F (CellView S A R)). y ≡ with_trie old (record y.0.trie { locks = old.0.trie.locks; marks = old.0.trie.marks }))
+                (sym at_last) (λ i. with_trie old (record last { locks = sym free i; marks = old.0.trie.marks; emptied = None; met_mark = None }));
             unpublished = ap (λ (y : Me F (CellView S A R)). y.0.trie.published) frees ∙ (stays.unpublished ∙ ap (λ (y : Me F (CellView S A R)). y.0.trie.published) gets);
           }
 
@@ -482,10 +463,12 @@ module _ {S A R F : Type 0} (m : Meaning S A R) (digest : Key → ℕ) (layout :
           let words : List StoredWord = hung.0.pools.stored in
           let last : TrieSide = hung.0.trie in
           let adds = subst (λ (y : Me F (CellView S A R)). AddsOwn (cell_pass y.0) history (hold_entries (cell_pass y.0) wanted.id wanted.key wanted.way held)) gets has.adds in
-          let mine : AddsOwn (cell_pass old.0) history (hold_entries (cell_pass old.0) wanted.id wanted.key wanted.way held) = record { adds = record { rest = adds.adds.rest; goes_on = adds.adds.goes_on; own = adds.adds.own; listed = adds.adds.listed }; ends = adds.ends } in
+          let mine : AddsOwn (cell_pass old.0) history (hold_entries (cell_pass old.0) wanted.id wanted.key wanted.way held) =
+          record { adds = record { rest = adds.adds.rest; goes_on = adds.adds.goes_on; own = adds.adds.own; listed = adds.adds.listed }; ends = adds.ends } in
           record {
             some = has.some;
-            adds = subst (λ (h : List (Entry S A R)). AddsOwn (cell_pass old.0) h (hold_entries (cell_pass old.0) wanted.id wanted.key wanted.way held)) (sym (ap (λ (y : Me F (CellView S A R)). y.0.seats.history) frees)) mine;
+            adds = subst (λ (h : List (Entry S A R)). AddsOwn (cell_pass old.0) h (hold_entries (cell_pass old.0) wanted.id wanted.key wanted.way held))
+                (sym (ap (λ (y : Me F (CellView S A R)). y.0.seats.history) frees)) mine;
             legal = subst (λ (y : Me F (CellView S A R)). IsPass m (cell_pass y.0)) (sym frees) has.legal;
             answered = ap (λ (y : Me F (CellView S A R)). y.0.trie.answered) frees ∙ has.answered;
             done = λ e.
@@ -516,9 +499,22 @@ module _ {S A R F : Type 0} (m : Meaning S A R) (digest : Key → ℕ) (layout :
                   old.1,
                 ));
             taken = λ e.
-                let at_last = frees ∙ (ap freed (has.taken e) ∙ ap (λ (y : Me F (CellView S A R)). freed (record y.0 { seats = record y.0.seats { history = history }; trie = record last { locks = y.0.trie.locks; marks = y.0.trie.marks } }, y.1)) gets) in
-                subst (λ (y : Me F (CellView S A R)). y ≡ (record old.0 { seats = record old.0.seats { history = y.0.seats.history }; trie = record y.0.trie { locks = old.0.trie.locks; marks = old.0.trie.marks } }, old.1))
-                (sym at_last) (λ i. (record old.0 { seats = record old.0.seats { history = history }; trie = record last { locks = sym free i; marks = old.0.trie.marks; emptied = None; met_mark = None } }, old.1));
+                let at_last = frees ∙ (ap freed (has.taken e) ∙ ap (λ (y : Me F (CellView S A R)).
+                freed (record y.0 { seats = record y.0.seats { history = history }; trie = record last { locks = y.0.trie.locks; marks = y.0.trie.marks } }, y.1)) gets) in
+                subst (λ (y : Me F (CellView S A R)). y ≡ (
+                  record old.0 {
+                    seats = record old.0.seats { history = y.0.seats.history };
+                    trie = record y.0.trie { locks = old.0.trie.locks; marks = old.0.trie.marks };
+                  },
+                  old.1,
+                ))
+                (sym at_last) (λ i. (
+                  record old.0 {
+                    seats = record old.0.seats { history = history };
+                    trie = record last { locks = sym free i; marks = old.0.trie.marks; emptied = None; met_mark = None };
+                  },
+                  old.1,
+                ));
           }
 
       pub freed_so : (step : Step) → HangsSo m digest layout wanted point step locked hung → HangsSo m digest layout wanted point step old now
@@ -608,7 +604,8 @@ module _ {S A R : Type 0} (m : Meaning S A R) (digest : Key → ℕ) (layout : L
           let last : TrieSide = hung.0.trie in
           let at_last = ends ∙ (ap after stays.is ∙ ap (λ (y : Pass'). after (with_trie y (record last { locks = y.0.trie.locks; marks = y.0.trie.marks }))) takes.is) in
           record {
-            is = subst (λ (y : Pass'). y ≡ with_trie old (record y.0.trie { locks = old.0.trie.locks; marks = old.0.trie.marks })) (sym at_last) (λ i. (record old.0 { trie = record last { locks = old.0.trie.locks; marks = old.0.trie.marks }; turn = sym turnless i }, sym carries i));
+            is = subst (λ (y : Pass'). y ≡ with_trie old (record y.0.trie { locks = old.0.trie.locks; marks = old.0.trie.marks })) (sym at_last)
+                (λ i. (record old.0 { trie = record last { locks = old.0.trie.locks; marks = old.0.trie.marks }; turn = sym turnless i }, sym carries i));
             unpublished = ap (λ (y : Pass'). y.0.trie.published) ends ∙ (stays.unpublished ∙ ap (λ (y : Pass'). y.0.trie.published) takes.is);
           }
 
@@ -621,10 +618,12 @@ module _ {S A R : Type 0} (m : Meaning S A R) (digest : Key → ℕ) (layout : L
           let words : List StoredWord = hung.0.pools.stored in
           let last : TrieSide = hung.0.trie in
           let adds = subst (λ (y : Pass'). AddsOwn (cell_pass y.0) history (hold_entries (cell_pass y.0) wanted.id wanted.key wanted.way held)) takes.is has.adds in
-          let mine : AddsOwn (cell_pass old.0) history (hold_entries (cell_pass old.0) wanted.id wanted.key wanted.way held) = record { adds = record { rest = adds.adds.rest; goes_on = adds.adds.goes_on; own = adds.adds.own; listed = adds.adds.listed }; ends = adds.ends } in
+          let mine : AddsOwn (cell_pass old.0) history (hold_entries (cell_pass old.0) wanted.id wanted.key wanted.way held) =
+          record { adds = record { rest = adds.adds.rest; goes_on = adds.adds.goes_on; own = adds.adds.own; listed = adds.adds.listed }; ends = adds.ends } in
           record {
             some = has.some;
-            adds = subst (λ (h : List (Entry S A R)). AddsOwn (cell_pass old.0) h (hold_entries (cell_pass old.0) wanted.id wanted.key wanted.way held)) (sym (ap (λ (y : Pass'). y.0.seats.history) ends)) mine;
+            adds = subst (λ (h : List (Entry S A R)). AddsOwn (cell_pass old.0) h (hold_entries (cell_pass old.0) wanted.id wanted.key wanted.way held))
+                (sym (ap (λ (y : Pass'). y.0.seats.history) ends)) mine;
             legal = subst (λ (y : Pass'). IsPass m (cell_pass y.0)) (sym ends) has.legal;
             answered = ap (λ (y : Pass'). y.0.trie.answered) ends ∙ has.answered;
             done = λ e.
@@ -655,9 +654,23 @@ module _ {S A R : Type 0} (m : Meaning S A R) (digest : Key → ℕ) (layout : L
                   sym carries i,
                 ));
             taken = λ e.
-                let at_last = ends ∙ (ap after (has.taken e) ∙ ap (λ (y : Pass'). after (record y.0 { seats = record y.0.seats { history = history }; trie = record last { locks = y.0.trie.locks; marks = y.0.trie.marks } }, y.1)) takes.is) in
-                subst (λ (y : Pass'). y ≡ (record old.0 { seats = record old.0.seats { history = y.0.seats.history }; trie = record y.0.trie { locks = old.0.trie.locks; marks = old.0.trie.marks } }, old.1))
-                (sym at_last) (λ i. (record old.0 { seats = record old.0.seats { history = history }; trie = record last { locks = old.0.trie.locks; marks = old.0.trie.marks }; turn = sym turnless i }, sym carries i));
+                let at_last = ends ∙ (ap after (has.taken e)
+                ∙ ap (λ (y : Pass'). after (record y.0 { seats = record y.0.seats { history = history }; trie = record last { locks = y.0.trie.locks; marks = y.0.trie.marks } }, y.1)) takes.is) in
+                subst (λ (y : Pass'). y ≡ (
+                  record old.0 {
+                    seats = record old.0.seats { history = y.0.seats.history };
+                    trie = record y.0.trie { locks = old.0.trie.locks; marks = old.0.trie.marks };
+                  },
+                  old.1,
+                ))
+                (sym at_last) (λ i. (
+                  record old.0 {
+                    seats = record old.0.seats { history = history };
+                    trie = record last { locks = old.0.trie.locks; marks = old.0.trie.marks };
+                    turn = sym turnless i;
+                  },
+                  sym carries i,
+                ));
           }
 
       pub ended_so : (step : Step) → HangsSo m digest layout wanted point step took hung → HangsSo m digest layout wanted point step old now

@@ -1,39 +1,20 @@
 -- What the steps of a hold keep of a pass, and what they come to.
-use Rattle.std.proofs.Common.{◌≡◌, ◌≢◌, ℕ, ◌+◌, ◌≤◌, ◌<◌, List, [], ◌∷◌, ◌++◌, refl, sym, ap, ◌∙◌, subst, arith}
-use Rattle.std.specs.List.{Contains}
+use Rattle.std.{proofs.Common.{◌≡◌, ◌≢◌, ℕ, ◌+◌, ◌≤◌, ◌<◌, List, [], ◌∷◌, ◌++◌, refl, sym, ap, ◌∙◌, subst, arith}, specs.List.Contains}
 use Rattle.atomic_table.specs.Table.{Me}
-use Rattle.npf_types.specs.declared.key.Key.{Key}
-use Rattle.npf_types.specs.declared.key.Way.{Way}
-use Rattle.npf_core.specs.declared.conn_id.ConnId.{ConnId}
-use Rattle.npf_core.specs.declared.entry.Entry.{Entry}
-use Rattle.npf_core.specs.declared.act.Act.TheVariants.{Hold}
-use Rattle.npf_core.specs.declared.reply.Reply.TheVariants.{ToHold}
-use Rattle.npf_core.specs.declared.held.Held.{Held}
-use Rattle.npf_core.specs.History.{state_of, by}
-use Rattle.npf_core.specs.Machine.{HoldsNone}
-use Rattle.npf_core.specs.Meaning.{Meaning}
-use Rattle.npf_connections.specs.Adding.{AddsOwn, EndsWith}
-use Rattle.npf_connections.specs.Answered.{taken_ids}
-use Rattle.npf_connections.specs.Entries.{hold_entries}
-use Rattle.npf_connections.specs.Pass.{Pass, IsPass}
-use Rattle.npf_paths.specs.Digits.{digit_of}
-use Rattle.npf_paths.specs.declared.place.Place.{Place}
+use Rattle.npf_types.specs.declared.key.{Key.Key, Way.Way}
+use Rattle.npf_core.specs.declared.{conn_id.ConnId.ConnId, entry.Entry.Entry, act.Act.TheVariants.Hold, reply.Reply.TheVariants.ToHold, held.Held.Held}
+use Rattle.npf_core.specs.{History.{state_of, by}, Machine.HoldsNone, Meaning.Meaning}
+use Rattle.npf_connections.specs.{Adding.{AddsOwn, EndsWith}, Answered.taken_ids, Entries.hold_entries, Pass.{Pass, IsPass}}
+use Rattle.npf_paths.specs.{Digits.digit_of, declared.place.Place.Place}
 use Rattle.npf_paths.specs.declared.place.Place.TheVariants as Places
 use Rattle.npf_cells_words.specs.declared.layout.Layout.{Layout}
-use Rattle.npf_cells_rule.specs.declared.view.CellView.{CellView}
+use Rattle.npf_cells_rule.specs.{declared.view.CellView.CellView, Views.{DeadHand, dead_hand, with_trie, with_pools}, Passes.{cell_pass, IsProtected}}
 use Rattle.npf_cells_pins.specs.declared.pin.EpochSide.{EpochSide}
 use Rattle.npf_seats.specs.declared.side.SeatSide.{SeatSide}
-use Rattle.npf_cells_leaves.specs.declared.trie.TrieSide.{TrieSide}
+use Rattle.npf_cells_leaves.specs.{declared.trie.TrieSide.TrieSide, Trie.digits_of}
 use Rattle.npf_cells_lives.specs.declared.pools.StoredWord.{StoredWord}
-use Rattle.npf_cells_holds.specs.HoldKinds.{MayHoldSo}
-use Rattle.npf_cells_holds.specs.LookKinds.{StandsOnPath, level_of, level_at}
-use Rattle.npf_cells_rule.specs.Views.{DeadHand, dead_hand, with_trie, with_pools}
-use Rattle.npf_cells_rule.specs.Passes.{cell_pass, IsProtected}
-use Rattle.npf_cells_leaves.specs.Trie.{digits_of}
-use Rattle.npf_trie.specs.declared.step.Point.{Point}
-use Rattle.npf_trie.specs.declared.step.Step.{Step}
-use Rattle.npf_trie.specs.declared.step.Step.TheVariants.{Ends, Leads, Again, Anew}
-use Rattle.npf_trie.specs.declared.step.Wanted.{Wanted}
+use Rattle.npf_cells_holds.specs.{HoldKinds.MayHoldSo, LookKinds.{StandsOnPath, level_of, level_at}}
+use Rattle.npf_trie.specs.declared.step.{Point.Point, Step.{Step, TheVariants.{Ends, Leads, Again, Anew}}, Wanted.Wanted}
 use Rattle.npf_trie.specs.HoldKey.{CanHold, HoldsOn, SettlesHold, IsAtPlace, StepsSo, having_held, noted_after}
 
 -- a place on the path stays one while the pass stands where it stood
@@ -129,7 +110,17 @@ module _ {S A R F : Type 0} where
     record now.0 {
       seats = keeps.seats i;
       epochs = keeps.epochs i;
-      pools = record now.0.pools { nodes = keeps.nodes i; builds = keeps.builds i; unstored = keeps.unstored i; kills = (keeps.dead i).kills; gave_up = (keeps.dead i).gave_up; reclaims = (keeps.dead i).reclaims; cleared = (keeps.dead i).cleared; dated = (keeps.dead i).dated; unfreed = (keeps.dead i).unfreed };
+      pools = record now.0.pools {
+        nodes = keeps.nodes i;
+        builds = keeps.builds i;
+        unstored = keeps.unstored i;
+        kills = (keeps.dead i).kills;
+        gave_up = (keeps.dead i).gave_up;
+        reclaims = (keeps.dead i).reclaims;
+        cleared = (keeps.dead i).cleared;
+        dated = (keeps.dead i).dated;
+        unfreed = (keeps.dead i).unfreed;
+      };
       trie = record now.0.trie { locks = locks i };
       turn = keeps.turn i;
     },
@@ -165,7 +156,8 @@ module _ {S A R F : Type 0} where
   pub protected_after : (old now : Me F (CellView S A R)) → KeepsPass old now → IsProtected old.0.epochs.pin → IsProtected now.0.epochs.pin
   protected_after old now keeps is = subst (λ (e : EpochSide). IsProtected e.pin) (sym keeps.epochs) is
 
-  pub at_after : (digest : Key → ℕ) (layout : Layout) (old now : Me F (CellView S A R)) (key : Key) (point : Point) → now.0.trie.stands ≡ old.0.trie.stands → IsAtPlace digest layout old.0 key point → IsAtPlace digest layout now.0 key point
+  pub at_after : (digest : Key → ℕ) (layout : Layout) (old now : Me F (CellView S A R)) (key : Key) (point : Point) →
+      now.0.trie.stands ≡ old.0.trie.stands → IsAtPlace digest layout old.0 key point → IsAtPlace digest layout now.0 key point
   at_after digest layout old now key point same at = record {
     place = at.place;
     stands = path_stays digest old.0.trie now.0.trie key point.place same at.stands;
@@ -180,7 +172,8 @@ module _ {S A R F : Type 0} (m : Meaning S A R) where
     bare = subst (λ h. HoldsNone (state_of m h) id way) (sym stays.history) may.bare;
   }
 
-  pub can_after : (layout : Layout) (old now : Me F (CellView S A R)) (id : ConnId) (way : Way) → StaysOn old now → now.0.trie.locks ≡ old.0.trie.locks → CanHold m layout old.0 id way → CanHold m layout now.0 id way
+  pub can_after : (layout : Layout) (old now : Me F (CellView S A R)) (id : ConnId) (way : Way) → StaysOn old now →
+      now.0.trie.locks ≡ old.0.trie.locks → CanHold m layout old.0 id way → CanHold m layout now.0 id way
   can_after layout old now id way stays locks can = record {
     may = may_after old now id way stays can.may;
     exists = can.exists;
@@ -200,9 +193,11 @@ module _ {S A R F : Type 0} (m : Meaning S A R) where
     pub noted : now.0.pools.notes ≡ noted_after held id way old.0.pools.notes
     pub keeps : KeepsPass old now
 
-  adds_after : (a b : Me F (CellView S A R)) (new : List (Entry S A R)) (id : ConnId) (key : Key) (way : Way) (held : Held) → StaysOn a b → AddsOwn (cell_pass b.0) new (hold_entries (cell_pass b.0) id key way held) →
+  adds_after : (a b : Me F (CellView S A R)) (new : List (Entry S A R)) (id : ConnId) (key : Key) (way : Way) (held : Held) →
+      StaysOn a b → AddsOwn (cell_pass b.0) new (hold_entries (cell_pass b.0) id key way held) →
       AddsOwn (cell_pass a.0) new (hold_entries (cell_pass a.0) id key way held)
-  adds_after a b new id key way held stays added = adds_from (cell_pass b.0) (cell_pass a.0) new id key way held stays.history (ap (λ (s : SeatSide ℕ (Entry S A R)). s.number) stays.keeps.seats) (ap (λ (s : SeatSide ℕ (Entry S A R)). s.joined) stays.keeps.seats) added
+  adds_after a b new id key way held stays added = adds_from (cell_pass b.0) (cell_pass a.0) new id key way held stays.history
+      (ap (λ (s : SeatSide ℕ (Entry S A R)). s.number) stays.keeps.seats) (ap (λ (s : SeatSide ℕ (Entry S A R)). s.joined) stays.keeps.seats) added
 
   ends_after : (a b c : Me F (CellView S A R)) (id : ConnId) (key : Key) (way : Way) (held : Held) → StaysOn a b → EndsHold id key way held b c → EndsHold id key way held a c
   ends_after a b c id key way held stays ends = record {
@@ -214,17 +209,29 @@ module _ {S A R F : Type 0} (m : Meaning S A R) where
     keeps = keeps_after a b c stays.keeps ends.keeps;
   }
 
-  ends_then : (a b c : Me F (CellView S A R)) (side : TrieSide) (id : ConnId) (key : Key) (way : Way) (held : Held) → EndsHold id key way held a b → c ≡ with_trie b side → side.answered ≡ b.0.trie.answered → EndsHold id key way held a c
+  ends_then : (a b c : Me F (CellView S A R)) (side : TrieSide) (id : ConnId) (key : Key) (way : Way) (held : Held) →
+      EndsHold id key way held a b → c ≡ with_trie b side → side.answered ≡ b.0.trie.answered → EndsHold id key way held a c
   ends_then a b c side id key way held ends e same = subst (λ (y : Me F (CellView S A R)). EndsHold id key way held a y) (sym e) (record {
     some = ends.some;
     adds = ends.adds;
     legal = subst (λ (ids : List ConnId). IsPass m (record (cell_pass b.0) { answered = ids })) (sym same) ends.legal;
     answered = same ∙ ends.answered;
     noted = ends.noted;
-    keeps = keeps_after a b (with_trie b side) ends.keeps (record { seats = refl; epochs = refl; nodes = refl; builds = refl; unstored = refl; dead = refl; turn = refl; rest = refl; sweeps = omega arith });
+    keeps = keeps_after a b (with_trie b side) ends.keeps (record {
+      seats = refl;
+      epochs = refl;
+      nodes = refl;
+      builds = refl;
+      unstored = refl;
+      dead = refl;
+      turn = refl;
+      rest = refl;
+      sweeps = omega arith;
+    });
   })
 
-  answers_so : (layout : Layout) (old now : Me F (CellView S A R)) (id : ConnId) (key : Key) (way : Way) (held : Held) → EndsHold id key way held old now → now.0.trie.locks ≡ old.0.trie.locks → SettlesHold m layout id key way held old now
+  answers_so : (layout : Layout) (old now : Me F (CellView S A R)) (id : ConnId) (key : Key) (way : Way) (held : Held) →
+      EndsHold id key way held old now → now.0.trie.locks ≡ old.0.trie.locks → SettlesHold m layout id key way held old now
   answers_so layout old now id key way held ends locks = record {
     adds = ends.adds;
     legal = λ some. ends.legal;
@@ -238,7 +245,8 @@ module _ {S A R F : Type 0} (m : Meaning S A R) where
     noted = ends.noted;
   }
 
-  pub answers_after : (layout : Layout) (a b c : Me F (CellView S A R)) (id : ConnId) (key : Key) (way : Way) (held : Held) → HoldsOn a b → SettlesHold m layout id key way held b c → SettlesHold m layout id key way held a c
+  pub answers_after : (layout : Layout) (a b c : Me F (CellView S A R)) (id : ConnId) (key : Key) (way : Way) (held : Held) →
+      HoldsOn a b → SettlesHold m layout id key way held b c → SettlesHold m layout id key way held a c
   answers_after layout a b c id key way held on ans =
       let stays = on_stays a b on in
       let before = on.sweeps in
@@ -271,10 +279,13 @@ module _ {S A R F : Type 0} (m : Meaning S A R) where
     comes_after Anew a b c stays comes = stays_after a b c stays comes
 
     -- then it frees a lock, or loads words of keys
-    pub comes_then : (step : Step) (a b c : Me F (CellView S A R)) (side : TrieSide) → ComesTo step a b → c ≡ with_trie b side → side.answered ≡ b.0.trie.answered → side.published ≡ b.0.trie.published → side.stands ≡ b.0.trie.stands → ComesTo step a c
+    pub comes_then : (step : Step) (a b c : Me F (CellView S A R)) (side : TrieSide) → ComesTo step a b → c ≡ with_trie b side →
+        side.answered ≡ b.0.trie.answered → side.published ≡ b.0.trie.published → side.stands ≡ b.0.trie.stands → ComesTo step a c
     comes_then (Ends held) a b c side comes e answered published stands = ends_then a b c side wanted.id wanted.key wanted.way held comes e answered
-    comes_then (Leads node) a b c side comes e answered published stands =
-        (stays_after a b c comes.0 (stays_trie b c side e published), at_after digest layout b c wanted.key (next_point digest wanted point node) (ap (λ (y : Me F (CellView S A R)). y.0.trie.stands) e ∙ stands) comes.1)
+    comes_then (Leads node) a b c side comes e answered published stands = (
+      stays_after a b c comes.0 (stays_trie b c side e published),
+      at_after digest layout b c wanted.key (next_point digest wanted point node) (ap (λ (y : Me F (CellView S A R)). y.0.trie.stands) e ∙ stands) comes.1,
+    )
     comes_then Again a b c side comes e answered published stands =
         (stays_after a b c comes.0 (stays_trie b c side e published), at_after digest layout b c wanted.key point (ap (λ (y : Me F (CellView S A R)). y.0.trie.stands) e ∙ stands) comes.1)
     comes_then Anew a b c side comes e answered published stands = stays_after a b c comes (stays_trie b c side e published)
@@ -300,6 +311,7 @@ at_root digest layout v key hash digit hashed is low = record { place = low; sta
 
 -- and goes on at the node's place of the next
 pub at_next : {S A R : Type 0} (digest : Key → ℕ) (layout : Layout) (v : CellView S A R) (key : Key) (level : ℕ) (next : Point) (node hash : ℕ) → hash ≡ digest key →
-    next ≡ record { place = Places.Node node (digit_of hash key (level + 1)); level = level + 1 } → IsAtPlace digest layout v key (record { place = Places.Node node (digits_of digest key (level + 1)); level = level + 1 }) → IsAtPlace digest layout v key next
+    next ≡ record { place = Places.Node node (digit_of hash key (level + 1)); level = level + 1 } →
+    IsAtPlace digest layout v key (record { place = Places.Node node (digits_of digest key (level + 1)); level = level + 1 }) → IsAtPlace digest layout v key next
 at_next digest layout v key level next node hash hashed is at =
     subst (λ (p : Point). IsAtPlace digest layout v key p) (sym (is ∙ ap (λ h. let p : Point = record { place = Places.Node node (digit_of h key (level + 1)); level = level + 1 } in p) hashed)) at

@@ -2,22 +2,14 @@
 use Rattle.std.proofs.Common.{◌≡◌, ℕ, ◌<◌, ◌∷◌, [], cond, Option, Some, None, length, slice_index, refl, sym, ap, ◌∙◌, subst, arith}
 use Rattle.std.proofs.lemmas.Grind.{same_number_lists}
 use Rattle.atomic_table.specs.Table.{Me}
-use Rattle.npf_types.specs.declared.key.Key.{Key}
-use Rattle.npf_types.specs.declared.key.Way.{Way}
-use Rattle.npf_core.specs.declared.act.Act.TheVariants.{Look}
-use Rattle.npf_core.specs.declared.found.Found.{Found}
-use Rattle.npf_core.specs.declared.reply.Reply.TheVariants.{ToLook}
-use Rattle.npf_core.specs.Meaning.{Meaning}
+use Rattle.npf_types.specs.declared.key.{Key.Key, Way.Way}
+use Rattle.npf_core.specs.{declared.{act.Act.TheVariants.Look, found.Found.Found, reply.Reply.TheVariants.ToLook}, Meaning.Meaning}
 use Rattle.npf_core.proofs.EqualityLemmas.{is_key-Decides}
-use Rattle.npf_connections.specs.Adding.{AddsOwn}
-use Rattle.npf_connections.specs.Entries.{entry_of}
-use Rattle.npf_connections.specs.Pass.{IsPass}
+use Rattle.npf_connections.specs.{Adding.AddsOwn, Entries.entry_of, Pass.IsPass}
 use Rattle.npf_paths.specs.declared.cell.Cell.TheVariants.{Leaf}
-use Rattle.npf_cells_rule.specs.declared.view.CellView.{CellView}
+use Rattle.npf_cells_rule.specs.{declared.view.CellView.CellView, Views.with_trie, Passes.cell_pass}
 use Rattle.npf_cells_leaves.specs.declared.trie.LoadedLeaf.{LoadedLeaf}
 use Rattle.npf_cells_holds.specs.LookKinds.{holder_by}
-use Rattle.npf_cells_rule.specs.Views.{with_trie}
-use Rattle.npf_cells_rule.specs.Passes.{cell_pass}
 use Rattle.npf_trie.specs.LookUp.{having_looked, LooksUpKey, ComesToEnd, ComparesWords, NamesHolder}
 
 -- the connection of a leaf
@@ -33,7 +25,8 @@ same_words leaf key five five' same =
 
 module _ {S A R F : Type 0} where
   -- loads of key words leave the look as it is
-  look_stays : (m : Meaning S A R) (n : ℕ) (key : Key) (found : Option Found) (old now next : Me F (CellView S A R)) → LooksUpKey m n key found old now → ComparesWords 5 now next → LooksUpKey m n key found old next
+  look_stays : (m : Meaning S A R) (n : ℕ) (key : Key) (found : Option Found) (old now next : Me F (CellView S A R)) →
+      LooksUpKey m n key found old now → ComparesWords 5 now next → LooksUpKey m n key found old next
   look_stays m n key found old now next so compares =
       let words : ℕ = next.0.trie.words in
       let read = compares.is ∙ ap (λ (y : Me F (CellView S A R)). with_trie y (record y.0.trie { words = words })) so.is in

@@ -2,16 +2,11 @@
 use Rattle.std.proofs.Common.{◌≡◌, ℕ, Bool, true, false, not, Some, List, ◌∷◌, [], length, slice_index, refl, sym, ap, ◌∙◌, arith}
 use Rattle.std.proofs.lemmas.Grind.{common_steps, same_number_lists}
 use Rattle.atomic_table.specs.Table.{Me}
-use Rattle.npf_types.specs.declared.key.Key.{Key}
-use Rattle.npf_types.specs.declared.key.Way.{Way}
-use Rattle.npf_core.specs.declared.found.Found.{Found}
-use Rattle.npf_core.specs.Machine.{is_key}
-use Rattle.npf_core.proofs.EqualityLemmas.{is_key-Decides}
-use Rattle.npf_cells_rule.specs.declared.view.CellView.{CellView}
+use Rattle.npf_types.specs.declared.key.{Key.Key, Way.Way}
+use Rattle.npf_core.{specs.{declared.found.Found.Found, Machine.is_key}, proofs.EqualityLemmas.is_key-Decides}
+use Rattle.npf_cells_rule.specs.{declared.view.CellView.CellView, Views.with_trie}
 use Rattle.npf_cells_leaves.specs.declared.trie.LoadedLeaf.{LoadedLeaf}
-use Rattle.npf_cells_holds.specs.HoldKinds.{leaf_holder}
-use Rattle.npf_cells_holds.specs.LookKinds.{ShowsKey, reading, IsLeafOf}
-use Rattle.npf_cells_rule.specs.Views.{with_trie}
+use Rattle.npf_cells_holds.specs.{HoldKinds.leaf_holder, LookKinds.{ShowsKey, reading, IsLeafOf}}
 use Rattle.npf_cells_takes.specs.PrivateKinds.{ShowsLeafInc}
 
 -- the key of five words
@@ -19,10 +14,12 @@ abbrev pub key_of : ℕ → ℕ → ℕ → ℕ → ℕ → Key
 key_of w0 w1 w2 w3 w4 = record { 0 = w0 ∷ w1 ∷ w2 ∷ w3 ∷ w4 ∷ [] }
 
 -- a key's five words are the key
-five_words : (key : Key) (w0 w1 w2 w3 w4 : ℕ) → length key.0 ≡ 5 → w0 ≡ slice_index key.0 0 → w1 ≡ slice_index key.0 1 → w2 ≡ slice_index key.0 2 → w3 ≡ slice_index key.0 3 → w4 ≡ slice_index key.0 4 → key_of w0 w1 w2 w3 w4 ≡ key
+five_words : (key : Key) (w0 w1 w2 w3 w4 : ℕ) → length key.0 ≡ 5 → w0 ≡ slice_index key.0 0 → w1 ≡ slice_index key.0 1 →
+    w2 ≡ slice_index key.0 2 → w3 ≡ slice_index key.0 3 → w4 ≡ slice_index key.0 4 → key_of w0 w1 w2 w3 w4 ≡ key
 five_words key w0 w1 w2 w3 w4 five e0 e1 e2 e3 e4 = ap (λ ws. let made : Key = record { 0 = ws } in made) (same_lists key.0 five e0 e1 e2 e3 e4)
   where
-    same_lists : (ws : List ℕ) → length ws ≡ 5 → w0 ≡ slice_index ws 0 → w1 ≡ slice_index ws 1 → w2 ≡ slice_index ws 2 → w3 ≡ slice_index ws 3 → w4 ≡ slice_index ws 4 → w0 ∷ w1 ∷ w2 ∷ w3 ∷ w4 ∷ [] ≡ ws
+    same_lists : (ws : List ℕ) → length ws ≡ 5 → w0 ≡ slice_index ws 0 → w1 ≡ slice_index ws 1 → w2 ≡ slice_index ws 2 →
+        w3 ≡ slice_index ws 3 → w4 ≡ slice_index ws 4 → w0 ∷ w1 ∷ w2 ∷ w3 ∷ w4 ∷ [] ≡ ws
     same_lists ws n a b c d e = same_number_lists (w0 ∷ w1 ∷ w2 ∷ w3 ∷ w4 ∷ []) ws (sym n) (λ k inside. grind (arith, common_steps))
 
 -- two keys whose test says that they differ, or that they are the same
@@ -48,7 +45,8 @@ module _ {S A R F : Type 0} where
     pub so : leaf.way ≡ way
 
   pub five_read : (m0 m1 m2 m3 m4 m5 : Me F (CellView S A R)) (slot : ℕ) (way : Way) (w0 w1 w2 w3 w4 : ℕ) (leaf : LoadedLeaf) →
-      m1 ≡ with_trie m0 (reading m0.0.trie) → m2 ≡ with_trie m1 (reading m1.0.trie) → m3 ≡ with_trie m2 (reading m2.0.trie) → m4 ≡ with_trie m3 (reading m3.0.trie) → m5 ≡ with_trie m4 (reading m4.0.trie) →
+      m1 ≡ with_trie m0 (reading m0.0.trie) → m2 ≡ with_trie m1 (reading m1.0.trie) → m3 ≡ with_trie m2 (reading m2.0.trie) →
+      m4 ≡ with_trie m3 (reading m3.0.trie) → m5 ≡ with_trie m4 (reading m4.0.trie) →
       ShowsKey m0.0.trie slot way 0 w0 → ShowsKey m1.0.trie slot way 1 w1 → ShowsKey m2.0.trie slot way 2 w2 → ShowsKey m3.0.trie slot way 3 w3 → ShowsKey m4.0.trie slot way 4 w4 →
       IsLeafOf m0.0.trie slot way → m0.0.trie.leaf ≡ Some leaf → length leaf.key.0 ≡ 5 → ReadsLeaf slot way leaf (key_of w0 w1 w2 w3 w4) m5
   five_read m0 m1 m2 m3 m4 m5 slot way w0 w1 w2 w3 w4 leaf r1 r2 r3 r4 r5 s0 s1 s2 s3 s4 of known five =

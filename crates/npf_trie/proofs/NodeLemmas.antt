@@ -1,20 +1,17 @@
 -- Nodes that a pass takes one after another, and what is left of its nodes as they are given back.
-use Rattle.std.proofs.Common.{◌≡◌, ℕ, zero, suc, ◌+◌, ◌<◌, ◌≤◌, ◌||◌, Bool, true, false, cond, eqb, eq-eqb, ne_eqb, List, [], ◌∷◌, ◌++◌, length, get_or, take, reverse, slice_index, slice_index_or, refl, sym, ap, ◌∙◌, subst, ⊎_elim, arith}
-use Rattle.std.specs.List.{filter, Contains, list_any}
-use Rattle.std.proofs.Math.Seq.{get_or-append_seam}
-use Rattle.std.proofs.lemmas.Bool.{cases_lt}
+use Rattle.std.proofs.Common.{◌≡◌, ℕ, zero, suc, ◌+◌, ◌<◌, ◌≤◌, ◌||◌, Bool, true, false, cond, eqb, eq-eqb, ne_eqb, List, [], ◌∷◌, ◌++◌, length, get_or}
+use Rattle.std.{proofs.Common.{take, reverse, slice_index, slice_index_or, refl, sym, ap, ◌∙◌, subst, ⊎_elim, arith}, specs.List.{filter, Contains, list_any}}
+use Rattle.std.proofs.{Math.Seq.get_or-append_seam, lemmas.Bool.cases_lt}
 use Rattle.std.proofs.lemmas.List.{get_or-take, get_or_append_left, length-append, length-take, reverse-append, reverse-reverse}
 use Rattle.std.proofs.lemmas.List.Elements.{All-from_get_or, Contains-append_right, Contains-get_or, Contains-push_cases, filter_agree}
-use Rattle.std.proofs.lemmas.List.Folds.{list_any_at, list_any_more, list_any_none}
-use Rattle.std.proofs.lemmas.List.Sorted.{Contains-permutation, IsPermutation-reverse}
+use Rattle.std.proofs.lemmas.List.{Folds.{list_any_at, list_any_more, list_any_none}, Sorted.{Contains-permutation, IsPermutation-reverse}}
 use Rattle.atomic_table.specs.Table.{Me}
 use Rattle.npf_paths.specs.LevelLaw.{AreApart}
-use Rattle.npf_cells_rule.specs.declared.view.CellView.{CellView}
-use Rattle.npf_cells_rule.specs.Views.{with_pools}
+use Rattle.npf_cells_rule.specs.{declared.view.CellView.CellView, Views.with_pools}
 use Rattle.npf_seats.specs.Sums.{others_than}
 use Rattle.npf_cells_takes.specs.PoolKinds.{giving_back}
 use Rattle.npf_cells_holds.specs.PublishKinds.{nodes_but}
-use Rattle.npf_pool.specs.Take.{taking}
+use Rattle.npf_pool.specs.Takes.{taking}
 use Rattle.npf_trie.specs.Nodes.{left_with}
 
 -- two filters are one
@@ -53,7 +50,8 @@ without_more gone nodes i h =
     by_test true node = refl
     by_test false node = ap (λ b. cond b false true) (turned node (get_or gone i 0))
 
-    at_node : (node : ℕ) → cond (cond (list_any (λ x. eqb x node) (take i gone)) false true) (cond (eqb node (get_or gone i 0)) false true) false ≡ cond (list_any (λ x. eqb x node) (take (i + 1) gone)) false true
+    at_node : (node : ℕ) →
+        cond (cond (list_any (λ x. eqb x node) (take i gone)) false true) (cond (eqb node (get_or gone i 0)) false true) false ≡ cond (list_any (λ x. eqb x node) (take (i + 1) gone)) false true
     at_node node = by_test (list_any (λ x. eqb x node) (take i gone)) node ∙ ap (λ b. cond b false true) (sym (list_any_more (λ x. eqb x node) gone i 0 h))
 
 -- the next node to be given back is owned still

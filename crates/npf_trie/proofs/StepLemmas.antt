@@ -2,51 +2,21 @@
 use Rattle.std.proofs.Common.{◌≡◌, ◌≢◌, ℕ, ◌+◌, ◌≤◌, ◌<◌, Bool, true, false, Some, None, List, [], ◌∷◌, length, refl, sym, ap, ◌∙◌, subst, inl, inr, arith}
 use Rattle.std.specs.List.{Contains}
 use Rattle.atomic_table.specs.Table.{Me}
-use Rattle.npf_types.specs.declared.key.Key.{Key}
-use Rattle.npf_types.specs.declared.key.Way.{Way}
-use Rattle.npf_core.specs.declared.entry.Entry.{Entry}
-use Rattle.npf_core.specs.declared.found.Found.{Found}
-use Rattle.npf_core.specs.declared.held.Held.{Held}
-use Rattle.npf_core.specs.Machine.{is_key}
-use Rattle.npf_core.specs.Meaning.{Meaning}
+use Rattle.npf_types.specs.declared.key.{Key.Key, Way.Way}
+use Rattle.npf_core.specs.{declared.{entry.Entry.Entry, found.Found.Found, held.Held.Held}, Machine.is_key, Meaning.Meaning}
 use Rattle.npf_core.proofs.EqualityLemmas.{is_key-Decides}
-use Rattle.npf_paths.specs.declared.cell.Cell.{Cell}
-use Rattle.npf_paths.specs.declared.cell.Cell.TheVariants.{Empty, Leaf, Node, Mark}
-use Rattle.npf_paths.specs.declared.place.Lock.{Lock}
-use Rattle.npf_paths.specs.declared.place.Place.{Place}
+use Rattle.npf_paths.specs.{declared.{cell.Cell.{Cell, TheVariants.{Empty, Leaf, Node, Mark}}, place.Lock.Lock}, Places.lock_of}
 use Rattle.npf_paths.specs.declared.place.Place.TheVariants as Places
-use Rattle.npf_paths.specs.Places.{lock_of}
-use Rattle.npf_cells_words.specs.declared.layout.Layout.{Layout}
-use Rattle.npf_cells_rule.specs.declared.view.CellView.{CellView}
-use Rattle.npf_cells_leaves.specs.Sights.{SeesLocked}
-use Rattle.npf_cells_leaves.specs.declared.trie.LoadedLeaf.{LoadedLeaf}
-use Rattle.npf_cells_leaves.specs.declared.trie.PathPlace.{PathPlace}
-use Rattle.npf_cells_holds.specs.HoldKinds.{HoldsAt, meeting}
-use Rattle.npf_cells_holds.specs.LookKinds.{IsLeafOf, level_of, level_at}
-use Rattle.npf_cells_rule.specs.Views.{dead_hand, with_trie}
-use Rattle.npf_cells_words.specs.Places.{IsLockOf, IsInTrie}
-use Rattle.npf_cells_rule.specs.Passes.{IsProtected, cell_pass}
-use Rattle.npf_connections.specs.Adding.{AddsOwn}
-use Rattle.npf_connections.specs.Entries.{hold_entries}
+use Rattle.npf_cells_words.specs.{declared.layout.Layout.Layout, Layout.note_field}
+use Rattle.npf_cells_rule.specs.{declared.view.CellView.CellView, Views.{dead_hand, with_trie}, Passes.{IsProtected, cell_pass}}
+use Rattle.npf_cells_leaves.specs.{Sights.SeesLocked, declared.trie.{LoadedLeaf.LoadedLeaf, PathPlace.PathPlace}, Trie.digits_of}
+use Rattle.npf_cells_holds.specs.{HoldKinds.{HoldsAt, meeting}, LookKinds.{IsLeafOf, level_of, level_at}, PublishKinds.{HasHeld, nodes_but, published_for}}
+use Rattle.npf_connections.specs.{Adding.AddsOwn, Entries.hold_entries}
 use Rattle.npf_cells_lives.specs.Notes.{with_ahead}
-use Rattle.npf_cells_words.specs.Layout.{note_field}
-use Rattle.npf_trie.proofs.StoreLemmas.{noting, notes_once}
-use Rattle.npf_cells_holds.specs.PublishKinds.{HasHeld, nodes_but, published_for}
-use Rattle.npf_cells_leaves.specs.Trie.{digits_of}
-use Rattle.npf_trie.specs.declared.step.Met.{Met}
-use Rattle.npf_trie.specs.declared.step.Met.TheVariants.{Holder, Other}
-use Rattle.npf_trie.specs.declared.step.Point.{Point}
-use Rattle.npf_trie.specs.declared.step.Step.{Step}
-use Rattle.npf_trie.specs.declared.step.Step.TheVariants.{Ends, Leads, Again, Anew}
-use Rattle.npf_trie.specs.declared.step.Wanted.{Wanted}
-use Rattle.npf_trie.specs.HoldKey.{CanHold, IsAtPlace, StepsSo, TellsMet, HasMet}
+use Rattle.npf_trie.{proofs.StoreLemmas.{noting, notes_once}, specs.declared.step.{LeafKey.{LeafKey, TheVariants.{Holder, Other}}, Point.Point, Step.Step}}
+use Rattle.npf_trie.specs.{declared.step.{Step.TheVariants.{Ends, Leads, Again, Anew}, Wanted.Wanted}, HoldKey.{CanHold, IsAtPlace, StepsSo, TellsMet, HasMet}}
 use Rattle.npf_trie.specs.LookUp.{ComparesWords}
 use Rattle.npf_trie.proofs.HoldLemmas.{ComesTo, comes_then, steps_so, steps_after, holds_on, can_after, protected_after, StaysOn, stays_trie, at_after, next_point}
-
--- the lock of a place of the trie is one that the table has
-pub lock_there : (layout : Layout) (p : Place) → IsInTrie layout p → IsLockOf layout (lock_of p)
-lock_there layout (Places.Root digit) h = h
-lock_there layout (Places.Node node digit) h = h.0
 
 -- digits below the root's are below 16
 deep_digit : (digest : Key → ℕ) (key : Key) (level : ℕ) → 1 ≤ level → digits_of digest key level < 16
@@ -82,7 +52,8 @@ module _ {S A R F : Type 0} where
         let led = loads.leads node refl in
         let low : point.level + 1 < 95 = let l = led.0 in let e = at.level_is in omega arith in
         let stands : b.0.trie.stands ≡ Some (record { key = wanted.key; level = point.level + 1; place = (next_point digest wanted point node).place }) =
-        ap (λ (y : Me F (CellView S A R)). y.0.trie.stands) led.1 ∙ ap (λ (l : ℕ). Some (let there : PathPlace = record { key = wanted.key; level = l + 1; place = Places.Node node (digits_of digest wanted.key (l + 1)) } in there)) at.level_is in
+        ap (λ (y : Me F (CellView S A R)). y.0.trie.stands) led.1
+        ∙ ap (λ (l : ℕ). Some (let there : PathPlace = record { key = wanted.key; level = l + 1; place = Places.Node node (digits_of digest wanted.key (l + 1)) } in there)) at.level_is in
         record {
           comes = (
             stays_trie a b _ led.1 refl,
@@ -139,10 +110,10 @@ module _ {S A R F : Type 0} where
       leaf_loaded = (met_leaf, leaf_known, (loads.meets slot leaf_way refl).is_leaf.slot_is, (loads.meets slot leaf_way refl).is_leaf.way_is)
 
       -- what it is told of it
-      abbrev pub Told : Met → Type 0
+      abbrev pub Told : LeafKey → Type 0
       Told met = (leaf : LoadedLeaf) → b.0.trie.leaf ≡ Some leaf → length leaf.key.0 ≡ 5 → TellsMet leaf wanted.key met
 
-      told_of : (met : Met) → Told met → TellsMet met_leaf wanted.key met
+      told_of : (met : LeafKey) → Told met → TellsMet met_leaf wanted.key met
       told_of met told = told met_leaf leaf_known (loads.meets slot leaf_way refl).is_leaf.five
 
       -- the key's holder ends the hold
@@ -216,7 +187,8 @@ module _ {S A R F : Type 0} where
             }
 
     -- its note is stored, and the store of the leaf is then the hold
-    pub published_ends : (cell : Cell) (value : ℕ) (a n b : Me F (CellView S A R)) → n ≡ noting wanted.id.slot wanted.way value a → HasHeld m digest layout wanted.id wanted.key wanted.way point.place cell n b → a.0.pools.nodes ≡ [] → a.0.turn ≡ None →
+    pub published_ends : (cell : Cell) (value : ℕ) (a n b : Me F (CellView S A R)) → n ≡ noting wanted.id.slot wanted.way value a →
+        HasHeld m digest layout wanted.id wanted.key wanted.way point.place cell n b → a.0.pools.nodes ≡ [] → a.0.turn ≡ None →
         Comes (Ends Held.Done) a b
     published_ends cell value a n b noted held none turnless =
         let history : List (Entry S A R) = b.0.seats.history in

@@ -1,40 +1,26 @@
 -- What is stored of a word after a further store.
 use Rattle.std.proofs.Common.{◌≡◌, ◌≢◌, ℕ, ◌+◌, ◌-◌, ◌<◌, ◌≤◌, ◌^◌, ◌&&◌, Bool, true, false, not, nat_lt, cond, eqb, eq-eqb, ne_eqb, Some, List, [], ◌∷◌, refl, sym, ap, ◌∙◌, subst, ⊎_elim, arith}
-use Rattle.std.specs.Prelude.{Contains, filter}
-use Rattle.std.proofs.lemmas.Bool.{cases_eq}
-use Rattle.std.proofs.lemmas.Bool.Decides.{Decides-ltb}
+use Rattle.std.{specs.Prelude.{Contains, filter}, proofs.lemmas.Bool.{cases_eq, Decides.Decides-ltb}}
 use Rattle.atomic_table.specs.Table.{Me}
-use Rattle.npf_types.specs.declared.key.Way.{Way}
-use Rattle.npf_types.specs.declared.key.Way.TheVariants.{Forward, Backward, Port}
-use Rattle.npf_core.specs.History.{state_of}
-use Rattle.npf_core.specs.Machine.{HoldsNone}
-use Rattle.npf_core.specs.Meaning.{Meaning}
-use Rattle.npf_paths.specs.declared.cell.Cell.{Cell}
-use Rattle.npf_paths.specs.declared.place.Place.TheVariants.{Node}
-use Rattle.npf_paths.specs.CellLaw.{WordsSayCells}
-use Rattle.npf_paths.specs.CellWords.{cell_of, cell_word}
-use Rattle.npf_cells_words.proofs.WordLemmas.{key_short, note_late}
-use Rattle.npf_cells_lives.specs.declared.pools.Note.{Note}
-use Rattle.npf_cells_lives.specs.Notes.{is_note_of, notes_but}
-use Rattle.npf_cells_lives.proofs.DeathLemmas.{low_note}
-use Rattle.npf_cells_words.specs.declared.layout.Layout.{Layout}
-use Rattle.npf_cells_words.specs.declared.layout.Pool.TheVariants.{Slots, Nodes}
-use Rattle.npf_cells_rule.specs.declared.view.CellView.{CellView}
-use Rattle.npf_cells_lives.specs.declared.pools.StoredWord.{StoredWord}
+use Rattle.npf_types.specs.declared.key.Way.{Way, TheVariants.{Forward, Backward, Port}}
+use Rattle.npf_core.specs.{History.state_of, Machine.HoldsNone, Meaning.Meaning}
+use Rattle.npf_paths.specs.{declared.{cell.Cell.Cell, place.Place.TheVariants.Node}, CellLaw.WordsSayCells, CellWords.{cell_of, cell_word}}
+use Rattle.npf_cells_words.{proofs.WordLemmas.{key_short, note_late}, specs.declared.layout.{Layout.Layout, Pool.TheVariants.{Slots, Nodes}}}
+use Rattle.npf_cells_lives.{specs.{declared.pools.{Note.Note, StoredWord.StoredWord}, Notes.{is_note_of, notes_but}}, proofs.DeathLemmas.low_note}
+use Rattle.npf_cells_rule.specs.{declared.view.CellView.CellView, Views.with_pools}
 use Rattle.npf_cells_words.specs.Layout.{parent_field, key_field, note_field, field_at}
-use Rattle.npf_cells_rule.specs.Views.{with_pools}
 use Rattle.npf_seats.specs.Sums.{others_than}
 use Rattle.npf_cells_takes.specs.PrivateKinds.{MayStoreInSlot, storing, stored_in, with_phase, letting_go, is_epoch_note, noted_in}
 use Rattle.npf_cells_holds.specs.PublishKinds.{IsParentStored, cell_stored, stored_cell}
-use Rattle.npf_cells_lives.specs.Deaths.{has_epoch}
-use Rattle.npf_cells_lives.specs.Stored.{stored_value}
+use Rattle.npf_cells_lives.specs.{Deaths.has_epoch, Stored.stored_value}
 use Rattle.npf_trie.specs.Stores.{MayStoreKey, LiesOutside, KeepsNodes, KeepsOutside}
 
 -- the last store is what is known of its word, and leaves the others
 pub stored_here : (layout : Layout) (s : StoredWord) (rest : List StoredWord) (word : ℕ) → field_at layout s.pool s.place s.field ≡ word → stored_value layout (s ∷ rest) word ≡ Some s.value
 stored_here layout s rest word there = ap (λ b. cond b (Some s.value) (stored_value layout rest word)) (eq-eqb _ word there)
 
-pub stored_before : (layout : Layout) (s : StoredWord) (rest : List StoredWord) (word : ℕ) → field_at layout s.pool s.place s.field ≢ word → stored_value layout (s ∷ rest) word ≡ stored_value layout rest word
+pub stored_before : (layout : Layout) (s : StoredWord) (rest : List StoredWord) (word : ℕ) →
+    field_at layout s.pool s.place s.field ≢ word → stored_value layout (s ∷ rest) word ≡ stored_value layout rest word
 stored_before layout s rest word apart = ap (λ b. cond b (Some s.value) (stored_value layout rest word)) (ne_eqb _ word apart)
 
 -- a field of one way's key is none of another's
@@ -61,7 +47,8 @@ module _ {S A R F : Type 0} where
   with_stored me stored = with_pools me (record me.0.pools { stored = stored })
 
   -- stores that follow one another
-  pub stored_more : (old now next : Me F (CellView S A R)) (stored : List StoredWord) → now ≡ with_stored old now.0.pools.stored → next ≡ with_stored now stored → next ≡ with_stored old next.0.pools.stored
+  pub stored_more : (old now next : Me F (CellView S A R)) (stored : List StoredWord) → now ≡ with_stored old now.0.pools.stored →
+      next ≡ with_stored now stored → next ≡ with_stored old next.0.pools.stored
   stored_more old now next stored is more =
       let on : next ≡ with_stored old stored = more ∙ ap (λ (y : Me F (CellView S A R)). with_stored y stored) is in
       on ∙ ap (λ t. with_stored old t) (sym (ap (λ (y : Me F (CellView S A R)). y.0.pools.stored) more))
@@ -74,8 +61,10 @@ module _ {S A R F : Type 0} where
       let behind = behind_inc way in
       let near = key_short way word low in
       is ∙ ((λ i. cond (ne_eqb field 2 (λ e. omega (arith, at, e, behind)) i) (record me.0 { turn = with_phase value me.0.turn }, me.1)
-      (cond ((Decides-ltb field 18).1 (omega (arith, at, near)) i) (with_pools me (storing Slots slot field value me.0.pools)) (cond (is_epoch_note field value) (with_pools me (letting_go slot (value - 2 ^ 63) me.0.pools)) (noted_in slot field value me))))
-      ∙ ap (λ b. with_pools me (record me.0.pools { unstored = cond b (others_than slot me.0.pools.unstored) me.0.pools.unstored; stored = s ∷ me.0.pools.stored })) (ne_eqb field 1 (λ e. omega (arith, at, e))))
+      (cond ((Decides-ltb field 18).1 (omega (arith, at, near)) i) (with_pools me (storing Slots slot field value me.0.pools))
+      (cond (is_epoch_note field value) (with_pools me (letting_go slot (value - 2 ^ 63) me.0.pools)) (noted_in slot field value me))))
+      ∙ ap (λ b. with_pools me (record me.0.pools { unstored = cond b (others_than slot me.0.pools.unstored) me.0.pools.unstored; stored = s ∷ me.0.pools.stored }))
+      (ne_eqb field 1 (λ e. omega (arith, at, e))))
 
 -- a filter does nothing twice
 filter_again : {A : Type 0} (p : A → Bool) (xs : List A) → filter p (filter p xs) ≡ filter p xs
@@ -99,11 +88,13 @@ module _ {S A R F : Type 0} where
   noting slot way value me = with_pools me (record me.0.pools { notes = (record { slot = slot; field = note_field way; value = value }) ∷ notes_but slot (note_field way) me.0.pools.notes })
 
   -- as a store in the note's field, of less than an epoch
-  pub note_stored : (me next : Me F (CellView S A R)) (slot field value : ℕ) (way : Way) → field ≡ note_field way → value < 2 ^ 63 → next ≡ stored_in Slots slot field value me → next ≡ noting slot way value me
+  pub note_stored : (me next : Me F (CellView S A R)) (slot field value : ℕ) (way : Way) → field ≡ note_field way →
+      value < 2 ^ 63 → next ≡ stored_in Slots slot field value me → next ≡ noting slot way value me
   note_stored me next slot field value way at low is =
       let late = note_late way in
       is ∙ ((λ i. cond (ne_eqb field 2 (λ e. omega (arith, at, e, late)) i) (record me.0 { turn = with_phase value me.0.turn }, me.1)
-      (cond (not_below (nat_lt field 18) refl i) (with_pools me (storing Slots slot field value me.0.pools)) (cond (no_epoch (eqb field 18) i) (with_pools me (letting_go slot (value - 2 ^ 63) me.0.pools)) (noted_in slot field value me))))
+      (cond (not_below (nat_lt field 18) refl i) (with_pools me (storing Slots slot field value me.0.pools))
+      (cond (no_epoch (eqb field 18) i) (with_pools me (letting_go slot (value - 2 ^ 63) me.0.pools)) (noted_in slot field value me))))
       ∙ ap (λ f. noted_in slot f value me) at)
     where
       not_below : (b : Bool) → nat_lt field 18 ≡ b → b ≡ false
@@ -131,18 +122,21 @@ module _ {S A R : Type 0} (m : Meaning S A R) where
       }
 
   -- and still after stores
-  pub may_store_still : {F : Type 0} (me next : Me F (CellView S A R)) (stored : List StoredWord) (slot : ℕ) (way : Way) → next ≡ with_stored me stored → MayStoreKey m me.0 slot way → MayStoreKey m next.0 slot way
+  pub may_store_still : {F : Type 0} (me next : Me F (CellView S A R)) (stored : List StoredWord) (slot : ℕ) (way : Way) →
+      next ≡ with_stored me stored → MayStoreKey m me.0 slot way → MayStoreKey m next.0 slot way
   may_store_still {F} me next stored slot way is may =
       subst (λ (y : Me F (CellView S A R)). MayStoreKey m y.0 slot way) (sym is) (record { id = may.id; there = may.there; hold = record { built = may.hold.built; bare = may.hold.bare } })
 
 -- what was stored in nodes is as it was
-nodes_same : (layout : Layout) (rest stored : List StoredWord) (slot field value : ℕ) → stored ≡ (record { pool = Slots; place = slot; field = field; value = value }) ∷ rest → KeepsNodes layout rest stored
+nodes_same : (layout : Layout) (rest stored : List StoredWord) (slot field value : ℕ) →
+    stored ≡ (record { pool = Slots; place = slot; field = field; value = value }) ∷ rest → KeepsNodes layout rest stored
 nodes_same layout rest stored slot field value is word low =
     let s : StoredWord = record { pool = Slots; place = slot; field = field; value = value } in
     ap (λ t. stored_value layout t word) is ∙ stored_before layout s rest word (λ e. absurd (omega (arith, low, e)))
 
 module _ (layout : Layout) (slot : ℕ) (way : Way) (value : ℕ → ℕ) where
-  more_words : (rest stored : List StoredWord) (field word : ℕ) → field ≡ key_field way + word → ((i : ℕ) → i < word → stored_value layout rest (field_at layout Slots slot (key_field way + i)) ≡ Some (value i)) →
+  more_words : (rest stored : List StoredWord) (field word : ℕ) → field ≡ key_field way + word →
+      ((i : ℕ) → i < word → stored_value layout rest (field_at layout Slots slot (key_field way + i)) ≡ Some (value i)) →
       stored ≡ (record { pool = Slots; place = slot; field = field; value = value word }) ∷ rest →
       (i : ℕ) → i < word + 1 → stored_value layout stored (field_at layout Slots slot (key_field way + i)) ≡ Some (value i)
   more_words rest stored field word at below is i low =

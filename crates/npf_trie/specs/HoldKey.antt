@@ -34,8 +34,8 @@ use Rattle.npf_cells_lives.specs.Notes.{notes_but, with_ahead}
 use Rattle.npf_cells_words.specs.Layout.{note_field}
 use Rattle.npf_trie.specs.declared.step.Branch.{Branch}
 use Rattle.npf_cells_leaves.specs.Trie.{digits_of}
-use Rattle.npf_trie.specs.declared.step.Met.{Met}
-use Rattle.npf_trie.specs.declared.step.Met.TheVariants.{Holder, Other}
+use Rattle.npf_trie.specs.declared.step.LeafKey.{LeafKey}
+use Rattle.npf_trie.specs.declared.step.LeafKey.TheVariants.{Holder, Other}
 use Rattle.npf_trie.specs.declared.step.OtherLeaf.{OtherLeaf}
 use Rattle.npf_trie.specs.declared.step.Point.{Point}
 use Rattle.npf_trie.specs.declared.step.Step.{Step}
@@ -116,6 +116,13 @@ pub record StaysAnew {S A R F : Type 0} (old now : Me F (CellView S A R)) : Type
   pub known : old.0.epochs.known ≤ now.0.epochs.known
   pub most : old.0.epochs.greatest ≤ last_epoch → now.0.epochs.greatest ≤ last_epoch
 
+-- the pass ended its stay and is in another: it stands nowhere, and knows no leaf and no answer. Only the end of a stay makes it forget where it stands
+pub record IsInNewStay {S A R : Type 0} (v : CellView S A R) : Type 0 where
+  pub protected : IsProtected v.epochs.pin
+  pub stands : v.trie.stands ≡ None
+  pub leaf : v.trie.leaf ≡ None
+  pub answered : v.trie.answered ≡ []
+
 -- the hold then ends in the last of these stays
 pub record SettlesAnew {S A R F : Type 0} (m : Meaning S A R) (layout : Layout) (id : ConnId) (key : Key) (way : Way) (held : Held) (old now : Me F (CellView S A R)) : Type 0 where
   pub between : Me F (CellView S A R)
@@ -131,7 +138,7 @@ StepsSo m digest layout wanted point Again old now = HoldsOn old now × IsAtPlac
 StepsSo m digest layout wanted point Anew old now = HoldsOn old now
 
 -- whose key a leaf has: this key, held by its connection, or another
-abbrev pub TellsMet : LoadedLeaf → Key → Met → Type 0
+abbrev pub TellsMet : LoadedLeaf → Key → LeafKey → Type 0
 TellsMet leaf key (Holder found) = (leaf.key ≡ key) × (found ≡ leaf_holder leaf)
 TellsMet leaf key (Other other) = (leaf.key ≢ key) × (other ≡ leaf.key)
 

@@ -13,6 +13,7 @@ use Rattle.npf_connections.specs.Pass.{IsPass}
 use Rattle.npf_paths.specs.declared.cell.Cell.{Cell}
 use Rattle.npf_cells_rule.specs.declared.view.CellView.{CellView}
 use Rattle.npf_cells_leaves.specs.declared.trie.LoadedLeaf.{LoadedLeaf}
+use Rattle.npf_cells_leaves.specs.declared.trie.TrieSide.{TrieSide}
 use Rattle.npf_cells_holds.specs.LookKinds.{TellsHolder, holder_by}
 use Rattle.npf_cells_rule.specs.Views.{with_trie}
 use Rattle.npf_cells_rule.specs.Passes.{cell_pass}
@@ -28,6 +29,12 @@ having_looked old now found = record old {
   seats = record old.seats { history = now.seats.history };
   trie = record now.trie { locks = old.trie.locks; answered = found_ids found ++ old.trie.answered; published = old.trie.published };
 }
+
+-- the pass got no lock: it has those that it had, and knows still what it found under them, which it forgets whenever it frees one
+pub record GetsNoLock (old now : TrieSide) : Type 0 where
+  pub locks : now.locks ≡ old.locks
+  pub emptied : now.emptied ≡ old.emptied
+  pub met_mark : now.met_mark ≡ old.met_mark
 
 -- the look for the key, for this packet, is the pass's one new entry and ends its history, with what was found as reply
 pub record LooksUpKey {S A R F : Type 0} (m : Meaning S A R) (n : ℕ) (key : Key) (found : Option Found) (old now : Me F (CellView S A R)) : Type 0 where

@@ -1,3 +1,4 @@
+// A branch that parts two keys.
 ghost use Rattle.std.specs.Prelude.{◌≡◌, ◌≢◌, ◌+◌, ◌≤◌, ◌<◌, ℕ, [], ◌∷◌, length, slice_index, Contains};
 ghost use Rattle.npf_paths.specs.Digits.{PartsAt};
 ghost use Rattle.npf_paths.specs.declared.cell.Cell.TheVariants.{Mark};

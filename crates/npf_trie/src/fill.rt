@@ -6,7 +6,7 @@ ghost use Rattle.npf_trie.specs.HoldKey.{CanHold, IsAtPlace, StepsSo};
 
 use crate::keys::{leaf_note, store_key, store_note};
 use crate::meet::meet;
-use crate::step::{Met, Point, Step, Wanted};
+use crate::step::{LeafKey, Point, Step, Wanted};
 use npf_cells::{CellPass, Cells};
 use npf_core::{Held, Law};
 use npf_paths::{Cell, KeyHash};
@@ -42,8 +42,8 @@ pub(crate) fn fill<L: Law, H: KeyHash>(
         }
         Cell::Node(node) => Step::Leads(node),
         Cell::Leaf { slot, way } => match meet(cells, pass, slot, way, &wanted.key) {
-            Met::Holder(found) => Step::Ends(Held::Taken(found)),
-            Met::Other(_) => Step::Again,
+            LeafKey::Holder(found) => Step::Ends(Held::Taken(found)),
+            LeafKey::Other(_) => Step::Again,
         },
         Cell::Mark => Step::Anew,
     };

@@ -14,7 +14,7 @@ use crate::branch::{Tip, build_branch};
 use crate::keys::{leaf_note, store_key, store_note};
 use crate::meet::meet;
 use crate::nodes::{give_all, take_nodes};
-use crate::step::{Branch, Met, OtherLeaf, Point, Step, Wanted};
+use crate::step::{Branch, LeafKey, OtherLeaf, Point, Step, Wanted};
 use arrayvec::ArrayVec;
 use npf_cells::{CellPass, Cells, TurnAct};
 use npf_core::{Held, Law};
@@ -153,12 +153,12 @@ fn hang<L: Law, H: KeyHash>(
     match cells.load_place(pass, point.place, &wanted.aim()) {
         Cell::Node(node) => Step::Leads(node),
         Cell::Leaf { slot, way } => match meet(cells, pass, slot, way, &wanted.key) {
-            Met::Holder(found) => Step::Ends(Held::Taken(found)),
-            Met::Other(key) if branch.other == (OtherLeaf { slot, way, key }) => {
+            LeafKey::Holder(found) => Step::Ends(Held::Taken(found)),
+            LeafKey::Other(key) if branch.other == (OtherLeaf { slot, way, key }) => {
                 put_branch(cells, pass, wanted, point, branch);
                 Step::Ends(Held::Done)
             }
-            Met::Other(_) => Step::Again,
+            LeafKey::Other(_) => Step::Again,
         },
         Cell::Empty => Step::Again,
         Cell::Mark => Step::Anew,

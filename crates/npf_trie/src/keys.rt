@@ -1,3 +1,4 @@
+// A connection's own key is stored, with where its leaf stands.
 ghost use Rattle.std.specs.Prelude.{◌≡◌, ◌<◌, ◌^◌, ◌∷◌};
 ghost use Rattle.npf_cells_words.specs.Codes.{place_code};
 ghost use Rattle.npf_cells_words.specs.Layout.{key_field, note_field};

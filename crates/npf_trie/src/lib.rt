@@ -9,24 +9,25 @@
 // a look ends there with nobody.
 //
 // The contract: a look adds its entry to the history of the pass, with the answer as reply, and loads 95 places and five words of keys at
-// most. It has the locks then that it had before, and waits for nobody. A hold's entry is the pass's one new and ends its history as it
-// was seen: Done, or Taken by the key's holder. A hold for which too few nodes are left adds none, has published nothing, and met another
-// key at a place that it loaded. After each answer the pass has neither a node, a lock nor a turn.
-// No clause says that a hold has one lock at a time, and so it is: it waits for that of each place in which it tries to put its leaf or
-// its nodes, and goes by what stands there then. Before it moves the leaf of another key it waits for the turn of that leaf's slot, and for
-// the lock behind it, never the other way round; and the note of each leaf is stored right before the store that puts the leaf there.
+// most. It takes no lock, and waits for nobody. A hold's entry is the pass's one new and ends its history as it was seen: Done, or Taken by
+// the key's holder. A hold for which too few nodes are left adds none, has published nothing, and met another key at a place that it
+// loaded. After each answer the pass has neither a node, a lock nor a turn.
+// A hold waits for the lock of each place in which it tries to put its leaf or its nodes, and goes by what stands there then. Before it moves
+// the leaf of another key it waits for the turn of that leaf's slot, and for the lock behind it; the other way round `wait_turn` of npf_turn
+// refuses. No clause says that it has one lock at a time, and that the note of each leaf is stored right before the store that puts the leaf
+// there, and so it is.
 #![tactic(auto)]
 
 mod branch;
 mod fill;
 mod grow;
-mod holding;
+mod holds;
 mod keys;
-mod looking;
+mod looks;
 mod meet;
 mod nodes;
 mod step;
 mod walk;
 
-pub use holding::hold;
-pub use looking::look;
+pub use holds::hold;
+pub use looks::look;

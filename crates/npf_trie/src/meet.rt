@@ -1,3 +1,4 @@
+// Whose key a leaf has.
 ghost use Rattle.std.specs.Prelude.{◌≡◌, ◌<◌, length, Some};
 ghost use Rattle.npf_cells_leaves.specs.declared.trie.LoadedLeaf.{LoadedLeaf};
 ghost use Rattle.npf_cells_holds.specs.LookKinds.{IsLeafOf};
@@ -5,7 +6,7 @@ ghost use Rattle.npf_cells.specs.Cells.{IsPassIn};
 ghost use Rattle.npf_trie.specs.HoldKey.{TellsMet};
 ghost use Rattle.npf_trie.specs.LookUp.{ComparesWords};
 
-use crate::step::Met;
+use crate::step::LeafKey;
 use npf_cells::{CellPass, Cells};
 use npf_core::{ConnId, Found, Law};
 use npf_paths::KeyHash;
@@ -18,7 +19,7 @@ pub(crate) fn meet<L: Law, H: KeyHash>(
     slot: u32,
     way: Way,
     key: &Key,
-) -> Met
+) -> LeafKey
     requires own { IsPassIn cells.now pass.old }
     requires slot { slot < cells.now.table.shared.key.slots }
     requires leaf { IsLeafOf pass.old.seat.me.0.trie slot way }
@@ -34,10 +35,10 @@ pub(crate) fn meet<L: Law, H: KeyHash>(
         cells.load_key(pass, slot, way, 4),
     ]);
     if met != *key {
-        return Met::Other(met);
+        return LeafKey::Other(met);
     }
     let inc = cells.load_inc(pass, slot);
-    Met::Holder(Found {
+    LeafKey::Holder(Found {
         id: ConnId { slot, inc },
         way,
     })

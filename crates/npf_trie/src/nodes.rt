@@ -1,3 +1,4 @@
+// Nodes are taken for a branch, and given back.
 ghost use Rattle.std.specs.Prelude.{◌≡◌, ◌≤◌, ◌<◌, ℕ, [], length, IfSome, IfNone, Contains};
 ghost use Rattle.npf_paths.specs.LevelLaw.{AreApart};
 ghost use Rattle.npf_cells.specs.Cells.{IsPassIn};

@@ -1,3 +1,4 @@
+// What a walk has come to at a place.
 use npf_cells::Aim;
 use npf_core::{ConnId, Found, Held};
 use npf_paths::{Cell, Place};
@@ -38,7 +39,7 @@ pub(crate) struct Branch {
 
 /// Whose key a leaf has that a pass met.
 #[derive(Clone, Copy, Debug, PartialEq, Eq)]
-pub(crate) enum Met {
+pub(crate) enum LeafKey {
     /// The key itself, which has this holder.
     Holder(Found),
     /// Another key.

@@ -1,9 +1,10 @@
+// A walk down the trie, to where a key's path ends.
 ghost use Rattle.std.specs.Prelude.{◌≡◌};
 ghost use Rattle.npf_cells_holds.specs.LookKinds.{FitsLayout};
 ghost use Rattle.npf_cells.specs.Cells.{IsPassIn};
 ghost use Rattle.npf_cells_rule.specs.Passes.{IsProtected};
 ghost use Rattle.npf_paths.specs.Paths.{IsEnd};
-ghost use Rattle.npf_trie.specs.LookUp.{ComesToEnd};
+ghost use Rattle.npf_trie.specs.LookUp.{ComesToEnd, GetsNoLock};
 
 use npf_cells::{Aim, CellPass, Cells};
 use npf_core::Law;
@@ -22,6 +23,7 @@ pub fn end_of<L: Law, H: KeyHash>(
     ensures own { IsPassIn cells.now pass.new }
     ensures fits { FitsLayout cells.now.table.shared.key result }
     ensures comes { ComesToEnd L.meaning n key result pass.old.seat.me pass.new.seat.me }
+    ensures lockless { GetsNoLock pass.old.seat.me.0.trie pass.new.seat.me.0.trie }
 {
     let hash = H::hash(&key);
     let mut place = Place::Root(digit(hash, &key, 0));

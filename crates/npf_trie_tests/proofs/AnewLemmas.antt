@@ -1,22 +1,15 @@
 -- A hold that is done may have ended in a later stay: its entry is one of the pass before it.
 use Rattle.std.proofs.Common.{◌≡◌, Bool, List, sym, ap, ◌∙◌, subst}
 use Rattle.atomic_table.specs.Table.{Me}
-use Rattle.npf_types.specs.declared.key.Key.{Key}
-use Rattle.npf_types.specs.declared.key.Way.{Way}
-use Rattle.npf_core.specs.declared.conn_id.ConnId.{ConnId}
-use Rattle.npf_core.specs.declared.entry.Entry.{Entry}
-use Rattle.npf_core.specs.declared.held.Held.{Held}
-use Rattle.npf_core.specs.Meaning.{Meaning}
-use Rattle.npf_connections.specs.Adding.{AddsOwn}
-use Rattle.npf_connections.specs.Entries.{hold_entries}
-use Rattle.npf_connections.specs.Pass.{Pass}
+use Rattle.npf_types.specs.declared.key.{Key.Key, Way.Way}
+use Rattle.npf_core.specs.{declared.{conn_id.ConnId.ConnId, entry.Entry.Entry, held.Held.Held}, Meaning.Meaning}
+use Rattle.npf_connections.specs.{Adding.AddsOwn, Entries.hold_entries, Pass.Pass}
 use Rattle.npf_cells_words.specs.declared.layout.Layout.{Layout}
-use Rattle.npf_cells_rule.specs.declared.view.CellView.{CellView}
-use Rattle.npf_cells_rule.specs.Passes.{IsProtected, cell_pass}
-use Rattle.npf_cells_rule.proofs.PassLemmas.{pinned_in}
+use Rattle.npf_cells_rule.{specs.{declared.view.CellView.CellView, Passes.{IsProtected, cell_pass}}, proofs.PassLemmas.pinned_in}
 use Rattle.npf_trie.specs.HoldKey.{SettlesAnew, StaysAnew}
 
-module _ {S A R F : Type 0} (m : Meaning S A R) (layout : Layout) (id : ConnId) (key : Key) (way : Way) (old now : Me F (CellView S A R)) (protected : IsProtected old.0.epochs.pin) (answers : SettlesAnew m layout id key way Held.Done old now) where
+module _ {S A R F : Type 0} (m : Meaning S A R) (layout : Layout) (id : ConnId) (key : Key) (way : Way) (old now : Me F (CellView S A R))
+    (protected : IsProtected old.0.epochs.pin) (answers : SettlesAnew m layout id key way Held.Done old now) where
   abbrev mid : Me F (CellView S A R)
   mid = answers.between
 

@@ -1,26 +1,14 @@
 -- A connection that holds two keys, and whose note of the third way is 0, may be started or killed.
-use Rattle.std.proofs.Common.{◌≡◌, ◌==◌, false, not, refl, sym, ap, ◌∙◌, subst, List, [], ◌∷◌, None, arith}
-use Rattle.std.specs.Prelude.{Bool, Contains, IsTrue}
+use Rattle.std.{proofs.Common.{◌≡◌, ◌==◌, false, not, refl, sym, ap, ◌∙◌, subst, List, [], ◌∷◌, None, arith}, specs.Prelude.{Bool, Contains, IsTrue}}
 use Rattle.atomic_table.specs.Table.{Me}
-use Rattle.npf_types.specs.declared.key.Key.{Key}
-use Rattle.npf_types.specs.declared.key.Way.{Way}
-use Rattle.npf_types.specs.declared.key.Way.TheVariants.{Forward, Backward, Port}
-use Rattle.npf_core.specs.declared.conn_id.ConnId.{ConnId}
-use Rattle.npf_core.specs.declared.held.Held.{Held}
-use Rattle.npf_core.specs.History.{state_of}
-use Rattle.npf_core.specs.Machine.{HoldsNone}
-use Rattle.npf_core.specs.Meaning.{Meaning}
-use Rattle.npf_connections.specs.StayLaw.{Holding}
-use Rattle.npf_connections.specs.Ways.{HoldsThese, held_after}
-use Rattle.npf_connections.proofs.StayLemmas.{holding_keeps_bare, holding_keeps_ways}
-use Rattle.npf_cells_words.specs.declared.layout.Layout.{Layout}
-use Rattle.npf_cells_words.specs.Layout.{note_field}
+use Rattle.npf_types.specs.declared.key.{Key.Key, Way.{Way, TheVariants.{Forward, Backward, Port}}}
+use Rattle.npf_shelf.proofs.ListLemmas.{Contains-filter_from}
+use Rattle.npf_core.specs.{declared.{conn_id.ConnId.ConnId, held.Held.Held}, History.state_of, Machine.HoldsNone, Meaning.Meaning}
+use Rattle.npf_connections.{specs.{StayLaw.Holding, Ways.{HoldsThese, held_after}}, proofs.StayLemmas.{holding_keeps_bare, holding_keeps_ways}}
+use Rattle.npf_cells_words.specs.{declared.layout.Layout.Layout, Layout.note_field}
 use Rattle.npf_cells_pins.specs.declared.pin.EpochSide.{EpochSide}
-use Rattle.npf_cells_lives.specs.declared.pools.Note.{Note}
-use Rattle.npf_cells_lives.specs.Notes.{is_note_of, notes_but}
-use Rattle.npf_cells_lives.proofs.StoredLemmas.{has_filtered}
-use Rattle.npf_cells_rule.specs.declared.view.CellView.{CellView}
-use Rattle.npf_cells_rule.specs.Passes.{IsProtected, cell_pass}
+use Rattle.npf_cells_lives.specs.{declared.pools.Note.Note, Notes.{is_note_of, notes_but}}
+use Rattle.npf_cells_rule.specs.{declared.view.CellView.CellView, Passes.{IsProtected, cell_pass}}
 use Rattle.npf_cells_takes.specs.PrivateKinds.{noted_in}
 use Rattle.npf_pool_beginning.specs.Begins.{HasBegun}
 use Rattle.npf_trie.specs.HoldKey.{CanHold, SettlesAnew}
@@ -46,11 +34,14 @@ can_hold_forward {S} {A} {R} {F} m layout id me noted is begun nodes unfreed loc
 }
 
 -- it is in the stay in which the connection was begun
-pub protected_on : {S A R F : Type 0} (id : ConnId) (old : EpochSide) (me noted : Me F (CellView S A R)) → noted ≡ bared id Port me → me.0.epochs ≡ old → IsProtected old.pin → IsProtected noted.0.epochs.pin
-protected_on {S} {A} {R} {F} id old me noted stores keeps protected = subst IsProtected (sym (ap (λ (y : Me F (CellView S A R)). y.0.epochs.pin) stores ∙ ap (λ (side : EpochSide). side.pin) keeps)) protected
+pub protected_on : {S A R F : Type 0} (id : ConnId) (old : EpochSide) (me noted : Me F (CellView S A R)) →
+    noted ≡ bared id Port me → me.0.epochs ≡ old → IsProtected old.pin → IsProtected noted.0.epochs.pin
+protected_on {S} {A} {R} {F} id old me noted stores keeps protected =
+    subst IsProtected (sym (ap (λ (y : Me F (CellView S A R)). y.0.epochs.pin) stores ∙ ap (λ (side : EpochSide). side.pin) keeps)) protected
 
 module _ {S A R F : Type 0} (m : Meaning S A R) (layout : Layout) (id : ConnId) (forward : Key) (me noted first : Me F (CellView S A R))
-    (stores : noted ≡ bared id Port me) (begun : HasBegun m layout noted.0 id) (protected : IsProtected noted.0.epochs.pin) (holds : SettlesAnew m layout id forward Forward Held.Done noted first) where
+    (stores : noted ≡ bared id Port me) (begun : HasBegun m layout noted.0 id) (protected : IsProtected noted.0.epochs.pin)
+    (holds : SettlesAnew m layout id forward Forward Held.Done noted first) where
   holding : Holding m (cell_pass noted.0) (cell_pass first.0) id forward Forward Held.Done
   holding = record {
     before = begun.legal;
@@ -105,14 +96,16 @@ module _ {S A R F : Type 0} (m : Meaning S A R) (layout : Layout) (id : ConnId) 
     port = record { slot = id.slot; field = note_field Port; value = 0 }
 
     left : (way : Way) (notes : List Note) → (note_field Port == note_field way) ≡ false → Contains notes port → Contains (notes_but id.slot (note_field way) notes) port
-    left way notes other c = has_filtered (λ n. not (is_note_of id.slot (note_field way) n)) notes port c (ap not (apart id.slot (note_field way) (note_field Port) other))
+    left way notes other c = Contains-filter_from (λ n. not (is_note_of id.slot (note_field way) n)) notes port c (ap not (apart id.slot (note_field way) (note_field Port) other))
 
-    noted_on : (way : Way) (key : Key) (before after : Me F (CellView S A R)) → SettlesAnew m layout id key way Held.Done before after → after.0.pools.notes ≡ notes_but id.slot (note_field way) before.0.pools.notes
+    noted_on : (way : Way) (key : Key) (before after : Me F (CellView S A R)) → SettlesAnew m layout id key way Held.Done before after →
+        after.0.pools.notes ≡ notes_but id.slot (note_field way) before.0.pools.notes
     noted_on way key before after answers = answers.settles.noted ∙ ap (notes_but id.slot (note_field way)) answers.anew.noted
 
     port_noted : Contains second.0.pools.notes port
     port_noted = subst (λ notes. Contains notes port)
-        (sym (noted_on Backward backward first second holds_second ∙ ap (notes_but id.slot (note_field Backward)) (noted_on Forward forward noted first holds ∙ ap (λ (y : Me F (CellView S A R)). notes_but id.slot (note_field Forward) y.0.pools.notes) stores)))
+        (sym (noted_on Backward backward first second holds_second ∙ ap (notes_but id.slot (note_field Backward))
+        (noted_on Forward forward noted first holds ∙ ap (λ (y : Me F (CellView S A R)). notes_but id.slot (note_field Forward) y.0.pools.notes) stores)))
         (left Backward _ refl (left Forward (bared id Port me).0.pools.notes refl (0, omega arith, refl)))
 
     notes : (way : Way) → HoldsNone (state_of m second.0.seats.history) id way → Contains second.0.pools.notes (record { slot = id.slot; field = note_field way; value = 0 })

@@ -1,14 +1,10 @@
 -- A pass knows the connection that its last look found.
-use Rattle.std.proofs.Common.{ℕ, Some, List, refl, sym, ap, subst, inl, arith}
-use Rattle.std.specs.Prelude.{Contains}
+use Rattle.std.{proofs.Common.{ℕ, Some, List, refl, sym, ap, subst, inl, arith}, specs.Prelude.Contains}
 use Rattle.atomic_table.specs.Table.{Me}
 use Rattle.npf_types.specs.declared.key.Key.{Key}
-use Rattle.npf_core.specs.declared.conn_id.ConnId.{ConnId}
-use Rattle.npf_core.specs.declared.found.Found.{Found}
-use Rattle.npf_core.specs.Meaning.{Meaning}
+use Rattle.npf_core.specs.{declared.{conn_id.ConnId.ConnId, found.Found.Found}, Meaning.Meaning}
 use Rattle.npf_connections.specs.Pass.{Knows}
-use Rattle.npf_cells_rule.specs.declared.view.CellView.{CellView}
-use Rattle.npf_cells_rule.specs.Passes.{cell_pass}
+use Rattle.npf_cells_rule.specs.{declared.view.CellView.CellView, Passes.cell_pass}
 use Rattle.npf_trie.specs.LookUp.{LooksUpKey}
 
 pub knows_found : {S A R F : Type 0} (m : Meaning S A R) (n : ℕ) (key : Key) (found : Found) (old now : Me F (CellView S A R)) →

@@ -1,34 +1,16 @@
 -- A connection that the pass has begun, whose notes of the ways without a key are 0, may be started once it holds its key.
 use Rattle.std.proofs.Common.{◌≡◌, ◌≢◌, ℕ, ◌==◌, false, not, ◌&&◌, eq-eqb, Option, Some, None, List, [], ◌∷◌, refl, sym, ap, ◌∙◌, subst, inl, inr, arith}
-use Rattle.std.specs.Prelude.{Contains}
-use Rattle.std.proofs.lemmas.List.Elements.{Contains-append_right}
+use Rattle.std.{specs.Prelude.Contains, proofs.lemmas.List.Elements.Contains-append_right}
 use Rattle.atomic_table.specs.Table.{Me}
-use Rattle.npf_types.specs.declared.key.Key.{Key}
-use Rattle.npf_types.specs.declared.key.Way.{Way}
-use Rattle.npf_types.specs.declared.key.Way.TheVariants.{Forward, Backward, Port}
-use Rattle.npf_core.specs.declared.act.Act.TheVariants.{Hold}
-use Rattle.npf_core.specs.declared.conn_id.ConnId.{ConnId}
-use Rattle.npf_core.specs.declared.entry.Entry.{Entry}
-use Rattle.npf_core.specs.declared.found.Found.{Found}
-use Rattle.npf_core.specs.declared.held.Held.{Held}
-use Rattle.npf_core.specs.declared.reply.Reply.TheVariants.{ToHold}
-use Rattle.npf_core.specs.History.{Legal, after, state_of}
-use Rattle.npf_core.specs.Machine.{Machine, HoldsNone, HoldsSome}
-use Rattle.npf_core.specs.Meaning.{Meaning}
-use Rattle.npf_core.specs.Replies.{held_by}
-use Rattle.npf_core.proofs.EqualityLemmas.{is_key-Decides}
-use Rattle.npf_core.proofs.HistoryLemmas.{MayFollow-split, state_of-append}
-use Rattle.npf_connections.specs.Adding.{AddsOwn}
-use Rattle.npf_connections.specs.Entries.{entry_of, hold_entries}
-use Rattle.npf_connections.specs.Pass.{Pass}
-use Rattle.npf_cells_words.specs.declared.layout.Layout.{Layout}
-use Rattle.npf_cells_words.specs.declared.layout.Pool.TheVariants.{Slots}
-use Rattle.npf_cells_words.specs.Layout.{note_field}
-use Rattle.npf_cells_lives.specs.declared.pools.Note.{Note}
-use Rattle.npf_cells_lives.specs.Notes.{is_note_of, notes_but}
-use Rattle.npf_cells_lives.proofs.StoredLemmas.{has_filtered}
-use Rattle.npf_cells_rule.specs.declared.view.CellView.{CellView}
-use Rattle.npf_cells_rule.specs.Passes.{cell_pass}
+use Rattle.npf_types.specs.declared.key.{Key.Key, Way.{Way, TheVariants.{Forward, Backward, Port}}}
+use Rattle.npf_shelf.proofs.ListLemmas.{Contains-filter_from}
+use Rattle.npf_core.specs.declared.{act.Act.TheVariants.Hold, conn_id.ConnId.ConnId, entry.Entry.Entry, found.Found.Found, held.Held.Held}
+use Rattle.npf_core.specs.{declared.reply.Reply.TheVariants.ToHold, History.{Legal, after, state_of}, Machine.{Machine, HoldsNone, HoldsSome}, Meaning.Meaning}
+use Rattle.npf_core.{specs.Replies.held_by, proofs.{EqualityLemmas.is_key-Decides, HistoryLemmas.{MayFollow-split, state_of-append}}}
+use Rattle.npf_connections.specs.{Adding.AddsOwn, Entries.{entry_of, hold_entries}, Pass.Pass}
+use Rattle.npf_cells_words.specs.{declared.layout.{Layout.Layout, Pool.TheVariants.Slots}, Layout.note_field}
+use Rattle.npf_cells_lives.specs.{declared.pools.Note.Note, Notes.{is_note_of, notes_but}}
+use Rattle.npf_cells_rule.specs.{declared.view.CellView.CellView, Passes.cell_pass}
 use Rattle.npf_cells_takes.specs.PrivateKinds.{MayStore, noted_in, stored_in}
 use Rattle.npf_cells_turns.specs.EndKinds.{HasBareNotes}
 use Rattle.npf_pool_beginning.specs.Begins.{HasBegun}
@@ -75,7 +57,8 @@ module _ {S A R F : Type 0} (id : ConnId) where
   port_bared field me next at is = is ∙ ap (λ f. stored_in Slots id.slot f 0 me) at
 
 -- a connection that was begun holds no key, so each of its notes may be stored
-pub may_bare : {S A R : Type 0} (m : Meaning S A R) (layout : Layout) (id : ConnId) (way : Way) (field : ℕ) (v : CellView S A R) → HasBegun m layout v id → field ≡ note_field way → MayStore m v Slots id.slot field 0
+pub may_bare : {S A R : Type 0} (m : Meaning S A R) (layout : Layout) (id : ConnId) (way : Way) (field : ℕ) (v : CellView S A R) →
+    HasBegun m layout v id → field ≡ note_field way → MayStore m v Slots id.slot field 0
 may_bare m layout id way field v begun is = inr (inr (inl (record { id = id; built = (begun.may way).built; there = refl; way = way; note = is; bare = (begun.may way).bare; low = omega arith })))
 
 module _ {S A R F : Type 0} (m : Meaning S A R) (layout : Layout) (id : ConnId) where
@@ -88,7 +71,8 @@ module _ {S A R F : Type 0} (m : Meaning S A R) (layout : Layout) (id : ConnId) 
   })
 
   -- it may hold a key then
-  pub can_hold : (me now : Me F (CellView S A R)) → now ≡ both_bared id me → HasBegun m layout now.0 id → me.0.pools.nodes ≡ [] → me.0.pools.unfreed ≡ [] → me.0.trie.locks ≡ [] → me.0.turn ≡ None → CanHold m layout now.0 id Forward
+  pub can_hold : (me now : Me F (CellView S A R)) → now ≡ both_bared id me → HasBegun m layout now.0 id → me.0.pools.nodes ≡ [] →
+      me.0.pools.unfreed ≡ [] → me.0.trie.locks ≡ [] → me.0.turn ≡ None → CanHold m layout now.0 id Forward
   can_hold me now is begun nodes unfreed locks turn = record {
     may = begun.may Forward;
     exists = begun.exists;
@@ -111,12 +95,16 @@ module _ {S A R F : Type 0} (m : Meaning S A R) (layout : Layout) (id : ConnId) 
 
       left : (note : Note) → Contains (both_bared id me).0.pools.notes note → is_note_of id.slot (note_field Forward) note ≡ false → Contains now.0.pools.notes note
       left note c other = subst (λ notes. Contains notes note) (sym (settles.noted ∙ ap (notes_but id.slot (note_field Forward)) noted))
-          (has_filtered (λ n. not (is_note_of id.slot (note_field Forward) n)) (both_bared id me).0.pools.notes note c (ap not other))
+          (Contains-filter_from (λ n. not (is_note_of id.slot (note_field Forward) n)) (both_bared id me).0.pools.notes note c (ap not other))
 
       by_way : (way : Way) → HoldsNone (state_of m now.0.seats.history) id way → Contains now.0.pools.notes (bare id way)
       by_way Forward none = absurd (let given = done_holds m (cell_pass answers.between.0) _ now.0.seats.history id key Forward (settles.legal (λ e. cc)).legal settles.adds in none given.0 given.1)
       by_way Backward none = left (bare id Backward)
           (Contains-append_right (bare id Port ∷ []) (notes_but id.slot (note_field Port) (bared id Backward me).0.pools.notes) (bare id Backward)
-          (has_filtered (λ n. not (is_note_of id.slot (note_field Port) n)) (bared id Backward me).0.pools.notes (bare id Backward) (0, omega arith, refl) (ap not (apart id.slot (note_field Port) (note_field Backward) refl))))
+          (Contains-filter_from (λ n. not (is_note_of id.slot (note_field Port) n)) (bared id Backward me).0.pools.notes (bare id Backward) (
+            0,
+            omega arith,
+            refl,
+          ) (ap not (apart id.slot (note_field Port) (note_field Backward) refl))))
           (apart id.slot (note_field Forward) (note_field Backward) refl)
       by_way Port none = left (bare id Port) (0, omega arith, refl) (apart id.slot (note_field Forward) (note_field Port) refl)

@@ -15,7 +15,7 @@ use std::alloc::Global;
 use std::sync::Wait;
 use std::sync::atomic::{AtomicU64, Ordering};
 use std::test::Fail;
-use std::thread::{Threads, join};
+use std::thread::{Threads, join, yield_now};
 
 const ROUNDS: u32 = 1000;
 
@@ -58,6 +58,7 @@ fn meet(rt: &impl Wait, arrived: &AtomicU64, round: u32) {
         if arrived.load(Ordering::SeqCst) > 2 * u64::from(round) + 1 {
             return;
         }
+        yield_now();
     }
     unreachable!()
 }

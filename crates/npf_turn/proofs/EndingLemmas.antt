@@ -4,52 +4,29 @@ use Rattle.std.proofs.Common.{◌≡◌, ◌≢◌, ℕ, ◌+◌, ◌*◌, ◌<�
 use Rattle.std.proofs.lemmas.List.Elements.{Contains-append_left, Contains-push}
 use Rattle.atomic_table.specs.Table.{Me}
 use Rattle.npf_types.specs.declared.key.Way.{Way}
-use Rattle.npf_core.specs.declared.conn_id.ConnId.{ConnId}
-use Rattle.npf_core.specs.declared.slot.Slot.{Slot}
-use Rattle.npf_core.specs.History.{Legal, state_of}
-use Rattle.npf_core.specs.declared.act.Act.TheVariants.{Unhold}
-use Rattle.npf_core.specs.declared.reply.Reply.TheVariants.{Nothing as Replied}
-use Rattle.npf_core.specs.declared.entry.Entry.{Entry}
-use Rattle.npf_core.specs.declared.stage.Stage.TheVariants.{Dead, Building}
-use Rattle.npf_core.specs.Machine.{stage_of, Holds, IsClaimed}
-use Rattle.npf_connections.specs.Adding.{AddsOwn}
-use Rattle.npf_connections.specs.Entries.{entry_of}
-use Rattle.npf_connections.specs.Pass.{IsPass, IsOwn, all_places}
-use Rattle.npf_core.specs.Meaning.{Meaning}
-use Rattle.npf_paths.specs.declared.place.Lock.{Lock}
-use Rattle.npf_paths.specs.declared.place.Place.{Place}
+use Rattle.npf_core.specs.{declared.{conn_id.ConnId.ConnId, slot.Slot.Slot, act.Act.TheVariants.Unhold}, History.{Legal, state_of}}
+use Rattle.npf_core.specs.declared.{reply.Reply.TheVariants.Nothing as Replied, entry.Entry.Entry, stage.Stage.TheVariants.{Dead, Building}}
+use Rattle.npf_core.specs.{Machine.{stage_of, Holds, IsClaimed}, Meaning.Meaning}
+use Rattle.npf_connections.specs.{Adding.AddsOwn, Entries.entry_of, Pass.{IsPass, IsOwn, all_places}}
+use Rattle.npf_paths.specs.{declared.place.{Lock.Lock, Place.Place}, Places.lock_of}
 use Rattle.npf_paths.specs.declared.place.Place.TheVariants as Places
-use Rattle.npf_paths.specs.Places.{lock_of}
 use Rattle.npf_seats.proofs.SeatLemmas.{cases_lt}
 use Rattle.npf_cells_pins.specs.declared.pin.EpochSide.{EpochSide}
-use Rattle.npf_cells_words.specs.declared.layout.Layout.{Layout}
-use Rattle.npf_cells_words.specs.Codes.{place_code}
-use Rattle.npf_cells_words.specs.Layout.{note_field}
-use Rattle.npf_cells_words.specs.Places.{IsInTrie, IsLockOf}
-use Rattle.npf_cells_lives.specs.declared.turn.Turn.{Turn}
-use Rattle.npf_cells_lives.specs.Turns.{Running, running, stage_phase}
-use Rattle.npf_cells_rule.specs.declared.view.CellView.{CellView}
-use Rattle.npf_cells_rule.specs.Passes.{IsProtected, cell_pass, is_pinned}
-use Rattle.npf_cells_rule.specs.Views.{unloaded, with_trie}
-use Rattle.npf_cells_holds.specs.LockKinds.{locking}
-use Rattle.npf_cells_holds.specs.UnlinkKinds.{MayUnlink, HasUnlinked}
-use Rattle.npf_cells_turns.specs.declared.act.TurnAct.TheVariants.{Nothing}
-use Rattle.npf_cells_turns.specs.EndKinds.{MayEndBy}
-use Rattle.npf_cells_turns.specs.NoteKinds.{noting, TellsKilledKey, ShowsKill}
+use Rattle.npf_cells_words.specs.{declared.layout.Layout.Layout, Codes.place_code, Layout.note_field, Places.IsInTrie}
+use Rattle.npf_cells_lives.specs.{declared.turn.Turn.Turn, Turns.{Running, running, stage_phase}}
+use Rattle.npf_cells_rule.specs.{declared.view.CellView.CellView, Passes.{IsProtected, cell_pass, is_pinned}, Views.{unloaded, with_trie}}
+use Rattle.npf_cells_holds.specs.{LockKinds.locking, UnlinkKinds.{MayUnlink, HasUnlinked}}
+use Rattle.npf_cells_turns.specs.{declared.act.TurnAct.TheVariants.Nothing, EndKinds.MayEndBy, NoteKinds.{noting, TellsKilledKey, ShowsKill}}
 use Rattle.npf_cells_turns.specs.TurnKinds.{HasSlotTurn, turn_at}
-use Rattle.npf_turn.specs.Ending.{without_key, GivesUpKey, HasNoKey}
-use Rattle.npf_turn.specs.TakingOff.{EpochsGoOn, HasEmptied, LeavesPlace}
-
--- the lock of a place that the table has is one of the table's
-pub lock_there : (layout : Layout) (p : Place) → IsInTrie layout p → IsLockOf layout (lock_of p)
-lock_there layout (Places.Root digit) within = within
-lock_there layout (Places.Node node digit) within = within.0
+use Rattle.npf_turn.specs.{Endings.{without_key, GivesUpKey, HasNoKey}, TakingOff.{EpochsGoOn, HasEmptied, LeavesPlace}}
 
 -- a note that isn't 0 is the number of a place that the table has
-pub names_within : {S A R : Type 0} (m : Meaning S A R) (layout : Layout) (v : CellView S A R) (id : ConnId) (way : Way) (found : ℕ) → TellsKilledKey m layout v id way found → found ≢ 0 → (1 ≤ found) × (found < 65 + 16 * layout.nodes)
+pub names_within : {S A R : Type 0} (m : Meaning S A R) (layout : Layout) (v : CellView S A R) (id : ConnId) (way : Way) (found : ℕ) →
+    TellsKilledKey m layout v id way found → found ≢ 0 → (1 ≤ found) × (found < 65 + 16 * layout.nodes)
 names_within m layout v id way found tells some' = (
   ⊎_elim (λ (low : found < 1). absurd (some' (omega (arith, low)))) (λ h. h) (cases_lt found 1),
-  ⊎_elim (λ h. h) (λ (high : 65 + 16 * layout.nodes ≤ found). absurd (some' (tells.zero.1 (λ key held. (let n = tells.named (key, held) in beyond n.place n.within n.names high))))) (cases_lt found (65 + 16 * layout.nodes)),
+  ⊎_elim (λ h. h) (λ (high : 65 + 16 * layout.nodes ≤ found). absurd (some' (tells.zero.1 (λ key held. (let n = tells.named (key, held) in beyond n.place n.within n.names high)))))
+      (cases_lt found (65 + 16 * layout.nodes)),
 )
   where
     beyond : (p : Place) → IsInTrie layout p → found ≡ place_code p → 65 + 16 * layout.nodes ≤ found → ⊥
@@ -77,7 +54,8 @@ module _ {S A R : Type 0} (m : Meaning S A R) (layout : Layout) (old : Me (Runni
   pub told_so : (taken noted : Me (Running S) (CellView S A R)) → taken_so taken → noted ≡ noting (note_field way) note taken → noted ≡ told
   told_so taken noted is loads = loads ∙ ap (noting (note_field way) note) is
 
-  pub tells_keys : (taken : Me (Running S) (CellView S A R)) → taken_so taken → Contains old.0.pools.kills id → ¬ Contains old.0.pools.gave_up (record { id = id; way = way }) → ShowsKill m layout taken.0 id.slot way note → TellsKilledKey m layout old.0 id way note
+  pub tells_keys : (taken : Me (Running S) (CellView S A R)) → taken_so taken → Contains old.0.pools.kills id → ¬ Contains old.0.pools.gave_up (record { id = id; way = way }) →
+      ShowsKill m layout taken.0 id.slot way note → TellsKilledKey m layout old.0 id way note
   tells_keys taken is killed held shows =
       let tells = subst (λ (y : Me (Running S) (CellView S A R)). ShowsKill m layout y.0 id.slot way note) is shows (turn_at id.slot was) id refl refl refl killed refl held in
       record { dead = tells.dead; zero = tells.zero; named = tells.named }
@@ -88,7 +66,8 @@ module _ {S A R : Type 0} (m : Meaning S A R) (layout : Layout) (old : Me (Runni
   pub still_protected : (noted : Me (Running S) (CellView S A R)) → noted ≡ told → IsProtected old.0.epochs.pin → IsProtected noted.0.epochs.pin
   still_protected noted is protected = subst (λ (y : Me (Running S) (CellView S A R)). IsProtected y.0.epochs.pin) (sym is) protected
 
-  pub may_unlink : (locked : Me (Running S) (CellView S A R)) (p : Place) → locked ≡ holding (lock_of p) → place_code p ≡ note → Contains old.0.pools.kills id → ¬ Contains old.0.pools.gave_up (record { id = id; way = way }) → MayUnlink locked.0 p id way
+  pub may_unlink : (locked : Me (Running S) (CellView S A R)) (p : Place) → locked ≡ holding (lock_of p) → place_code p ≡ note →
+      Contains old.0.pools.kills id → ¬ Contains old.0.pools.gave_up (record { id = id; way = way }) → MayUnlink locked.0 p id way
   may_unlink locked p is names killed held = subst (λ (y : Me (Running S) (CellView S A R)). MayUnlink y.0 p id way) (sym is) (record {
     killed = killed;
     held = held;
@@ -109,7 +88,8 @@ module _ {S A R : Type 0} (m : Meaning S A R) (layout : Layout) (old : Me (Runni
     freed_with epochs y = (record y.0 { epochs = epochs; trie = record y.0.trie { locks = []; emptied = None; met_mark = None } }, y.1)
 
     pub emptied : old.0.trie.marks ≡ [] → HasEmptied gone.0.trie p
-    emptied none = subst (λ (y : Me (Running S) (CellView S A R)). HasEmptied y.0.trie p) (sym unlinks_so.is) (record { only = ap (λ locks. lock_of p ∷ locks) unlocked; knows = refl; unmarked = none; unseen = refl; unmet = refl })
+    emptied none = subst (λ (y : Me (Running S) (CellView S A R)). HasEmptied y.0.trie p) (sym unlinks_so.is)
+        (record { only = ap (λ locks. lock_of p ∷ locks) unlocked; knows = refl; unmarked = none; unseen = refl; unmet = refl })
 
     pub protected_still : IsProtected old.0.epochs.pin → IsProtected gone.0.epochs.pin
     protected_still protected = subst (λ (y : Me (Running S) (CellView S A R)). IsProtected y.0.epochs.pin) (sym unlinks_so.is) protected
@@ -157,12 +137,16 @@ module _ {S A R : Type 0} (m : Meaning S A R) (layout : Layout) (old : Me (Runni
           pin = epochs.pin
 
           now_is : now ≡ (without_key old.0 now.0.seats.history now.0.epochs id way, [])
-          now_is = ended_is ∙ (ap (λ (y : Me (Running S) (CellView S A R)). (record y.0 { epochs = freed.0.epochs; trie = record y.0.trie { locks = []; emptied = None; met_mark = None }; turn = None }, [])) unlinks_so.is
+          now_is = ended_is
+              ∙ (ap (λ (y : Me (Running S) (CellView S A R)).
+              (record y.0 { epochs = freed.0.epochs; trie = record y.0.trie { locks = []; emptied = None; met_mark = None }; turn = None }, [])) unlinks_so.is
               ∙ (λ i. (without_key old.0 (sym same i) (sym known i) id way, [])))
 
   -- where there is none the turn is ended
   pub may_end_idle : (noted : Me (Running S) (CellView S A R)) → noted ≡ told → MayEndBy m Nothing id.slot noted
-  may_end_idle noted is = subst (λ (y : Me (Running S) (CellView S A R)). MayEndBy m Nothing id.slot y) (sym is) (record { turn = turn_told; has = refl; there = refl; may = tt; carries = refl; phase = refl; settled = refl })
+  may_end_idle noted is = subst (λ (y : Me (Running S) (CellView S A R)). MayEndBy m Nothing id.slot y) (sym is)
+      (record { turn = turn_told; has = refl; there = refl; may = tt; carries = refl; phase = refl; settled = refl })
 
-  pub has_none : (noted now : Me (Running S) (CellView S A R)) → noted ≡ told → TellsKilledKey m layout old.0 id way note → note ≡ 0 → now ≡ (record noted.0 { turn = None }, []) → HasNoKey m id way old now
+  pub has_none : (noted now : Me (Running S) (CellView S A R)) → noted ≡ told → TellsKilledKey m layout old.0 id way note →
+      note ≡ 0 → now ≡ (record noted.0 { turn = None }, []) → HasNoKey m id way old now
   has_none noted now is tells none ended = record { dead = tells.dead; none = tells.zero.0 none; is = ended ∙ ap (λ (y : Me (Running S) (CellView S A R)). (record y.0 { turn = None }, [])) is }

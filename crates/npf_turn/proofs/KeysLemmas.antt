@@ -1,49 +1,22 @@
 -- All keys of a killed connection are given up, one way after the other.
 use Rattle.std.specs.List.{Contains, filter}
-use Rattle.std.proofs.Common.{◌≡◌, ◌≢◌, ◌≤◌, ◌↔◌, Bool, true, false, cond, eqb, eq-eqb, IsTrue, Option, Some, None, List, [], ◌∷◌, ◌++◌, refl, sym, ap, ◌∙◌, subst, ⊎_elim, append-nil, arith}
-use Rattle.std.proofs.lemmas.List.{same_from_push}
-use Rattle.std.proofs.lemmas.List.Elements.{Contains-append_left, Contains-append_right, Contains-push}
+use Rattle.std.proofs.Common.{◌≡◌, ◌≢◌, ◌≤◌, ◌↔◌, Bool, true, false, cond, eqb, eq-eqb, IsTrue, None, List, [], ◌∷◌, ◌++◌, refl, sym, ap, ◌∙◌, subst, ⊎_elim, append-nil, arith}
+use Rattle.std.proofs.lemmas.List.{same_from_push, Elements.{Contains-append_left, Contains-append_right, Contains-push}}
 use Rattle.atomic_table.specs.Table.{Me}
-use Rattle.npf_types.specs.declared.key.Key.{Key}
-use Rattle.npf_types.specs.declared.key.Way.{Way}
-use Rattle.npf_types.specs.declared.key.Way.TheVariants.{Forward, Backward, Port}
-use Rattle.npf_core.specs.declared.act.Act.TheVariants.{Unhold}
-use Rattle.npf_core.specs.declared.conn_id.ConnId.{ConnId}
-use Rattle.npf_core.specs.declared.entry.Entry.{Entry}
-use Rattle.npf_core.specs.declared.found.Found.{Found}
-use Rattle.npf_core.specs.declared.reply.Reply.TheVariants.{Nothing}
-use Rattle.npf_core.specs.History.{state_of}
-use Rattle.npf_core.specs.declared.stage.Stage.TheVariants.{Dead}
-use Rattle.npf_core.specs.Machine.{Machine, stage_of, Holds, HoldsNone, HoldsSome}
-use Rattle.npf_core.specs.Meaning.{Meaning}
-use Rattle.npf_core.specs.NextState.{is_found, given_up}
-use Rattle.npf_core.proofs.EqualityLemmas.{is_found-Decides}
-use Rattle.npf_core.proofs.HistoryLemmas.{state_of-append}
-use Rattle.npf_connections.specs.Adding.{AddsOwn, EndsWith}
-use Rattle.npf_connections.specs.Entries.{entry_of}
-use Rattle.npf_connections.specs.Pass.{Pass, IsPass}
-use Rattle.npf_connections.specs.Ways.{HoldsThese}
-use Rattle.npf_connections.proofs.AddLemmas.{adds_more}
+use Rattle.npf_types.specs.declared.key.{Key.Key, Way.{Way, TheVariants.{Forward, Backward, Port}}}
+use Rattle.npf_core.specs.declared.{act.Act.TheVariants.Unhold, conn_id.ConnId.ConnId, entry.Entry.Entry, found.Found.Found, reply.Reply.TheVariants.Nothing}
+use Rattle.npf_core.specs.{History.state_of, declared.stage.Stage.TheVariants.Dead, Machine.{Machine, stage_of, Holds, HoldsNone, HoldsSome}, Meaning.Meaning}
+use Rattle.npf_core.proofs.{HistoryLemmas.state_of-append, HolderLemmas.given_up_gone}
+use Rattle.npf_connections.{specs.{Adding.{AddsOwn, EndsWith}, Entries.entry_of, Pass.{Pass, IsPass}, Ways.HoldsThese}, proofs.AddLemmas.adds_more}
 use Rattle.npf_seats.proofs.PrefixLemmas.{cons_cases, none_listed}
 use Rattle.npf_cells_pins.specs.declared.pin.EpochSide.{EpochSide}
-use Rattle.npf_cells_lives.specs.Deaths.{ids_elsewhere}
-use Rattle.npf_cells_lives.specs.Turns.{Running}
-use Rattle.npf_cells_rule.specs.declared.view.CellView.{CellView}
-use Rattle.npf_cells_rule.specs.Passes.{cell_pass}
-use Rattle.npf_turn.specs.Ending.{HasEndedKey, HasEndedKeys, key_ended, seen_with, unhold_entries, HasNoKills, hands}
-use Rattle.npf_turn.specs.Done.{HasLetGo}
-
--- what gave a key up doesn't hold it
-never_back : (x : Option Found) (found : Found) → given_up x found ≢ Some found
-never_back None found e = absurd cc
-never_back (Some holder) found e = by_test (is_found holder found) refl e
-  where
-    by_test : (b : Bool) → is_found holder found ≡ b → cond b None (Some holder) ≡ Some found → ⊥
-    by_test true is e' = absurd cc
-    by_test false is e' = let same : holder ≡ found = cc in let yes = (is_found-Decides holder found).1 same in absurd cc
+use Rattle.npf_cells_lives.specs.{Deaths.ids_elsewhere, Turns.Running}
+use Rattle.npf_cells_rule.specs.{declared.view.CellView.CellView, Passes.cell_pass}
+use Rattle.npf_turn.specs.{Endings.{HasEndedKey, HasEndedKeys, key_ended, seen_with, unhold_entries, HasNoKills, hands}, Done.HasLetGo}
 
 -- what two calls add, of which the second adds one entry or none, and then leaves the history
-one_or_none : {E : Type 0} (first : List E) (entry : E) (gave : Bool) (middle last : List E) → EndsWith middle first → EndsWith last (cond gave (entry ∷ []) []) → (gave ≡ false → last ≡ middle) → EndsWith last (first ++ cond gave (entry ∷ []) [])
+one_or_none : {E : Type 0} (first : List E) (entry : E) (gave : Bool) (middle last : List E) → EndsWith middle first →
+    EndsWith last (cond gave (entry ∷ []) []) → (gave ≡ false → last ≡ middle) → EndsWith last (first ++ cond gave (entry ∷ []) [])
 one_or_none first entry true middle last ends more same init e is =
     let here = more [] entry refl in
     let one = (same_from_push first init entry e is).1 in
@@ -79,7 +52,7 @@ module _ {S A R : Type 0} (m : Meaning S A R) (id : ConnId) where
     none = λ key held. (
         let before = so.adds.ends [] (unhold (cell_pass old.0) way) refl in
         let after' = ap (λ h. (state_of m h).holder key) before.1 ∙ ap (λ (k : Machine S). k.holder key) (state_of-append m before.0 (unhold (cell_pass old.0) way)) in
-        never_back ((state_of m before.0).holder key) (record { id = id; way = way }) (sym after' ∙ held));
+        given_up_gone ((state_of m before.0).holder key) (record { id = id; way = way }) (sym after' ∙ held));
     others = so.others;
     legal = so.legal;
     same = λ no'. absurd cc;
@@ -145,7 +118,8 @@ module _ {S A R : Type 0} (m : Meaning S A R) (id : ConnId) where
   }
 
   -- what is seen and known between is overwritten
-  seen_on : (gave : Bool) (way : Way) (v : CellView S A R) (h h' : List (Entry S A R)) (e e' : EpochSide) → seen_with (key_ended gave id way (seen_with v h e)) h' e' ≡ seen_with (key_ended gave id way v) h' e'
+  seen_on : (gave : Bool) (way : Way) (v : CellView S A R) (h h' : List (Entry S A R)) (e e' : EpochSide) →
+      seen_with (key_ended gave id way (seen_with v h e)) h' e' ≡ seen_with (key_ended gave id way v) h' e'
   seen_on true way v h h' e e' = refl
   seen_on false way v h h' e e' = refl
 
@@ -163,7 +137,8 @@ module _ {S A R : Type 0} (m : Meaning S A R) (id : ConnId) where
   had one two three Backward = two
   had one two three Port = three
 
-  in_turn : (pass : Pass (Entry S A R)) (one two three : Bool) → (cond one (unhold pass Forward ∷ []) [] ++ cond two (unhold pass Backward ∷ []) []) ++ cond three (unhold pass Port ∷ []) [] ≡ unhold_entries pass id (had one two three)
+  in_turn : (pass : Pass (Entry S A R)) (one two three : Bool) → (cond one (unhold pass Forward ∷ []) [] ++ cond two (unhold pass Backward ∷ []) []) ++
+      cond three (unhold pass Port ∷ []) [] ≡ unhold_entries pass id (had one two three)
   in_turn pass true true true = refl
   in_turn pass true true false = refl
   in_turn pass true false true = refl
@@ -173,7 +148,8 @@ module _ {S A R : Type 0} (m : Meaning S A R) (id : ConnId) where
   in_turn pass false false true = refl
   in_turn pass false false false = refl
 
-  module _ (one two three : Bool) (old first second now : Me (Running S) (CellView S A R)) (a' : HasEndedKey m id Forward one old first) (b' : HasEndedKey m id Backward two first second) (c' : HasEndedKey m id Port three second now) where
+  module _ (one two three : Bool) (old first second now : Me (Running S) (CellView S A R)) (a' : HasEndedKey m id Forward one old first)
+      (b' : HasEndedKey m id Backward two first second) (c' : HasEndedKey m id Port three second now) where
     a : Ends Forward one old first
     a = ends_so Forward one old first a'
 
@@ -209,7 +185,8 @@ module _ {S A R : Type 0} (m : Meaning S A R) (id : ConnId) where
     adds_two =
         let more = subst (λ n. AddsOwn (cell_pass first.0) second.0.seats.history (cond two ((record { seat = n; act = Unhold id Backward; reply = Nothing }) ∷ []) [])) number_first b.adds in
         record {
-          adds = adds_more (cell_pass old.0) (cell_pass first.0) second.0.seats.history (cond one (unhold (cell_pass old.0) Forward ∷ []) []) (cond two (unhold (cell_pass old.0) Backward ∷ []) []) number_first joined_first a.adds.adds more.adds;
+          adds = adds_more (cell_pass old.0) (cell_pass first.0) second.0.seats.history (cond one (unhold (cell_pass old.0) Forward ∷ []) [])
+              (cond two (unhold (cell_pass old.0) Backward ∷ []) []) number_first joined_first a.adds.adds more.adds;
           ends = one_or_none (cond one (unhold (cell_pass old.0) Forward ∷ []) []) (unhold (cell_pass old.0) Backward) two first.0.seats.history second.0.seats.history a.adds.ends more.ends b.same;
         }
 
@@ -294,7 +271,8 @@ module _ {S A R : Type 0} (id : ConnId) where
     left = key_ended (keys.held Port) id Port (key_ended (keys.held Backward) id Backward (key_ended (keys.held Forward) id Forward old.0))
 
     kills_left : between.0.pools.kills ≡ old.0.pools.kills
-    kills_left = ap (λ (y : Me (Running S) (CellView S A R)). y.0.pools.kills) keys.is ∙ (kills_still (keys.held Port) Port (key_ended (keys.held Backward) id Backward (key_ended (keys.held Forward) id Forward old.0))
+    kills_left = ap (λ (y : Me (Running S) (CellView S A R)). y.0.pools.kills) keys.is
+        ∙ (kills_still (keys.held Port) Port (key_ended (keys.held Backward) id Backward (key_ended (keys.held Forward) id Forward old.0))
         ∙ (kills_still (keys.held Backward) Backward (key_ended (keys.held Forward) id Forward old.0) ∙ kills_still (keys.held Forward) Forward old.0))
 
     pub same_hands : (now : Me (Running S) (CellView S A R)) → HasLetGo id between now → old.0.turn ≡ None → old.0.trie.locks ≡ [] → hands now.0 ≡ hands old.0
@@ -313,7 +291,8 @@ module _ {S A R : Type 0} (id : ConnId) where
 
     pub no_kills : (now : Me (Running S) (CellView S A R)) → HasLetGo id between now → old.0.pools.kills ≡ id ∷ [] → old.0.pools.gave_up ≡ [] → HasNoKills now.0
     no_kills now gone one none = record {
-      kills = ap (λ (y : Me (Running S) (CellView S A R)). y.0.pools.kills) gone.is ∙ (ap (ids_elsewhere id.slot) (kills_left ∙ one) ∙ ap (λ b. cond (cond b false true) (id ∷ []) []) (eq-eqb id.slot id.slot refl));
+      kills = ap (λ (y : Me (Running S) (CellView S A R)). y.0.pools.kills) gone.is
+          ∙ (ap (ids_elsewhere id.slot) (kills_left ∙ one) ∙ ap (λ b. cond (cond b false true) (id ∷ []) []) (eq-eqb id.slot id.slot refl));
       gave_up = ap (λ (y : Me (Running S) (CellView S A R)). y.0.pools.gave_up) gone.is ∙ left_out (λ (g : Found). cond (eqb g.id.slot id.slot) false true) between.0.pools.gave_up
           (λ g c. ap (λ b. cond b false true) (eq-eqb g.id.slot id.slot (ap (λ (i : ConnId). i.slot) (mine g c))));
     }

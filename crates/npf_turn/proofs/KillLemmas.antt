@@ -1,32 +1,18 @@
 -- A connection that a pass builds without keys and then kills has none.
-use Rattle.std.specs.List.{Contains}
-use Rattle.std.proofs.Common.{◌≡◌, ℕ, ◌==◌, Bool, true, false, cond, List, [], ◌∷◌, refl, sym, ap, ◌∙◌, subst}
+use Rattle.std.{specs.List.Contains, proofs.Common.{◌≡◌, ℕ, ◌==◌, Bool, true, false, cond, List, [], ◌∷◌, refl, sym, ap, ◌∙◌, subst}}
 use Rattle.std.proofs.lemmas.Bool.Decides.{Decides-eqb, not_from_Decides}
 use Rattle.atomic_table.specs.Table.{Me}
-use Rattle.npf_core.specs.declared.act.Act.TheVariants.{Kill}
+use Rattle.npf_core.specs.declared.{act.Act.TheVariants.Kill, conn_id.ConnId.ConnId, entry.Entry.Entry, reply.Reply.TheVariants.Nothing}
 use Rattle.npf_core.specs.declared.act.Why.TheVariants as Reasons
-use Rattle.npf_core.specs.declared.conn_id.ConnId.{ConnId}
-use Rattle.npf_core.specs.declared.entry.Entry.{Entry}
-use Rattle.npf_core.specs.declared.reply.Reply.TheVariants.{Nothing}
-use Rattle.npf_core.specs.declared.stage.Stage.TheVariants.{Building, Dead}
-use Rattle.npf_core.specs.History.{LegalFrom, Legal, after, by, state_from, state_of}
-use Rattle.npf_core.specs.Machine.{Machine, stage_of}
-use Rattle.npf_core.specs.Meaning.{Meaning}
-use Rattle.npf_core.proofs.BuildingLemmas.{builds_by, holds_none_by}
-use Rattle.npf_core.proofs.HistoryLemmas.{state_from-append, state_of-append, LegalFrom-rest, MayFollow-split}
-use Rattle.npf_core.proofs.LifeLemmas.{stage_of-is, life_of}
+use Rattle.npf_core.specs.{declared.stage.Stage.TheVariants.{Building, Dead}, History.{LegalFrom, Legal, after, by, state_from, state_of}}
+use Rattle.npf_core.{specs.{Machine.{Machine, stage_of}, Meaning.Meaning}, proofs.BuildingLemmas.{builds_by, holds_none_by}}
+use Rattle.npf_core.proofs.{HistoryLemmas.{state_from-append, state_of-append, LegalFrom-rest, MayFollow-split}, LifeLemmas.{stage_of-is, life_of}}
 use Rattle.npf_connections.specs.Pass.{IsPass}
-use Rattle.npf_cells_lives.specs.Deaths.{IsKeyless}
-use Rattle.npf_cells_lives.specs.Turns.{Running}
-use Rattle.npf_cells_lives.proofs.ConnLemmas.{building_at}
-use Rattle.npf_cells_rule.specs.declared.view.CellView.{CellView}
-use Rattle.npf_cells_rule.specs.Passes.{cell_pass}
+use Rattle.npf_cells_lives.{specs.{Deaths.IsKeyless, Turns.Running}, proofs.ConnLemmas.building_at}
+use Rattle.npf_cells_rule.{specs.{declared.view.CellView.CellView, Passes.cell_pass}, proofs.OverLemmas.{over_dead, held_before}}
 use Rattle.npf_cells_takes.specs.PrivateKinds.{HasSeenBare}
-use Rattle.npf_cells_rule.proofs.OverLemmas.{over_dead, held_before}
-use Rattle.npf_cells_turns.proofs.ActLemmas.{kills_on}
-use Rattle.npf_cells_turns.proofs.DeathEndLemmas.{killed_stage}
-use Rattle.npf_turn.specs.Done.{HasKilled}
-use Rattle.npf_turn.specs.KillLaw.{KillsBare}
+use Rattle.npf_cells_turns.proofs.{ActLemmas.kills_on, DeathEndLemmas.killed_stage}
+use Rattle.npf_turn.specs.{Done.HasKilled, KillLaw.KillsBare}
 
 module _ {S A R : Type 0} (m : Meaning S A R) (slots seat : ℕ) (id : ConnId) where
   abbrev entry : Entry S A R
@@ -37,7 +23,8 @@ module _ {S A R : Type 0} (m : Meaning S A R) (slots seat : ℕ) (id : ConnId) w
   killed_by k built = killed_stage k (after m k entry) id.slot Dead (kills_on m k seat id id.slot refl Reasons.Abandoned) id refl (building_at (k.slot id.slot) id.inc seat built).0 refl
 
   -- and no entry gives it a key
-  keyless_after : (k : Machine S) (entries : List (Entry S A R)) → LegalFrom m slots k entries → by seat entries ≡ entry ∷ [] → stage_of k id ≡ Building seat → IsKeyless k id → IsKeyless (state_from m k entries) id
+  keyless_after : (k : Machine S) (entries : List (Entry S A R)) → LegalFrom m slots k entries → by seat entries ≡ entry ∷ [] →
+      stage_of k id ≡ Building seat → IsKeyless k id → IsKeyless (state_from m k entries) id
   keyless_after k [] legal own built bare = absurd cc
   keyless_after k (e ∷ es) legal own built bare =
       by_seat (λ rest built' bare'. keyless_after (after m k e) es legal.1 rest built' bare') (e.seat == seat) refl own
@@ -67,7 +54,8 @@ module _ {S A R : Type 0} (m : Meaning S A R) (id : ConnId) (old now : Me (Runni
       let later = LegalFrom-rest m _ _ old.0.seats.history adds.rest (subst (Legal m _) adds.goes_on legal) in
       let follows = MayFollow-split m _ before.0 [] (entry m seat seat id) (subst (Legal m _) before.1 legal) in
       record {
-        dead = ap (λ h. stage_of (state_of m h) id) before.1 ∙ (ap (λ k. stage_of k id) (state_of-append m before.0 (entry m seat seat id)) ∙ killed_by m seat seat id (state_of m before.0) follows.allowed);
+        dead = ap (λ h. stage_of (state_of m h) id) before.1
+            ∙ (ap (λ k. stage_of k id) (state_of-append m before.0 (entry m seat seat id)) ∙ killed_by m seat seat id (state_of m before.0) follows.allowed);
         keyless = subst (λ k. IsKeyless k id) (sym whole) (keyless_after m _ seat id (state_of m old.0.seats.history) adds.rest later adds.own building bare);
       }
 

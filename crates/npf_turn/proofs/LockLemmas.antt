@@ -1,27 +1,17 @@
 -- A pass gets no lock that it has.
-use Rattle.std.specs.List.{Contains}
-use Rattle.std.proofs.Common.{◌≡◌, ℕ, ◌≤◌, Bool, true, List, map, slice_index, ap, ◌∙◌, arith}
-use Rattle.std.proofs.lemmas.List.{length-map, get_or-map}
+use Rattle.std.{specs.List.Contains, proofs.Common.{◌≡◌, ℕ, Bool, true, slice_index, ap, ◌∙◌, arith}}
 use Rattle.npf_types.specs.declared.key.Key.{Key}
 use Rattle.npf_core.specs.Meaning.{Meaning}
 use Rattle.npf_paths.specs.declared.place.Lock.{Lock}
-use Rattle.npf_seats.proofs.ListLemmas.{stands_once}
 use Rattle.npf_seats.proofs.SumLemmas.{one_of_sum}
-use Rattle.npf_cells_words.specs.declared.layout.Layout.{Layout}
-use Rattle.npf_cells_words.specs.Places.{IsLockOf, lock_at}
-use Rattle.npf_cells_lives.specs.Locks.{has_lock, held_in, lock_holders}
-use Rattle.npf_cells_rule.specs.declared.view.CellView.{CellView}
-use Rattle.npf_cells_rule.specs.Views.{lock_side}
+use Rattle.npf_cells_words.specs.{declared.layout.Layout.Layout, Places.{IsLockOf, lock_at}}
+use Rattle.npf_cells_lives.{specs.Locks.{has_lock, held_in, lock_holders}, proofs.LockLemmas.has_once}
+use Rattle.npf_cells_rule.specs.{declared.view.CellView.CellView, Views.lock_side}
 use Rattle.npf_cells_holds.specs.LockKinds.{GotLock}
 
-has_once : (layout : Layout) (lock : Lock) (locks : List Lock) → Contains locks lock → 1 ≤ has_lock layout lock locks
-has_once layout lock locks c =
-    let long = length-map locks (lock_at layout) in
-    let short = c.1 in
-    stands_once (lock_at layout lock) (map (lock_at layout) locks) (c.0, omega (arith, long, short), get_or-map (lock_at layout) locks c.0 lock (lock_at layout lock) short ∙ ap (lock_at layout) c.2)
-
 -- its word was 0 when the pass got it, so no pass had it
-pub not_had : {S A R : Type 0} (m : Meaning S A R) (digest : Key → ℕ) (layout : Layout) (v : CellView S A R) (lock : Lock) (got : Bool) → IsLockOf layout lock → GotLock m digest layout v lock got → got ≡ true → ¬ Contains v.trie.locks lock
+pub not_had : {S A R : Type 0} (m : Meaning S A R) (digest : Key → ℕ) (layout : Layout) (v : CellView S A R) (lock : Lock) (got : Bool) →
+    IsLockOf layout lock → GotLock m digest layout v lock got → got ≡ true → ¬ Contains v.trie.locks lock
 not_had {S} {A} {R} m digest layout v lock got exists tells won c =
     let stood = tells.stood in
     let free : slice_index stood.state.words (lock_at layout lock) ≡ 0 = stood.there ∙ tells.answers.0 won in

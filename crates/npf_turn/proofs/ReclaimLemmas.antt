@@ -2,28 +2,15 @@
 use Rattle.std.proofs.Common.{◌≡◌, ◌≢◌, ℕ, ◌-◌, ◌^◌, ◌<◌, true, false, cond, eqb, eq-eqb, Some, None, [], ◌∷◌, refl, sym, ap, ◌∙◌, subst, inr, inl, arith}
 use Rattle.std.proofs.lemmas.List.Elements.{Contains-append_left, Contains-push}
 use Rattle.atomic_table.specs.Table.{Me}
-use Rattle.npf_types.specs.declared.key.Key.{Key}
-use Rattle.npf_types.specs.declared.key.Way.TheVariants.{Forward}
-use Rattle.npf_core.specs.declared.conn_id.ConnId.{ConnId}
-use Rattle.npf_core.specs.declared.slot.Slot.{Slot}
-use Rattle.npf_core.specs.declared.stage.Stage.{Stage}
-use Rattle.npf_core.specs.declared.stage.Stage.TheVariants.{Vacant, Building, Live, Dead}
-use Rattle.npf_core.specs.Meaning.{Meaning}
-use Rattle.npf_cells_words.specs.declared.layout.Layout.{Layout}
-use Rattle.npf_cells_words.specs.declared.layout.Pool.TheVariants.{Slots}
-use Rattle.npf_cells_words.specs.Layout.{phase_field, notes_field, note_field}
-use Rattle.npf_cells_lives.specs.declared.turn.Turn.{Turn}
-use Rattle.npf_cells_lives.specs.Turns.{Running, running, stage_phase}
-use Rattle.npf_cells_rule.specs.declared.view.CellView.{CellView}
-use Rattle.npf_cells_rule.specs.Views.{with_pools}
-use Rattle.npf_cells_takes.specs.PrivateKinds.{HasTurnIn, MayClear, MayStore, ShowsTurnInc, clearing, stored_in}
-use Rattle.npf_cells_takes.specs.SlotKinds.{HasFreed, MayGiveBack}
-use Rattle.npf_cells_turns.specs.declared.act.TurnAct.TheVariants.{Nothing, Reclaim}
-use Rattle.npf_cells_turns.specs.EndKinds.{MayEndBy, with_reclaim}
-use Rattle.npf_cells_turns.specs.NoteKinds.{noting}
-use Rattle.npf_cells_turns.specs.TurnKinds.{HasSlotTurn, turn_at}
-use Rattle.npf_cells_turns.specs.WordKinds.{ShowsPhase}
-use Rattle.npf_turn.specs.Reclaiming.{IsLongLeft, turning, HasFreedSlot}
+use Rattle.npf_types.specs.declared.key.{Key.Key, Way.TheVariants.Forward}
+use Rattle.npf_core.specs.{declared.{conn_id.ConnId.ConnId, slot.Slot.Slot, stage.Stage.{Stage, TheVariants.{Vacant, Building, Live, Dead}}}, Meaning.Meaning}
+use Rattle.npf_cells_words.specs.{declared.layout.{Layout.Layout, Pool.TheVariants.Slots}, Layout.{phase_field, notes_field, note_field}}
+use Rattle.npf_cells_lives.specs.{declared.turn.Turn.Turn, Turns.{Running, running, stage_phase}}
+use Rattle.npf_cells_rule.specs.{declared.view.CellView.CellView, Views.with_pools}
+use Rattle.npf_cells_takes.specs.{PrivateKinds.{HasTurnIn, MayClear, MayStore, ShowsTurnInc, clearing, stored_in}, SlotKinds.{HasFreed, MayGiveBack}}
+use Rattle.npf_cells_turns.specs.{declared.act.TurnAct.TheVariants.{Nothing, Reclaim}, EndKinds.{MayEndBy, with_reclaim}, NoteKinds.noting}
+use Rattle.npf_cells_turns.specs.{TurnKinds.{HasSlotTurn, turn_at}, WordKinds.ShowsPhase}
+use Rattle.npf_turn.specs.Reclaims.{IsLongLeft, turning, HasFreedSlot}
 
 -- what has this phase is Dead
 pub dead_phase : {S : Type 0} (stage : Stage S) → stage_phase stage ≡ 2 → stage ≡ Dead
@@ -55,26 +42,30 @@ module _ {S A R : Type 0} (m : Meaning S A R) (digest : Key → ℕ) (layout : L
 
   -- it may end the turn, and do nothing
   pub may_leave : (found : Me (Running S) (CellView S A R)) → found ≡ taken → MayEndBy m Nothing slot found
-  may_leave found is = subst (λ (y : Me (Running S) (CellView S A R)). MayEndBy m Nothing slot y) (sym is) (record { turn = turn_at slot was; has = refl; there = refl; may = tt; carries = refl; phase = refl; settled = refl })
+  may_leave found is = subst (λ (y : Me (Running S) (CellView S A R)). MayEndBy m Nothing slot y) (sym is)
+      (record { turn = turn_at slot was; has = refl; there = refl; may = tt; carries = refl; phase = refl; settled = refl })
 
   pub may_leave_told : (noted : Me (Running S) (CellView S A R)) (note : ℕ) → noted ≡ told note → MayEndBy m Nothing slot noted
   may_leave_told noted note is = subst (λ (y : Me (Running S) (CellView S A R)). MayEndBy m Nothing slot y) (sym is)
       (record { turn = turn_told note (stage_phase was.stage); has = refl; there = refl; may = tt; carries = refl; phase = refl; settled = refl })
 
-  pub left_so : (found now : Me (Running S) (CellView S A R)) → (record found.0 { turn = None }) ≡ (record old.0 { turn = None }) → now ≡ (record found.0 { turn = None }, []) → now ≡ (record old.0 { turn = None }, [])
+  pub left_so : (found now : Me (Running S) (CellView S A R)) → (record found.0 { turn = None }) ≡ (record old.0 { turn = None }) →
+      now ≡ (record found.0 { turn = None }, []) → now ≡ (record old.0 { turn = None }, [])
   left_so found now same ended = ended ∙ ap (λ (y : CellView S A R). (y, [])) same
 
   pub has_turn : (noted : Me (Running S) (CellView S A R)) (note : ℕ) → noted ≡ told note → stage_phase was.stage ≡ 2 → HasTurnIn noted.0.turn slot
   has_turn noted note is dead = (turn_told note (stage_phase was.stage), ap (λ (y : Me (Running S) (CellView S A R)). y.0.turn) is, refl, λ none. absurd (let no : 2 ≡ 0 = sym dead ∙ none in cc))
 
   pub inc_is : (noted : Me (Running S) (CellView S A R)) (note inc : ℕ) → noted ≡ told note → stage_phase was.stage ≡ 2 → ShowsTurnInc noted.0.turn slot inc → inc ≡ was.inc
-  inc_is noted note inc is dead shows = shows (turn_told note (stage_phase was.stage)) (ap (λ (y : Me (Running S) (CellView S A R)). y.0.turn) is) refl (λ none. absurd (let no : 2 ≡ 0 = sym dead ∙ none in cc))
+  inc_is noted note inc is dead shows =
+      shows (turn_told note (stage_phase was.stage)) (ap (λ (y : Me (Running S) (CellView S A R)). y.0.turn) is) refl (λ none. absurd (let no : 2 ≡ 0 = sym dead ∙ none in cc))
 
   pub may_store : (noted : Me (Running S) (CellView S A R)) (note number : ℕ) → noted ≡ told note → MayStore m noted.0 Slots slot phase_field number
   may_store noted note number is = inr (inl (record { turn = turn_told note (stage_phase was.stage); has = ap (λ (y : Me (Running S) (CellView S A R)). y.0.turn) is; there = refl; phase = refl }))
 
   -- the slot's connection is reclaimed, its note cleared, and it is freed
-  module _ (id : ConnId) (there : id.slot ≡ slot) (inc : was.inc ≡ id.inc) (note : ℕ) (dead : stage_phase was.stage ≡ 2) (noted stored : Me (Running S) (CellView S A R)) (is : noted ≡ told note) (stores : stored ≡ stored_in Slots slot phase_field 0 noted) where
+  module _ (id : ConnId) (there : id.slot ≡ slot) (inc : was.inc ≡ id.inc) (note : ℕ) (dead : stage_phase was.stage ≡ 2)
+      (noted stored : Me (Running S) (CellView S A R)) (is : noted ≡ told note) (stores : stored ≡ stored_in Slots slot phase_field 0 noted) where
     stored_so : stored ≡ (record old.0 { turn = Some (turn_told note 0) }, (slot, running was.stage) ∷ [])
     stored_so = stores ∙ ap (stored_in Slots slot phase_field 0) is
 
@@ -96,7 +87,8 @@ module _ {S A R : Type 0} (m : Meaning S A R) (digest : Key → ℕ) (layout : L
       settled = refl;
     })
 
-    module _ (ended cleared freed : Me (Running S) (CellView S A R)) (ends : ended ≡ (record stored.0 { pools = with_reclaim id stored.0.pools; turn = None }, [])) (clears : cleared ≡ with_pools ended (clearing id ended.0.pools)) (none : old.0.pools.reclaims ≡ []) (clear : old.0.pools.cleared ≡ []) where
+    module _ (ended cleared freed : Me (Running S) (CellView S A R)) (ends : ended ≡ (record stored.0 { pools = with_reclaim id stored.0.pools; turn = None }, []))
+        (clears : cleared ≡ with_pools ended (clearing id ended.0.pools)) (none : old.0.pools.reclaims ≡ []) (clear : old.0.pools.cleared ≡ []) where
       ended_so : ended ≡ (record old.0 { pools = with_reclaim id old.0.pools; turn = None }, [])
       ended_so = ends ∙ ap (λ (y : Me (Running S) (CellView S A R)). (record y.0 { pools = with_reclaim id y.0.pools; turn = None }, [])) stored_so
 
@@ -116,15 +108,31 @@ module _ {S A R : Type 0} (m : Meaning S A R) (digest : Key → ℕ) (layout : L
           ∙ ap (λ ids. (record old.0 { pools = record old.0.pools { reclaims = ids; cleared = id ∷ [] }; turn = None }, [])) gone))
 
       pub may_give_back : id.inc ≢ 2 ^ 64 - 1 → id.inc < 2 ^ 64 → MayGiveBack cleared.0 id
-      may_give_back further below = subst (λ (y : Me (Running S) (CellView S A R)). MayGiveBack y.0 id) (sym cleared_so) (record { cleared = Contains-push [] id; further = omega (arith, further, below) })
+      may_give_back further below = subst (λ (y : Me (Running S) (CellView S A R)). MayGiveBack y.0 id) (sym cleared_so)
+          (record { cleared = Contains-push [] id; further = omega (arith, further, below) })
 
       pub frees : (found : ℕ) → HasFreed m id found cleared freed → found ≡ freed.0.pools.found → HasFreedSlot m slot id old freed
       frees found has same = record {
         there = there;
         adds = free_so.adds;
         legal = free_so.legal;
-        is = free_so.is ∙ (ap (λ ids. (record old.0 { seats = record old.0.seats { history = freed.0.seats.history }; pools = record old.0.pools { found = found; reclaims = []; cleared = ids }; turn = None }, [])) gone
-            ∙ (λ i. (record old.0 { seats = record old.0.seats { history = freed.0.seats.history }; pools = record old.0.pools { found = same i; reclaims = sym none i; cleared = sym clear i }; turn = None }, [])));
+        is = free_so.is
+            ∙ (ap (λ ids. (
+              record old.0 {
+                seats = record old.0.seats { history = freed.0.seats.history };
+                pools = record old.0.pools { found = found; reclaims = []; cleared = ids };
+                turn = None;
+              },
+              [],
+            )) gone
+            ∙ (λ i. (
+              record old.0 {
+                seats = record old.0.seats { history = freed.0.seats.history };
+                pools = record old.0.pools { found = same i; reclaims = sym none i; cleared = sym clear i };
+                turn = None;
+              },
+              [],
+            )));
       }
         where
           free_so : HasFreed m id found emptied freed

@@ -3,21 +3,14 @@ use Rattle.std.specs.List.{Contains}
 use Rattle.std.proofs.Common.{◌≡◌, ℕ, ◌+◌, ◌<◌, ◌≤◌, cond, eq-eqb, Option, Some, None, IfSome, [], ◌∷◌, sym, ap, ◌∙◌, subst, ⊎_elim, arith}
 use Rattle.std.proofs.lemmas.List.Elements.{Contains-append_left, Contains-append_right, Contains-push}
 use Rattle.atomic_table.specs.Table.{Me}
-use Rattle.npf_paths.specs.declared.place.Lock.{Lock}
+use Rattle.npf_paths.specs.{declared.place.{Lock.Lock, Place.Place}, Places.lock_of}
 use Rattle.npf_paths.specs.declared.place.Lock.TheVariants as Locking
-use Rattle.npf_paths.specs.declared.place.Place.{Place}
 use Rattle.npf_paths.specs.declared.place.Place.TheVariants as Places
-use Rattle.npf_paths.specs.Places.{lock_of}
 use Rattle.npf_seats.proofs.SeatLemmas.{cases_lt}
-use Rattle.npf_cells_words.specs.declared.layout.Layout.{Layout}
-use Rattle.npf_cells_words.specs.declared.mark.Emptied.{Emptied}
-use Rattle.npf_cells_words.specs.Codes.{place_code}
-use Rattle.npf_cells_words.specs.Places.{IsInTrie}
-use Rattle.npf_cells_rule.specs.declared.view.CellView.{CellView}
-use Rattle.npf_cells_rule.specs.Views.{with_trie}
+use Rattle.npf_cells_words.specs.{declared.{layout.Layout.Layout, mark.Emptied.Emptied}, Codes.place_code, Places.IsInTrie}
+use Rattle.npf_cells_rule.specs.{declared.view.CellView.CellView, Views.with_trie}
 use Rattle.npf_cells_holds.specs.LockKinds.{locking}
-use Rattle.npf_cells_returns.specs.LoadKinds.{loading_cell, loading_parent, with_digit, with_parent}
-use Rattle.npf_cells_returns.specs.MarkKinds.{MayMarkNode}
+use Rattle.npf_cells_returns.specs.{LoadKinds.{loading_cell, loading_parent, with_digit, with_parent}, MarkKinds.MayMarkNode}
 use Rattle.npf_turn.specs.TakingOff.{FindsBareUnder, finding}
 
 -- the pass found the places of the node before this one empty
@@ -44,16 +37,19 @@ module _ {S A R F : Type 0} (node : ℕ) (old now next : Me F (CellView S A R)) 
     there = bare.there;
     below = λ k h. ⊎_elim
         (λ (low : k < digit). Contains-append_right (digit ∷ []) bare.found.digits k (bare.below k low))
-        (λ (high : digit ≤ k). subst (Contains (digit ∷ bare.found.digits)) (let same : digit ≡ k = omega (arith, h, high) in same) (Contains-append_left (digit ∷ []) bare.found.digits digit (Contains-push [] digit)))
+        (λ (high : digit ≤ k). subst (Contains (digit ∷ bare.found.digits)) (let same : digit ≡ k = omega (arith, h, high) in
+        same) (Contains-append_left (digit ∷ []) bare.found.digits digit (Contains-push [] digit)))
         (cases_lt k digit);
   }
 
   -- the parent word is remembered with them
-  pub parent_named : (parent : Option Place) (code : ℕ) → IfSome parent (λ p. place_code p ≡ code) → BareBelow node 16 old now → next ≡ with_trie now (loading_parent node code now.0.trie) → IfSome parent (FindsBareUnder next.0.trie node)
+  pub parent_named : (parent : Option Place) (code : ℕ) → IfSome parent (λ p. place_code p ≡ code) → BareBelow node 16 old now →
+      next ≡ with_trie now (loading_parent node code now.0.trie) → IfSome parent (FindsBareUnder next.0.trie node)
   parent_named None code named bare is = tt
   parent_named (Some p) code named bare is = (
     record bare.found { parent = Some code },
-    ap (λ (y : Me F (CellView S A R)). y.0.trie.emptied) is ∙ (ap (with_parent node code) bare.has ∙ ap (λ b. cond b (Some (record bare.found { parent = Some code })) (Some bare.found)) (eq-eqb bare.found.node node bare.there)),
+    ap (λ (y : Me F (CellView S A R)). y.0.trie.emptied) is
+        ∙ (ap (with_parent node code) bare.has ∙ ap (λ b. cond b (Some (record bare.found { parent = Some code })) (Some bare.found)) (eq-eqb bare.found.node node bare.there)),
     bare.there,
     bare.below,
     ap (λ n. Some n) (sym named),

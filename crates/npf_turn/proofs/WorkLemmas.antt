@@ -3,29 +3,17 @@ use Rattle.std.proofs.Common.{◌≡◌, ℕ, Some, None, List, [], ◌∷◌, r
 use denote.Bor.{Bor}
 use Rattle.atomic_table.specs.Table.{Me}
 use Rattle.npf_types.specs.declared.key.Way.{Way}
-use Rattle.npf_core.specs.declared.conn_id.ConnId.{ConnId}
-use Rattle.npf_core.specs.declared.slot.Slot.{Slot}
-use Rattle.npf_core.specs.declared.stage.Stage.{Stage}
-use Rattle.npf_core.specs.declared.stage.Stage.TheVariants.{Vacant, Building, Live, Dead}
-use Rattle.npf_core.specs.declared.stepped.Stepped.{Stepped}
-use Rattle.npf_core.specs.Allowed.{IsDue}
-use Rattle.npf_core.specs.Meaning.{Meaning}
-use Rattle.npf_core.specs.NextState.{stepped}
-use Rattle.npf_core.specs.Replies.{step_answer}
+use Rattle.npf_core.specs.declared.{conn_id.ConnId.ConnId, slot.Slot.Slot, stage.Stage.{Stage, TheVariants.{Vacant, Building, Live, Dead}}}
+use Rattle.npf_core.specs.{declared.stepped.Stepped.Stepped, Allowed.IsDue, Meaning.Meaning, NextState.stepped, Replies.step_answer}
 use Rattle.npf_connections.specs.Pass.{Knows}
-use Rattle.npf_cells_words.specs.declared.layout.Pool.TheVariants.{Slots}
-use Rattle.npf_cells_words.specs.Layout.{phase_field}
-use Rattle.npf_cells_lives.specs.declared.turn.Turn.{Turn}
-use Rattle.npf_cells_lives.specs.Turns.{Running, running, stage_phase}
-use Rattle.npf_cells_rule.specs.declared.view.CellView.{CellView}
-use Rattle.npf_cells_rule.specs.Passes.{cell_pass}
+use Rattle.npf_cells_words.specs.{declared.layout.Pool.TheVariants.Slots, Layout.phase_field}
+use Rattle.npf_cells_lives.specs.{declared.turn.Turn.Turn, Turns.{Running, running, stage_phase}}
+use Rattle.npf_cells_rule.specs.{declared.view.CellView.CellView, Passes.cell_pass}
 use Rattle.npf_cells_takes.specs.PrivateKinds.{ShowsTurnInc, MayStore, stored_in}
-use Rattle.npf_cells_turns.specs.declared.act.TurnAct.{TurnAct}
-use Rattle.npf_cells_turns.specs.declared.act.TurnAct.TheVariants.{Start, Step as Steps, Abandoned, Expired}
-use Rattle.npf_cells_turns.specs.EndKinds.{BuildsThere, HasBareNotes, stage_by, MayAct, MayEndBy}
-use Rattle.npf_cells_turns.specs.TurnKinds.{HasTaken, HasSlotTurn}
+use Rattle.npf_cells_turns.specs.declared.act.TurnAct.{TurnAct, TheVariants.{Start, Step as Steps, Abandoned, Expired}}
+use Rattle.npf_cells_turns.specs.{EndKinds.{BuildsThere, HasBareNotes, stage_by, MayAct, MayEndBy}, TurnKinds.{HasTaken, HasSlotTurn}}
 use Rattle.npf_cells_turns.proofs.ActLemmas.{stepped_phase}
-use Rattle.npf_cells.specs.Stepping.{StepsFlow, gone_on, going_answer}
+use Rattle.npf_cells.specs.Step.{StepsFlow, gone_on, going_answer}
 
 -- what holds something is Live
 pub is_live : {S : Type 0} (stage : Stage S) (flow : S) (steps : ℕ) → running stage ≡ Some (flow, steps) → stage ≡ Live flow steps
@@ -89,7 +77,8 @@ module _ {S A R : Type 0} where
     pub phased : (next : Me (Running S) (CellView S A R)) (number : ℕ) → next ≡ stored_in Slots slot phase_field number now → Works old slot was number value next
     phased next number is = record { is = is ∙ ap (stored_in Slots slot phase_field number) so.is }
 
-    pub may_end : (m : Meaning S A R) (act : TurnAct S A) → MayAct m now.0 (turn_of slot was phase) act → value ≡ running (stage_by m act was.stage) → phase ≡ stage_phase (stage_by m act was.stage) → MayEndBy m act slot now
+    pub may_end : (m : Meaning S A R) (act : TurnAct S A) → MayAct m now.0 (turn_of slot was phase) act →
+        value ≡ running (stage_by m act was.stage) → phase ≡ stage_phase (stage_by m act was.stage) → MayEndBy m act slot now
     may_end m act may runs phase_is = record {
       turn = turn_of slot was phase;
       has = turn_is;
@@ -101,17 +90,21 @@ module _ {S A R : Type 0} where
     }
 
     -- it may end the turn by starting what it built, where it stored the notes of the ways without a key
-    pub may_start : (m : Meaning S A R) (id : ConnId) (n : ℕ) (init : S) → id.slot ≡ slot → Contains old.0.pools.builds id → ¬ Contains old.0.pools.unstored id.slot → HasBareNotes m old.0 id → phase ≡ 1 → value ≡ Some (init, 1) → MayEndBy m (Start id n init) slot now
+    pub may_start : (m : Meaning S A R) (id : ConnId) (n : ℕ) (init : S) → id.slot ≡ slot → Contains old.0.pools.builds id → ¬ Contains old.0.pools.unstored id.slot →
+        HasBareNotes m old.0 id → phase ≡ 1 → value ≡ Some (init, 1) → MayEndBy m (Start id n init) slot now
     may_start m id n init there built stored notes phase_is value_is =
         may_end m (Start id n init)
-        (subst (λ (y : Me (Running S) (CellView S A R)). BuildsThere y.0 (turn_of slot was phase) id × HasBareNotes m y.0 id) (sym so.is) (record { built = built; there = there; stored = stored }, notes))
+        (subst (λ (y : Me (Running S) (CellView S A R)). BuildsThere y.0 (turn_of slot was phase) id ×
+        HasBareNotes m y.0 id) (sym so.is) (record { built = built; there = there; stored = stored }, notes))
         value_is phase_is
 
     -- or by giving up what it built
-    pub may_abandon : (m : Meaning S A R) (id : ConnId) → id.slot ≡ slot → Contains old.0.pools.builds id → ¬ Contains old.0.pools.unstored id.slot → HasBareNotes m old.0 id → phase ≡ 2 → value ≡ None → MayEndBy m (Abandoned id) slot now
+    pub may_abandon : (m : Meaning S A R) (id : ConnId) → id.slot ≡ slot → Contains old.0.pools.builds id → ¬ Contains old.0.pools.unstored id.slot →
+        HasBareNotes m old.0 id → phase ≡ 2 → value ≡ None → MayEndBy m (Abandoned id) slot now
     may_abandon m id there built stored notes phase_is value_is =
         may_end m (Abandoned id)
-        (subst (λ (y : Me (Running S) (CellView S A R)). BuildsThere y.0 (turn_of slot was phase) id × HasBareNotes m y.0 id) (sym so.is) (record { built = built; there = there; stored = stored }, notes))
+        (subst (λ (y : Me (Running S) (CellView S A R)). BuildsThere y.0 (turn_of slot was phase) id ×
+        HasBareNotes m y.0 id) (sym so.is) (record { built = built; there = there; stored = stored }, notes))
         value_is phase_is
 
     -- it may end the turn with a step, where it carries the flow and the count that the step leaves
@@ -139,7 +132,8 @@ module _ {S A R : Type 0} where
     answered m way arg answer next on held = on.answers ∙ ap (going_answer m way arg) (sym (gave on.held on.was) ∙ held) ∙ answers_on m way arg was.stage
 
     -- or by killing what was Live and due
-    pub may_expire : (m : Meaning S A R) (id : ConnId) (time : ℕ) (flow : S) (steps : ℕ) → id.slot ≡ slot → was.inc ≡ id.inc → running was.stage ≡ Some (flow, steps) → IsTrue (m.is_due flow time) → phase ≡ 2 → value ≡ None → MayEndBy m (Expired id time) slot now
+    pub may_expire : (m : Meaning S A R) (id : ConnId) (time : ℕ) (flow : S) (steps : ℕ) → id.slot ≡ slot → was.inc ≡ id.inc →
+        running was.stage ≡ Some (flow, steps) → IsTrue (m.is_due flow time) → phase ≡ 2 → value ≡ None → MayEndBy m (Expired id time) slot now
     may_expire m id time flow steps there inc held due phase_is value_is =
         may_end m (Expired id time)
         (record { there = there; inc = inc; due = subst (IsDue m time) (sym (is_live was.stage flow steps held)) due })

@@ -1,5 +1,5 @@
 pub mod Done
-pub mod Ending
+pub mod Endings
 pub mod KillLaw
-pub mod Reclaiming
+pub mod Reclaims
 pub mod TakingOff

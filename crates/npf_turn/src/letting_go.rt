@@ -1,3 +1,4 @@
+// A connection that lost its keys is let go.
 ghost use Rattle.std.specs.Prelude.{◌<◌, Contains};
 ghost use Rattle.npf_cells.specs.Cells.{IsPassIn};
 ghost use Rattle.npf_cells_takes.specs.PrivateKinds.{HasSeenBare};

@@ -6,22 +6,22 @@
 // and after. It may wait for a turn that another pass has.
 #![tactic(auto)]
 
-mod ending;
+mod codes;
+mod endings;
 mod laws;
 mod letting_go;
-mod locking;
-mod naming;
-mod reclaiming;
-mod regaining;
+mod locks;
+mod reclaims;
+mod regains;
 mod taking_off;
 mod turn;
-mod working;
+mod work;
 
-pub use ending::{end_key, end_keys, end_killed};
+pub use endings::{end_key, end_keys, end_killed};
 pub use laws::kill_law;
 pub use letting_go::let_go;
-pub use locking::{lock, lock_hung, unlock};
-pub use reclaiming::reclaim;
-pub use regaining::{clear_mark_at, regain};
+pub use locks::{lock, lock_hung, unlock};
+pub use reclaims::reclaim;
+pub use regains::{clear_mark_at, regain};
 pub use turn::wait_turn;
-pub use working::{expire, kill, start, step};
+pub use work::{expire, kill, start, step};

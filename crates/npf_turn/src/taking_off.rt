@@ -12,8 +12,8 @@ ghost use Rattle.npf_cells.specs.Cells.{IsPassIn};
 ghost use Rattle.npf_cells_rule.specs.Passes.{IsProtected};
 ghost use Rattle.npf_turn.specs.TakingOff.{finding, FindsBare, FindsBareUnder, HasEmptied, KnowsNode, LeavesPlace};
 
-use crate::locking::{lock, unlock};
-use crate::naming::place_named;
+use crate::codes::place_named;
+use crate::locks::{lock, unlock};
 use npf_cells::{CellPass, Cells};
 use npf_core::Law;
 use npf_paths::{KeyHash, Lock, NODE_DIGITS, Place};

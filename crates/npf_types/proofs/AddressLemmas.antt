@@ -1,6 +1,4 @@
-use Rattle.std.proofs.Common.{◌≡◌, ℕ, ◌-◌, ◌*◌, ◌^◌, refl, ap}
-use Rattle.std.proofs.Math.Nat.{div-eq_of_eq-mul_left}
-use Rattle.std.proofs.lemmas.Nat.{pow_pos}
+use Rattle.std.proofs.{Common.{◌≡◌, ℕ, ◌-◌, ◌*◌, ◌^◌, refl, ap}, Math.Nat.div-eq_of_eq-mul_left, lemmas.Nat.pow_pos}
 use Rattle.npf_types.specs.Address.{kept_bits}
 
 -- what is cleared is cleared already

@@ -1,11 +1,7 @@
 -- A text is one address at most.
-use Rattle.std.proofs.Common.{◌≡◌, ℕ, List, sym, ap, ◌∙◌}
-use Rattle.std.specs.declared.net.ip_addr.IpAddr.{IpAddr}
-use Rattle.std.specs.Net.Grammar.{IsIpText}
+use Rattle.std.{proofs.Common.{◌≡◌, ℕ, List, sym, ap, ◌∙◌}, specs.{declared.net.ip_addr.IpAddr.IpAddr, Net.Grammar.IsIpText}}
 use Rattle.std.proofs.NetLemmas.Theorems.{IsIpText_unique}
-use Rattle.npf_types.specs.declared.address.Addr.{Addr}
-use Rattle.npf_types.specs.AddressText.{addr_of, IsAddressText}
-use Rattle.npf_types.specs.Reading.{IsOnly}
+use Rattle.npf_types.specs.{declared.address.Addr.Addr, AddressText.{addr_of, IsAddressText}, Reading.IsOnly}
 
 pub one_address : (text : List ℕ) (a b : Addr) → IsAddressText text a → IsAddressText text b → a ≡ b
 one_address text a b h k = sym h.value ∙ ap addr_of (IsIpText_unique text h.ip k.ip h.spelled k.spelled) ∙ k.value

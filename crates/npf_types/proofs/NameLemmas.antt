@@ -2,10 +2,7 @@
 use Rattle.std.proofs.Common.{◌≡◌, ◌≤◌, ◌-◌, ℕ, Bool, true, false, IsTrue, List, ◌++◌, length, take, drop, replicate, refl, sym, ap, ◌∙◌}
 use mathlib.Core.HLevel.{is_prop→PathP}
 use Rattle.std.proofs.lemmas.List.{take-append-drop}
-use Rattle.npf_types.specs.declared.name.Name.{Name}
-use Rattle.npf_types.specs.contracts.name.Name.{short-found, named-found, padded-found}
-use Rattle.npf_types.specs.NameText.{is_name}
-use Rattle.npf_types.specs.Named.{named, name_where}
+use Rattle.npf_types.specs.{declared.name.Name.Name, contracts.name.Name.{short-found, named-found, padded-found}, NameText.is_name, Named.{named, name_where}}
 
 pub Name-same : (p q : Name) → p.len ≡ q.len → p.bytes ≡ q.bytes → p ≡ q
 Name-same p q l b =

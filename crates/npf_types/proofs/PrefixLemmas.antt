@@ -1,23 +1,13 @@
 -- Two prefixes are one where their addresses and lengths are, which is what `==` tests; and what lists of them have.
-use Rattle.std.proofs.Common.{◌≡◌, ◌≤◌, ℕ, Bool, true, ap, sym, ◌∙◌, List}
-use Rattle.std.proofs.Math.Nat.{min-eq_left}
-use Rattle.npf_types.specs.Block.{block}
+use Rattle.std.{proofs.{Common.{◌≡◌, ◌≤◌, ℕ, Bool, true, ap, sym, ◌∙◌, List}, Math.Nat.min-eq_left}, specs.Cmp.IsEquivalence}
+use Rattle.npf_types.specs.{Block.block, declared.{address.Addr.{Addr, TheVariants.{V4, V6}}, prefix.Prefix.Prefix}, contracts.address.Addr.the_row}
 use mathlib.Core.HLevel.{is_prop→PathP}
-use Rattle.std.specs.Cmp.{IsEquivalence}
-use Rattle.std.proofs.lemmas.Bool.{and_parts, eqb-true, eq-eqb}
-use Rattle.std.proofs.lemmas.List.Folds.{Any-from_list_any, list_any-from_Any}
-use Rattle.std.specs.Bool.{Decides}
+use Rattle.std.{proofs.lemmas.{Bool.{and_parts, eqb-true, eq-eqb}, List.Folds.{Any-from_list_any, list_any-from_Any}}, specs.Bool.Decides}
 use Rattle.std.proofs.lemmas.Map.Views.{exact_unsigned_eq}
-use Rattle.npf_types.specs.declared.address.Addr.{Addr}
-use Rattle.npf_types.specs.declared.address.Addr.TheVariants.{V4, V6}
-use Rattle.npf_types.specs.declared.prefix.Prefix.{Prefix}
-use Rattle.npf_types.specs.contracts.address.Addr.{the_row}
-use Rattle.npf_types.specs.contracts.prefix.Prefix.{short-found, zeroed-found}
+use Rattle.npf_types.specs.contracts.prefix.{Prefix.{short-found, zeroed-found}, PrefixEq.TheImpl.Laws.laws-law}
 use Rattle.npf_types.specs.contracts.prefix.PrefixPartialEq.TheImpl as prefix_eq
-use Rattle.npf_types.specs.contracts.prefix.PrefixEq.TheImpl.Laws.{laws-law}
 use Rattle.npf_types.specs.contracts.address.AddrPartialEq.TheImpl as addr_eq
-use Rattle.npf_types.specs.Address.{width, cleared, kept_bits, SharesFirst, shares_first}
-use Rattle.npf_types.specs.Prefix.{has_address, Covers, covers}
+use Rattle.npf_types.specs.{Address.{width, cleared, kept_bits, SharesFirst, shares_first}, Prefix.{has_address, Covers, covers}}
 
 -- the test that `==` of two prefixes is
 abbrev pub same_prefix : Prefix → Prefix → Bool

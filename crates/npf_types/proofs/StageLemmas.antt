@@ -1,8 +1,6 @@
 -- What holds of stages, whatever they are about.
-use Rattle.std.specs.Prelude.{Result, Ok, Err}
-use Rattle.std.proofs.Common.{ap}
-use Rattle.npf_types.specs.Settled.{AreSettled}
-use Rattle.npf_types.specs.Stages.{Stage, ◌andthen◌, stops, goes_on, ◌told_by◌, told, done}
+use Rattle.std.{specs.Prelude.{Result, Ok, Err}, proofs.Common.ap}
+use Rattle.npf_types.specs.{Settled.AreSettled, Stages.{Stage, ◌andthen◌, stops, goes_on, ◌told_by◌, told, done}}
 
 -- stages that come to more come to more in turn
 pub andthen_lasts :

@@ -1,3 +1,4 @@
+// What a procedure does to a packet.
 use crate::name::Name;
 
 /// What a procedure of npf.conf(5) does to a packet: `min-ttl`, `max-mss` and `no-df` of its normalisation, and the

@@ -1,3 +1,4 @@
+// Addresses of IPv4 and IPv6.
 ghost use Rattle.std.specs.Prelude.{◌≡◌};
 ghost use Rattle.npf_types.specs.Address.{width};
 ghost use Rattle.npf_types.specs.AddressText.{IsAddressText};

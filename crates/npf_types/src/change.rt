@@ -1,3 +1,4 @@
+// What a translation writes.
 use crate::address::Addr;
 
 /// One end of a translated packet: its address, and its port or echo identifier where that changes too.

@@ -1,3 +1,4 @@
+// What is known of a packet.
 use crate::address::Addr;
 
 /// A TCP segment (RFC 9293 section 3.1): its flags, sequence and acknowledgment numbers and window as they stand

@@ -1,3 +1,5 @@
+// The keys of connections.
+
 /// The five numbers by which a connection is found: protocol, interface and ports, then both addresses.
 #[derive(Clone, Copy, Debug, PartialEq, Eq, PartialOrd, Ord, Hash)]
 pub struct Key(pub [u64; 5]);

@@ -58,6 +58,9 @@ pub const MAX_INTERFACES: usize = 64;
 /// Connections that are kept at a time.
 pub const MAX_CONNECTIONS: usize = 65_536;
 
+/// Bytes of a file of saved connections.
+pub const MAX_SAVED_BYTES: usize = 67_108_864;
+
 /// Nodes of the tree in which connections are looked up.
 pub const MAX_NODES: usize = 262_144;
 

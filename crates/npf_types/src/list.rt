@@ -1,3 +1,4 @@
+// Lists that own their items.
 ghost use Rattle.std.specs.Prelude.{◌≡◌};
 ghost use Rattle.std.specs.Borrow.{sem};
 ghost use Rattle.npf_types.specs.List.{LendsItems};

@@ -1,3 +1,4 @@
+// Names.
 ghost use Rattle.std.specs.Prelude.{◌≡◌, ◌≤◌, ◌-◌, ◌==◌, ◌↔◌, length, take, drop, replicate, IsTrue, IsSome, IfSome};
 ghost use Rattle.std.specs.List.{list_all};
 ghost use Rattle.npf_types.specs.NameText.{is_name, is_name_byte};

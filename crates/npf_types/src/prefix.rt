@@ -1,3 +1,4 @@
+// Prefixes of addresses.
 ghost use Rattle.std.specs.Prelude.{◌≡◌, ◌≤◌, ◌-◌, ◌/◌, ◌*◌, ◌^◌, ◌↔◌, IsTrue, IsSome, IfSome};
 ghost use Rattle.npf_types.specs.Address.{width, cleared, first_bits, kept_bits};
 

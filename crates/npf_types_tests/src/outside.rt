@@ -30,6 +30,9 @@ fn folder_files_are_those_of_the_current_folder(rt: HostRuntime) -> Result<(), F
     writes(&rt, &mut files, "npf_outside.test", b"0123456789", Ok(()));
     reads(&rt, &mut files, "npf_outside.test", 10, Ok(b"0123456789"));
     reads(&rt, &mut files, "npf_outside.test", 9, Err(FileFault::Long));
+    writes(&rt, &mut files, "npf_outside.test", b"01", Ok(()));
+    reads(&rt, &mut files, "npf_outside.test", 10, Ok(b"01"));
+    reads(&rt, &mut files, ".", 10, Err(FileFault::Failed));
     writes(
         &rt,
         &mut files,

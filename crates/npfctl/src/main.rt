@@ -5,10 +5,13 @@
 // rest.
 #![tactic(auto)]
 
-ghost use Rattle.std.specs.Prelude.{◌≤◌};
+ghost use Rattle.std.specs.Prelude.{◌≡◌, ◌≤◌, Some};
+ghost use Rattle.npf_ctl_words.specs.CommandLine.{name_in as name_said, word_texts};
+ghost use Rattle.npf_ctl_words.specs.declared.command.CommandName.TheVariants.{Run as Running, Gen as Generating};
 
 use npf_conndb::{Conns, Fnv};
 use npf_ctl::npfctl_top;
+use npf_ctl_words::{CommandName, name_in};
 use npf_flow::FlowLaw;
 use npf_outside::{FolderFiles, StderrSink, StdoutSink};
 use npf_runner::NoGate;
@@ -19,17 +22,17 @@ use std::process::ExitCode;
 use std::{env, mem};
 
 /// How many connections a table may have at a time, and how many nodes for their keys.
-struct Room {
+struct TableSize {
     slots: u32,
     nodes: u32,
 }
 
-const MOST: Room = Room {
+const MOST: TableSize = TableSize {
     slots: MAX_CONNECTIONS as u32,
     nodes: MAX_NODES as u32,
 };
 
-const LEAST: Room = Room {
+const LEAST: TableSize = TableSize {
     slots: 1,
     nodes: 16,
 };
@@ -39,7 +42,7 @@ fn main(rt: HostRuntime) -> ExitCode {
         return ExitCode::FAILURE;
     };
     let alloc = rt.alloc();
-    let Room { slots, nodes } = room_for(words.as_slice());
+    let TableSize { slots, nodes } = room_for(words.as_slice());
     let Ok((conns, mut pass)) = Conns::<FlowLaw, Fnv>::new(alloc, slots, nodes) else {
         return ExitCode::FAILURE;
     };
@@ -62,13 +65,15 @@ fn main(rt: HostRuntime) -> ExitCode {
     ExitCode::from(status)
 }
 
-/// The room of the table: a command that runs no packets asks it nothing.
-fn room_for(words: &[String]) -> Room
+/// The room of the table: for a command that runs packets it is what the limits say. Any other asks the table nothing.
+fn room_for(words: &[String]) -> TableSize
+    ensures running { name_said (word_texts words.now) ≡ Some Running → (result.slots ≡ MAX_CONNECTIONS) × (result.nodes ≡ MAX_NODES) }
+    ensures generating { name_said (word_texts words.now) ≡ Some Generating → (result.slots ≡ MAX_CONNECTIONS) × (result.nodes ≡ MAX_NODES) }
     ensures slots { (1 ≤ result.slots) × (result.slots ≤ 65536) }
     ensures nodes { (16 ≤ result.nodes) × (result.nodes ≤ 262144) }
 {
-    match words.first() {
-        Some(word) if word.as_str() == "run" || word.as_str() == "gen" => MOST,
+    match name_in(words) {
+        Some(CommandName::Run | CommandName::Gen) => MOST,
         _ => LEAST,
     }
 }

@@ -1,5 +1,6 @@
 use Rattle.npf_cells_marks.proofs.MarkLemmas.{mark_stands_once, marked_holds_back, marker_is_alone}
-use Rattle.npf_cells_marks.proofs.StepLawLemmas.{clearing_keeps, freeing_keeps, learning_keeps, leaving_keeps, loading_keeps, locking_keeps, marking_keeps, owning_keeps, placing_keeps, storing_keeps, unlocking_keeps}
+use Rattle.npf_cells_marks.proofs.StepLawLemmas.{clearing_keeps, freeing_keeps, learning_keeps, leaving_keeps, loading_keeps, locking_keeps}
+use Rattle.npf_cells_marks.proofs.StepLawLemmas.{marking_keeps, owning_keeps, placing_keeps, storing_keeps, unlocking_keeps}
 use Rattle.npf_cells_marks.proofs.marks_law.Goals as goal
 
 pub returns-clause-once : goal.returns-clause-once

@@ -1,5 +1,4 @@
-use Rattle.npf_ctl_prepare_law.proofs.InputLemmas.{loads_agree}
-use Rattle.npf_ctl_prepare_law.proofs.RunLemmas.{runs_agree}
+use Rattle.npf_ctl_prepare_law.proofs.{InputLemmas.loads_agree, RunLemmas.runs_agree}
 use Rattle.npf_ctl_prepare_law.proofs.one_run.Goals as goal
 
 pub returns-clause-run : goal.returns-clause-run

@@ -1,7 +1,5 @@
-use Rattle.std.proofs.Common.{ℕ, ◌-◌, ◌<◌, List, length, get_or, below_more, refl, arith}
-use Rattle.std.proofs.lemmas.Option.{slice_get-get_or}
-use Rattle.npf_bpf.specs.declared.insn.Insn.{Insn}
-use Rattle.npf_bpf.specs.Validity.{KeepsRules, IsInOrder}
+use Rattle.std.proofs.{Common.{ℕ, ◌-◌, ◌<◌, List, length, get_or, below_more, refl, arith}, lemmas.Option.slice_get-get_or}
+use Rattle.npf_bpf.specs.{declared.insn.Insn.Insn, Validity.{KeepsRules, IsInOrder}}
 use Rattle.npf_bpf.proofs.program.first_fault.Goals as goal
 
 -- the instruction that was read is in order

@@ -1,16 +1,9 @@
-use Rattle.std.proofs.Common.{◌≡◌, ℕ, List, [], ◌∷◌, ◌+◌, ◌-◌, ◌<◌, length, drop, get_or, Some, None, refl, sym, ap, subst, arith}
-use Rattle.std.proofs.Math.Seq.{drop-length}
-use Rattle.std.proofs.lemmas.List.Sums.{sum_by-take-drop}
-use Rattle.std.specs.List.{sum_by}
+use Rattle.std.proofs.{Common.{◌≡◌, ℕ, List, [], ◌∷◌, ◌+◌, ◌-◌, ◌<◌, length, drop, get_or, Some, None, refl, sym, ap, subst, arith}, Math.Seq.drop-length}
+use Rattle.std.{proofs.lemmas.List.Sums.sum_by-take-drop, specs.List.sum_by}
 use Rattle.npf_bpf.specs.declared.insn.Insn.{Insn}
-use Rattle.npf_bpfgen.specs.ProgramLength.{item_length}
-use Rattle.npf_model.specs.declared.ends.AddrItem.{AddrItem}
-use Rattle.npf_model.specs.Describes.{fits_addrs, item_has}
-use Rattle.npf_bpfgen.specs.Endpoint.{address_of}
-use Rattle.npf_bpfgen.specs.Instruction.{jump, return_number}
-use Rattle.npf_bpfgen.specs.Premise.{BranchesOnPacket, GuardsPacket, header_words}
-use Rattle.npf_bpfgen.specs.Tail.{Extends, Guards}
-use Rattle.npf_bpfgen.proofs.AddrLemmas.{items_more}
+use Rattle.npf_bpfgen.specs.{ProgramLength.item_length, Endpoint.address_of, Instruction.{jump, return_number}}
+use Rattle.npf_model.specs.{declared.ends.AddrItem.AddrItem, Describes.{fits_addrs, item_has}}
+use Rattle.npf_bpfgen.{specs.{Premise.{BranchesOnPacket, GuardsPacket, header_words}, Tail.{Extends, Guards}}, proofs.AddrLemmas.items_more}
 use Rattle.npf_bpfgen.proofs.TailLemmas.{counted, extended, grown, none_guards}
 use Rattle.npf_bpfgen.proofs.addr.put_addrs.Goals as goal
 
@@ -60,4 +53,5 @@ returns-clause-front c =
 pub returns-clause-value : goal.returns-clause-value
 returns-clause-value c =
     let done : c.loop-left.left ≡ 0 = omega arith in
-    subst (λ (n : ℕ). GuardsPacket (λ tables facts. fits_addrs (Some (drop n c.args.items.now)) tables (address_of c.args.endpoint facts)) c.args.tail.now c.loop-left.tail) done c.loop-left.invariant.value
+    subst (λ (n : ℕ). GuardsPacket (λ tables facts. fits_addrs (Some (drop n c.args.items.now)) tables
+    (address_of c.args.endpoint facts)) c.args.tail.now c.loop-left.tail) done c.loop-left.invariant.value

@@ -1,10 +1,6 @@
-use Rattle.std.proofs.Common.{◌≤◌, ◌+◌, length, drop, Some}
-use Rattle.std.specs.List.{sum_by}
+use Rattle.std.{proofs.Common.{◌≤◌, ◌+◌, length, drop, Some}, specs.List.sum_by}
 use Rattle.npf_model.specs.Describes.{fits_addrs}
-use Rattle.npf_bpfgen.specs.Endpoint.{address_of}
-use Rattle.npf_bpfgen.specs.Premise.{GuardsPacket}
-use Rattle.npf_bpfgen.specs.ProgramLength.{item_length}
-use Rattle.npf_bpfgen.specs.Tail.{Extends}
+use Rattle.npf_bpfgen.specs.{Endpoint.address_of, Premise.GuardsPacket, ProgramLength.item_length, Tail.Extends}
 use Rattle.npf_bpfgen.proofs.addr.put_addrs.Given as goal
 
 abbrev pub invariant-loop-left : goal.invariant-loop-left

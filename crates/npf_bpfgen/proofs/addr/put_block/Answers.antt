@@ -1,9 +1,6 @@
-use Rattle.std.proofs.Common.{sym, subst}
-use Rattle.std.specs.Prelude.{OnOk}
-use Rattle.npf_types.specs.declared.address.Addr.{Addr}
-use Rattle.npf_types.specs.Address.{shares_first}
-use Rattle.npf_bpfgen.specs.Endpoint.{address_of}
-use Rattle.npf_bpfgen.specs.Premise.{BranchesOnPacket}
+use Rattle.std.{proofs.Common.{sym, subst}, specs.Prelude.OnOk}
+use Rattle.npf_types.specs.{declared.address.Addr.Addr, Address.shares_first}
+use Rattle.npf_bpfgen.specs.{Endpoint.address_of, Premise.BranchesOnPacket}
 use Rattle.npf_bpfgen.proofs.addr.put_block.Goals as goal
 
 pub returns-in-V4-clause-value : goal.returns-in-V4-clause-value

@@ -1,9 +1,6 @@
-use Rattle.std.proofs.Common.{sym, subst}
-use Rattle.std.specs.Prelude.{OnOk}
-use Rattle.npf_model.specs.declared.ends.AddrItem.{AddrItem}
-use Rattle.npf_model.specs.Describes.{item_has}
-use Rattle.npf_bpfgen.specs.Endpoint.{address_of}
-use Rattle.npf_bpfgen.specs.Premise.{BranchesOnPacket}
+use Rattle.std.{proofs.Common.{sym, subst}, specs.Prelude.OnOk}
+use Rattle.npf_model.specs.{declared.ends.AddrItem.AddrItem, Describes.item_has}
+use Rattle.npf_bpfgen.specs.{Endpoint.address_of, Premise.BranchesOnPacket}
 use Rattle.npf_bpfgen.proofs.addr.put_item.Goals as goal
 
 pub returns-in-Net-clause-value : goal.returns-in-Net-clause-value

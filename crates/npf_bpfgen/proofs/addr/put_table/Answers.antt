@@ -1,7 +1,5 @@
 use Rattle.std.proofs.Common.{◌≡◌, ◌++◌, refl}
-use Rattle.npf_bpfgen.proofs.AddrLemmas.{table_branches, table_test}
-use Rattle.npf_bpfgen.specs.Endpoint.{asked_table}
-use Rattle.npf_bpfgen.proofs.TailLemmas.{extended}
+use Rattle.npf_bpfgen.{proofs.{AddrLemmas.{table_branches, table_test}, TailLemmas.extended}, specs.Endpoint.asked_table}
 use Rattle.npf_bpfgen.proofs.addr.put_table.Goals as goal
 
 pub returns-clause-front : goal.returns-clause-front

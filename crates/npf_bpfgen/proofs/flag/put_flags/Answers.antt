@@ -1,9 +1,6 @@
-use Rattle.std.proofs.Common.{ℕ, Option, sym, subst}
-use Rattle.std.specs.Prelude.{OnOk}
+use Rattle.std.{proofs.Common.{ℕ, Option, sym, subst}, specs.Prelude.OnOk}
 use Rattle.npf_model.specs.Describes.{fits_flags}
-use Rattle.npf_bpfgen.specs.Premise.{GuardsPacket}
-use Rattle.npf_bpfgen.specs.ProgramLength.{flags_length}
-use Rattle.npf_bpfgen.specs.Tail.{Extends}
+use Rattle.npf_bpfgen.specs.{Premise.GuardsPacket, ProgramLength.flags_length, Tail.Extends}
 use Rattle.npf_bpfgen.proofs.flag.put_flags.Goals as goal
 
 pub returns-in-Some-clause-front : goal.returns-in-Some-clause-front

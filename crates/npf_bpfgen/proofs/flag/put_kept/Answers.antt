@@ -1,9 +1,6 @@
-use Rattle.std.proofs.Common.{Bool, None, sym, subst, ◌∙◌}
-use Rattle.std.specs.Prelude.{if◌then◌else◌}
+use Rattle.std.{proofs.Common.{Bool, None, sym, subst, ◌∙◌}, specs.Prelude.if◌then◌else◌}
 use Rattle.npf_model.specs.Describes.{fits_flags, opens_if_tcp}
-use Rattle.npf_bpfgen.specs.Tail.{Extends}
-use Rattle.npf_bpfgen.proofs.FlagLemmas.{opening_asked}
-use Rattle.npf_bpfgen.proofs.ProgramLemmas.{guards_alike}
+use Rattle.npf_bpfgen.{specs.Tail.Extends, proofs.{FlagLemmas.opening_asked, ProgramLemmas.guards_alike}}
 use Rattle.npf_bpfgen.proofs.flag.put_kept.Goals as goal
 
 pub returns-in_ok-put_opening-clause-front : goal.returns-in_ok-put_opening-clause-front

@@ -1,6 +1,5 @@
 use Rattle.std.proofs.Common.{◌≡◌, ◌++◌, refl}
-use Rattle.npf_bpfgen.proofs.FlagLemmas.{opening_guards, segment_test}
-use Rattle.npf_bpfgen.proofs.TailLemmas.{extended}
+use Rattle.npf_bpfgen.proofs.{FlagLemmas.{opening_guards, segment_test}, TailLemmas.extended}
 use Rattle.npf_bpfgen.proofs.flag.put_opening.Goals as goal
 
 pub returns-clause-front : goal.returns-clause-front

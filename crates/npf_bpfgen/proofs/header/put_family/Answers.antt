@@ -1,10 +1,6 @@
-use Rattle.std.proofs.Common.{Bool, Option, sym, subst}
-use Rattle.std.specs.Prelude.{OnOk}
+use Rattle.std.{proofs.Common.{Bool, Option, sym, subst}, specs.Prelude.OnOk}
 use Rattle.npf_model.specs.Describes.{fits_family}
-use Rattle.npf_bpfgen.specs.Premise.{GuardsPacket}
-use Rattle.npf_bpfgen.specs.ProgramLength.{family_length}
-use Rattle.npf_bpfgen.specs.Tail.{Extends}
-use Rattle.npf_bpfgen.proofs.TailLemmas.{unchanged}
+use Rattle.npf_bpfgen.{specs.{Premise.GuardsPacket, ProgramLength.family_length, Tail.Extends}, proofs.TailLemmas.unchanged}
 use Rattle.npf_bpfgen.proofs.header.put_family.Goals as goal
 
 pub returns-in-Some-clause-front : goal.returns-in-Some-clause-front

@@ -1,10 +1,6 @@
-use Rattle.std.proofs.Math.Seq.{drop-length}
-use Rattle.std.proofs.Common.{◌≡◌, ℕ, List, [], ◌∷◌, ◌-◌, ◌<◌, length, drop, get_or, suc, Some, refl, sym, subst, arith}
-use Rattle.std.specs.List.{list_any}
-use Rattle.std.specs.Prelude.{◌==◌}
-use Rattle.npf_bpfgen.specs.Instruction.{if_equal, jump, return_number}
-use Rattle.npf_bpfgen.specs.Tail.{Guards, GuardsNumber}
-use Rattle.npf_bpfgen.proofs.HeaderLemmas.{protocols_more}
+use Rattle.std.proofs.{Math.Seq.drop-length, Common.{◌≡◌, ℕ, List, [], ◌∷◌, ◌-◌, ◌<◌, length, drop, get_or, suc, Some, refl, sym, subst, arith}}
+use Rattle.std.specs.{List.list_any, Prelude.◌==◌}
+use Rattle.npf_bpfgen.{specs.{Instruction.{if_equal, jump, return_number}, Tail.{Guards, GuardsNumber}}, proofs.HeaderLemmas.protocols_more}
 use Rattle.npf_bpfgen.proofs.TailLemmas.{counted, extended, none_guards}
 use Rattle.npf_bpfgen.proofs.header.put_numbers.Goals as goal
 

@@ -1,6 +1,4 @@
-use Rattle.std.proofs.Common.{◌≤◌, ◌+◌, ◌-◌, ◌*◌, length, drop}
-use Rattle.std.specs.List.{list_any}
-use Rattle.std.specs.Prelude.{◌==◌}
+use Rattle.std.{proofs.Common.{◌≤◌, ◌+◌, ◌-◌, ◌*◌, length, drop}, specs.{List.list_any, Prelude.◌==◌}}
 use Rattle.npf_bpfgen.specs.Tail.{Extends, GuardsNumber}
 use Rattle.npf_bpfgen.proofs.header.put_numbers.Given as goal
 

@@ -1,9 +1,5 @@
-use Rattle.std.proofs.Common.{◌≡◌, ℕ, List, [], ◌∷◌, ◌≢◌, ap, length, sym, subst, ◌∙◌, refl, arith}
-use Rattle.std.proofs.lemmas.Bool.{eq-eqb, eqb-true, false≢true}
-use Rattle.npf_bpfgen.specs.Instruction.{load_memory}
-use Rattle.npf_bpfgen.specs.ProgramLength.{protocols_length}
-use Rattle.npf_bpfgen.specs.Tail.{Extends}
-use Rattle.npf_bpfgen.proofs.HeaderLemmas.{listed_length, protocols_guard}
+use Rattle.std.proofs.{Common.{◌≡◌, ℕ, List, [], ◌∷◌, ◌≢◌, ap, length, sym, subst, ◌∙◌, refl, arith}, lemmas.Bool.{eq-eqb, eqb-true, false≢true}}
+use Rattle.npf_bpfgen.{specs.{Instruction.load_memory, ProgramLength.protocols_length, Tail.Extends}, proofs.HeaderLemmas.{listed_length, protocols_guard}}
 use Rattle.npf_bpfgen.proofs.TailLemmas.{extended, extended_twice, unchanged}
 use Rattle.npf_bpfgen.proofs.header.put_protocols.Goals as goal
 

@@ -1,6 +1,5 @@
 use Rattle.std.proofs.Common.{◌≡◌, ◌++◌, refl}
-use Rattle.npf_bpfgen.proofs.HeaderLemmas.{family_guards, family_test}
-use Rattle.npf_bpfgen.proofs.TailLemmas.{extended}
+use Rattle.npf_bpfgen.proofs.{HeaderLemmas.{family_guards, family_test}, TailLemmas.extended}
 use Rattle.npf_bpfgen.proofs.header.put_version.Goals as goal
 
 pub returns-clause-front : goal.returns-clause-front

@@ -1,9 +1,6 @@
-use Rattle.std.proofs.Common.{ℕ, Option, Some, sym, subst}
-use Rattle.std.specs.Prelude.{OnOk}
+use Rattle.std.{proofs.Common.{ℕ, Option, Some, sym, subst}, specs.Prelude.OnOk}
 use Rattle.npf_model.specs.Describes.{fits_icmp}
-use Rattle.npf_bpfgen.specs.Premise.{GuardsPacket}
-use Rattle.npf_bpfgen.specs.ProgramLength.{icmp_length}
-use Rattle.npf_bpfgen.specs.Tail.{Extends}
+use Rattle.npf_bpfgen.specs.{Premise.GuardsPacket, ProgramLength.icmp_length, Tail.Extends}
 use Rattle.npf_bpfgen.proofs.icmp.put_asked.Goals as goal
 
 pub returns-in-Some-clause-front : goal.returns-in-Some-clause-front

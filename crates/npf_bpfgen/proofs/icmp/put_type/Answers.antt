@@ -1,7 +1,5 @@
 use Rattle.std.proofs.Common.{◌≡◌, ◌++◌, refl}
-use Rattle.npf_bpfgen.proofs.IcmpLemmas.{type_guards, type_test}
-use Rattle.npf_bpfgen.specs.Instruction.{if_message}
-use Rattle.npf_bpfgen.proofs.TailLemmas.{extended}
+use Rattle.npf_bpfgen.{proofs.{IcmpLemmas.{type_guards, type_test}, TailLemmas.extended}, specs.Instruction.if_message}
 use Rattle.npf_bpfgen.proofs.icmp.put_type.Goals as goal
 
 pub returns-clause-front : goal.returns-clause-front

@@ -1,15 +1,15 @@
 use Rattle.std.proofs.Common.{◌≡◌, ◌++◌, refl}
-use Rattle.npf_bpfgen.proofs.IcmpLemmas.{type_and_code_guards, type_and_code_test}
-use Rattle.npf_bpfgen.specs.Instruction.{if_message}
-use Rattle.npf_bpfgen.proofs.TailLemmas.{extended}
+use Rattle.npf_bpfgen.{proofs.{IcmpLemmas.{type_and_code_guards, type_and_code_test}, TailLemmas.extended}, specs.Instruction.if_message}
 use Rattle.npf_bpfgen.proofs.icmp.put_type_and_code.Goals as goal
 
 pub returns-clause-front : goal.returns-clause-front
 returns-clause-front c =
-    let is : c.put_message_test.new.tail ≡ if_message (type_and_code_test c.args.kind c.args.code) ++ c.args.tail.now = rw (c.in_ok-put_message_test.ensures, c.in_ok-put.ensures, c.if_equal.ensures, c.from.ensures, c.if_equal-2.ensures, c.from-2.ensures) in
+    let is : c.put_message_test.new.tail ≡ if_message (type_and_code_test c.args.kind c.args.code) ++ c.args.tail.now =
+    rw (c.in_ok-put_message_test.ensures, c.in_ok-put.ensures, c.if_equal.ensures, c.from.ensures, c.if_equal-2.ensures, c.from-2.ensures) in
     extended (if_message (type_and_code_test c.args.kind c.args.code)) c.args.tail.now c.put_message_test.new.tail 15 1 is refl refl
 
 pub returns-clause-value : goal.returns-clause-value
 returns-clause-value c =
-    let is : c.put_message_test.new.tail ≡ if_message (type_and_code_test c.args.kind c.args.code) ++ c.args.tail.now = rw (c.in_ok-put_message_test.ensures, c.in_ok-put.ensures, c.if_equal.ensures, c.from.ensures, c.if_equal-2.ensures, c.from-2.ensures) in
+    let is : c.put_message_test.new.tail ≡ if_message (type_and_code_test c.args.kind c.args.code) ++ c.args.tail.now =
+    rw (c.in_ok-put_message_test.ensures, c.in_ok-put.ensures, c.if_equal.ensures, c.from.ensures, c.if_equal-2.ensures, c.from-2.ensures) in
     type_and_code_guards c.args.kind c.args.code c.args.tail.now c.put_message_test.new.tail is

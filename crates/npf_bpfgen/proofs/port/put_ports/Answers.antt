@@ -1,7 +1,5 @@
 use Rattle.std.proofs.Common.{◌≡◌, ◌++◌, refl, arith}
-use Rattle.npf_bpfgen.specs.Endpoint.{port_place}
-use Rattle.npf_bpfgen.proofs.PortLemmas.{ports_front, ports_guard}
-use Rattle.npf_bpfgen.proofs.TailLemmas.{extended, extended_twice}
+use Rattle.npf_bpfgen.{specs.Endpoint.port_place, proofs.{PortLemmas.{ports_front, ports_guard}, TailLemmas.{extended, extended_twice}}}
 use Rattle.npf_bpfgen.proofs.port.put_ports.Goals as goal
 
 pub returns-clause-front : goal.returns-clause-front

@@ -1,10 +1,7 @@
-use Rattle.std.proofs.Math.Seq.{drop-length}
-use Rattle.std.proofs.Common.{◌≡◌, ℕ, List, [], ◌∷◌, ◌-◌, ◌<◌, length, drop, get_or, suc, Some, refl, sym, subst, arith}
+use Rattle.std.proofs.{Math.Seq.drop-length, Common.{◌≡◌, ℕ, List, [], ◌∷◌, ◌-◌, ◌<◌, length, drop, get_or, suc, Some, refl, sym, subst, arith}}
 use Rattle.std.specs.List.{list_any}
 use Rattle.npf_model.specs.Describes.{in_range}
-use Rattle.npf_bpfgen.specs.Instruction.{if_at_least, if_greater, jump, return_number}
-use Rattle.npf_bpfgen.specs.Tail.{Guards, GuardsNumber}
-use Rattle.npf_bpfgen.proofs.PortLemmas.{ranges_more}
+use Rattle.npf_bpfgen.{specs.{Instruction.{if_at_least, if_greater, jump, return_number}, Tail.{Guards, GuardsNumber}}, proofs.PortLemmas.ranges_more}
 use Rattle.npf_bpfgen.proofs.TailLemmas.{counted, extended, none_guards}
 use Rattle.npf_bpfgen.proofs.port.put_ranges.Goals as goal
 

@@ -1,5 +1,4 @@
-use Rattle.std.proofs.Common.{◌≤◌, ◌+◌, ◌-◌, ◌*◌, length, drop}
-use Rattle.std.specs.List.{list_any}
+use Rattle.std.{proofs.Common.{◌≤◌, ◌+◌, ◌-◌, ◌*◌, length, drop}, specs.List.list_any}
 use Rattle.npf_model.specs.Describes.{in_range}
 use Rattle.npf_bpfgen.specs.Tail.{Extends, GuardsNumber}
 use Rattle.npf_bpfgen.proofs.port.put_ranges.Given as goal

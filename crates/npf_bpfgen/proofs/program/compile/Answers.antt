@@ -1,8 +1,6 @@
-use Rattle.std.proofs.Common.{◌≡◌, ◌≤◌, ◌<◌, length, sym, ap, subst, ◌∙◌, arith}
-use Rattle.std.proofs.lemmas.Bool.{false≢true}
+use Rattle.std.proofs.{Common.{◌≡◌, ◌≤◌, ◌<◌, length, sym, ap, subst, ◌∙◌, arith}, lemmas.Bool.false≢true}
 use Rattle.npf_bpf.specs.Validity.{IsValid}
-use Rattle.npf_bpfgen.proofs.ProgramLengthLemmas.{length_weighs}
-use Rattle.npf_bpfgen.proofs.TailLemmas.{valid_program}
+use Rattle.npf_bpfgen.proofs.{ProgramLengthLemmas.length_weighs, TailLemmas.valid_program}
 use Rattle.npf_bpfgen.proofs.program.compile.Goals as goal
 
 pub put_rule-requires-clause-room : goal.put_rule-requires-clause-room

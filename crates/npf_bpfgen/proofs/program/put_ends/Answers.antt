@@ -1,8 +1,6 @@
 use Rattle.std.proofs.Common.{arith}
 use Rattle.npf_model.specs.Describes.{fits_addrs, fits_ports}
-use Rattle.npf_bpfgen.specs.Endpoint.{address_of, port_of}
-use Rattle.npf_bpfgen.proofs.ProgramLemmas.{guards_both}
-use Rattle.npf_bpfgen.proofs.TailLemmas.{extended_twice}
+use Rattle.npf_bpfgen.{specs.Endpoint.{address_of, port_of}, proofs.{ProgramLemmas.guards_both, TailLemmas.extended_twice}}
 use Rattle.npf_bpfgen.proofs.program.put_ends.Goals as goal
 
 pub returns-clause-front : goal.returns-clause-front

@@ -1,9 +1,6 @@
-use Rattle.std.proofs.Common.{Option, List, Some, sym, subst}
-use Rattle.std.specs.Prelude.{OnOk}
-use Rattle.npf_model.specs.declared.ends.AddrItem.{AddrItem}
-use Rattle.npf_model.specs.Describes.{fits_addrs}
-use Rattle.npf_bpfgen.specs.Endpoint.{address_of}
-use Rattle.npf_bpfgen.specs.Premise.{GuardsPacket}
+use Rattle.std.{proofs.Common.{Option, List, Some, sym, subst}, specs.Prelude.OnOk}
+use Rattle.npf_model.specs.{declared.ends.AddrItem.AddrItem, Describes.fits_addrs}
+use Rattle.npf_bpfgen.specs.{Endpoint.address_of, Premise.GuardsPacket}
 use Rattle.npf_bpfgen.proofs.program.put_listed_addrs.Goals as goal
 
 pub returns-in-Some-clause-value : goal.returns-in-Some-clause-value

@@ -1,8 +1,6 @@
-use Rattle.std.proofs.Common.{ℕ, Option, List, Some, sym, subst}
-use Rattle.std.specs.Prelude.{OnOk}
+use Rattle.std.{proofs.Common.{ℕ, Option, List, Some, sym, subst}, specs.Prelude.OnOk}
 use Rattle.npf_model.specs.Describes.{fits_ports}
-use Rattle.npf_bpfgen.specs.Endpoint.{port_of}
-use Rattle.npf_bpfgen.specs.Premise.{GuardsPacket}
+use Rattle.npf_bpfgen.specs.{Endpoint.port_of, Premise.GuardsPacket}
 use Rattle.npf_bpfgen.proofs.program.put_listed_ports.Goals as goal
 
 pub returns-in-Some-clause-value : goal.returns-in-Some-clause-value

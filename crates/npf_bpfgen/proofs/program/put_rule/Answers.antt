@@ -1,11 +1,7 @@
 use Rattle.std.proofs.Common.{◌≡◌, ℕ, List, [], ◌∷◌, ◌+◌, ap, length, subst, refl, sym, arith}
 use Rattle.npf_model.specs.Describes.{fits_protocol}
-use Rattle.npf_bpfgen.specs.Instruction.{ask_header, return_number}
-use Rattle.npf_bpfgen.specs.Premise.{GuardsPacket}
-use Rattle.npf_bpfgen.specs.ProgramLength.{protocols_length}
-use Rattle.npf_bpfgen.specs.Tail.{IsValidEnd}
-use Rattle.npf_bpfgen.proofs.ProgramLemmas.{program_is}
-use Rattle.npf_bpfgen.proofs.TailLemmas.{fits_valid, grown}
+use Rattle.npf_bpfgen.specs.{Instruction.{ask_header, return_number}, Premise.GuardsPacket, ProgramLength.protocols_length, Tail.IsValidEnd}
+use Rattle.npf_bpfgen.proofs.{ProgramLemmas.program_is, TailLemmas.{fits_valid, grown}}
 use Rattle.npf_bpfgen.proofs.program.put_rule.Goals as goal
 
 pub put_ends-requires-clause-room : goal.put_ends-requires-clause-room

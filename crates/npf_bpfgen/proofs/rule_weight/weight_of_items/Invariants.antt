@@ -1,5 +1,4 @@
-use Rattle.std.proofs.Common.{◌≡◌, ◌≤◌, ◌*◌, take}
-use Rattle.std.specs.List.{sum_by}
+use Rattle.std.{proofs.Common.{◌≡◌, ◌≤◌, ◌*◌, take}, specs.List.sum_by}
 use Rattle.npf_bpfgen.specs.RuleWeight.{item_weight}
 use Rattle.npf_bpfgen.proofs.rule_weight.weight_of_items.Given as goal
 

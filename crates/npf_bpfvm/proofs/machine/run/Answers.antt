@@ -1,7 +1,5 @@
 use Rattle.std.proofs.Common.{◌-◌, ◌<◌, length, sym, ap, ◌∙◌, arith}
-use Rattle.npf_bpf.specs.Effect.{Returns, Continues}
-use Rattle.npf_bpf.specs.Value.{program_value}
-use Rattle.npf_bpf.proofs.ValueLemmas.{Does, value-returns, value-continues, distance-within}
+use Rattle.npf_bpf.{specs.{Effect.{Returns, Continues}, Value.program_value}, proofs.ValueLemmas.{Does, value-returns, value-continues, distance-within}}
 use Rattle.npf_bpfvm.specs.Machine.{bpf_state}
 use Rattle.npf_bpfvm.proofs.machine.run.Goals as goal
 

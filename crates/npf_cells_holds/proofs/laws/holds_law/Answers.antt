@@ -1,9 +1,5 @@
-use Rattle.npf_cells_holds.proofs.AgainKeepLemmas.{may_store_again}
-use Rattle.npf_cells_holds.proofs.HoldKeepLemmas.{may_load_for_hold}
-use Rattle.npf_cells_holds.proofs.LockKeepLemmas.{may_lock, may_store_state}
-use Rattle.npf_cells_holds.proofs.LookKeepLemmas.{may_look, may_load_key}
-use Rattle.npf_cells_holds.proofs.PublishKeepLemmas.{may_publish_for}
-use Rattle.npf_cells_holds.proofs.UnlinkKeepLemmas.{may_unlink}
+use Rattle.npf_cells_holds.proofs.{AgainKeepLemmas.may_store_again, HoldKeepLemmas.may_load_for_hold, LockKeepLemmas.{may_lock, may_store_state}}
+use Rattle.npf_cells_holds.proofs.{LookKeepLemmas.{may_look, may_load_key}, PublishKeepLemmas.may_publish_for, UnlinkKeepLemmas.may_unlink}
 use Rattle.npf_cells_holds.proofs.laws.holds_law.Goals as goal
 
 pub returns : goal.returns

@@ -1,6 +1,4 @@
-use Rattle.npf_cells_leaves.proofs.ParentLemmas.{hangs_in_one_place}
-use Rattle.npf_cells_leaves.proofs.StandLemmas.{stands_in_published}
-use Rattle.npf_cells_leaves.proofs.TakingOffLemmas.{taking_off_keeps_trie}
+use Rattle.npf_cells_leaves.proofs.{ParentLemmas.hangs_in_one_place, StandLemmas.stands_in_published, TakingOffLemmas.taking_off_keeps_trie}
 use Rattle.npf_cells_leaves.proofs.laws.leaves_law.Goals as goal
 
 pub returns-clause-stands : goal.returns-clause-stands

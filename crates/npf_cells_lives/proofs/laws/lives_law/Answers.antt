@@ -1,6 +1,4 @@
-use Rattle.npf_cells_lives.proofs.ConnLemmas.{builds_in_one_slot}
-use Rattle.npf_cells_lives.proofs.LockLemmas.{lock_alone}
-use Rattle.npf_cells_lives.proofs.TurnLemmas.{turn_alone}
+use Rattle.npf_cells_lives.proofs.{ConnLemmas.builds_in_one_slot, LockLemmas.lock_alone, TurnLemmas.turn_alone}
 use Rattle.npf_cells_lives.proofs.laws.lives_law.Goals as goal
 
 pub returns-clause-builders : goal.returns-clause-builders

@@ -1,5 +1,4 @@
-use Rattle.npf_cells_moves.proofs.KeepLemmas.{may_load, may_pin, may_protect, may_unpin, may_scan, may_advance}
-use Rattle.npf_cells_moves.proofs.MoveLemmas.{splits, gets_born, joins, reads}
+use Rattle.npf_cells_moves.proofs.{KeepLemmas.{may_load, may_pin, may_protect, may_unpin, may_scan, may_advance}, MoveLemmas.{splits, gets_born, joins, reads}}
 use Rattle.npf_cells_moves.proofs.laws.moves_law.Goals as goal
 
 pub returns : goal.returns

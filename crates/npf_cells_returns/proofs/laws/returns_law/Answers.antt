@@ -1,8 +1,5 @@
-use Rattle.npf_cells_returns.proofs.FreeingKeepLemmas.{may_free_node}
-use Rattle.npf_cells_returns.proofs.LearnKeepLemmas.{may_load_cell, may_load_parent, may_load_state}
-use Rattle.npf_cells_returns.proofs.MarkingKeepLemmas.{may_mark_node}
-use Rattle.npf_cells_returns.proofs.PlacingKeepLemmas.{may_mark_place}
-use Rattle.npf_cells_returns.proofs.RegainKeepLemmas.{may_regain}
+use Rattle.npf_cells_returns.proofs.{FreeingKeepLemmas.may_free_node, LearnKeepLemmas.{may_load_cell, may_load_parent, may_load_state}}
+use Rattle.npf_cells_returns.proofs.{MarkingKeepLemmas.may_mark_node, PlacingKeepLemmas.may_mark_place, RegainKeepLemmas.may_regain}
 use Rattle.npf_cells_returns.proofs.laws.returns_law.Goals as goal
 
 pub returns : goal.returns

@@ -1,5 +1,4 @@
-use Rattle.npf_cells_rule.proofs.LawLemmas.{builds_alone}
-use Rattle.npf_cells_rule.proofs.LawLemmas.{owns_alone}
+use Rattle.npf_cells_rule.proofs.LawLemmas.{builds_alone, owns_alone}
 use Rattle.npf_cells_rule.proofs.laws.claim_law.Goals as goal
 
 pub returns-clause-alone : goal.returns-clause-alone

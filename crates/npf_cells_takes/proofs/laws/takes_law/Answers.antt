@@ -1,8 +1,5 @@
-use Rattle.npf_cells_takes.proofs.ClearLemmas.{may_clear}
-use Rattle.npf_cells_takes.proofs.FreeKeepLemmas.{may_free_slot}
-use Rattle.npf_cells_takes.proofs.PoolKeepLemmas.{may_sweep, may_claim_node, may_return_node}
-use Rattle.npf_cells_takes.proofs.PrivateKeepLemmas.{may_load_inc, may_store, may_store_ahead}
-use Rattle.npf_cells_takes.proofs.SlotKeepLemmas.{may_claim_slot}
+use Rattle.npf_cells_takes.proofs.{ClearLemmas.may_clear, FreeKeepLemmas.may_free_slot, PoolKeepLemmas.{may_sweep, may_claim_node, may_return_node}}
+use Rattle.npf_cells_takes.proofs.{PrivateKeepLemmas.{may_load_inc, may_store, may_store_ahead}, SlotKeepLemmas.may_claim_slot}
 use Rattle.npf_cells_takes.proofs.laws.takes_law.Goals as goal
 
 pub returns : goal.returns

@@ -1,7 +1,4 @@
-use Rattle.npf_cells_turns.proofs.EndKeepLemmas.{may_end}
-use Rattle.npf_cells_turns.proofs.NoteKeepLemmas.{may_load_note}
-use Rattle.npf_cells_turns.proofs.SightKeepLemmas.{may_see}
-use Rattle.npf_cells_turns.proofs.TurnKeepLemmas.{may_take}
+use Rattle.npf_cells_turns.proofs.{EndKeepLemmas.may_end, NoteKeepLemmas.may_load_note, SightKeepLemmas.may_see, TurnKeepLemmas.may_take}
 use Rattle.npf_cells_turns.proofs.WordKeepLemmas.{may_load_word}
 use Rattle.npf_cells_turns.proofs.laws.turns_law.Goals as goal
 

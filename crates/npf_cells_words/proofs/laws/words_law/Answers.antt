@@ -1,5 +1,4 @@
-use Rattle.npf_cells_words.proofs.CodeLemmas.{codes_are_apart, codes_fit}
-use Rattle.npf_cells_words.proofs.MarkLemmas.{marks_say_nodes, marks_lead_on}
+use Rattle.npf_cells_words.proofs.{CodeLemmas.{codes_are_apart, codes_fit}, MarkLemmas.{marks_say_nodes, marks_lead_on}}
 use Rattle.npf_cells_words.proofs.WordLemmas.{fields_are_apart, places_are_apart, locks_are_apart}
 use Rattle.npf_cells_words.proofs.laws.words_law.Goals as goal
 

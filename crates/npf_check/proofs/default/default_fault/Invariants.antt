@@ -1,7 +1,5 @@
-use Rattle.std.proofs.Common.{◌≡◌, drop}
-use Rattle.std.specs.List.{flat_map}
-use Rattle.npf_check.specs.Default.{default_faults, default_place}
-use Rattle.npf_check.proofs.DefaultLemmas.{left_default}
+use Rattle.std.{proofs.Common.{◌≡◌, drop}, specs.List.flat_map}
+use Rattle.npf_check.{specs.Default.{default_faults, default_place}, proofs.DefaultLemmas.left_default}
 use Rattle.npf_check.proofs.default.default_fault.Given as goal
 
 abbrev pub invariant-loop-stmt : goal.invariant-loop-stmt

@@ -1,9 +1,6 @@
-use Rattle.std.proofs.Common.{◌++◌}
-use Rattle.std.specs.List.{flat_map}
+use Rattle.std.{proofs.Common.◌++◌, specs.List.flat_map}
 use Rattle.npf_check.specs.declared.name.NameKind.TheVariants as Names
-use Rattle.npf_check.specs.Duplicate.{repeated, rulesets_of_stmt}
-use Rattle.npf_check.specs.Name.{names_given, no_text}
-use Rattle.npf_check.proofs.FaultLemmas.{joined}
+use Rattle.npf_check.{specs.{Duplicate.{repeated, rulesets_of_stmt}, Name.{names_given, no_text}}, proofs.FaultLemmas.joined}
 use Rattle.npf_check.proofs.duplicate.duplicate_fault.Goals as goal
 
 pub returns : goal.returns

@@ -1,8 +1,6 @@
-use Rattle.std.proofs.Common.{◌+◌, ◌++◌, drop, ap, sym, ◌∙◌}
-use Rattle.std.proofs.lemmas.List.{drop_more, drop_all}
+use Rattle.std.proofs.{Common.{◌+◌, ◌++◌, drop, ap, sym, ◌∙◌}, lemmas.List.{drop_more, drop_all}}
 use Rattle.npf_faults.proofs.FirstLemmas.{earlier-none}
-use Rattle.npf_check.specs.Duplicate.{first_again}
-use Rattle.npf_check.specs.Name.{name_given, names_given}
+use Rattle.npf_check.specs.{Duplicate.first_again, Name.{name_given, names_given}}
 use Rattle.npf_check.proofs.duplicate.repeated_name.Goals as goal
 
 pub loop-stmt-preserved : goal.loop-stmt-preserved

@@ -1,7 +1,6 @@
 use Rattle.std.proofs.Common.{◌≡◌, drop}
 use Rattle.npf_faults.specs.First.{first_fault}
-use Rattle.npf_check.specs.Duplicate.{first_again, repeated}
-use Rattle.npf_check.specs.Name.{names_given, no_text}
+use Rattle.npf_check.specs.{Duplicate.{first_again, repeated}, Name.{names_given, no_text}}
 use Rattle.npf_check.proofs.duplicate.repeated_name.Given as goal
 
 abbrev pub invariant-loop-stmt : goal.invariant-loop-stmt

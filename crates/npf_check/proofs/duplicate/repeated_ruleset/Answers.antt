@@ -1,6 +1,4 @@
-use Rattle.std.proofs.Common.{◌+◌, ◌++◌, drop, ap, sym, ◌∙◌}
-use Rattle.std.proofs.lemmas.List.{drop_more, drop_all}
-use Rattle.std.specs.List.{flat_map}
+use Rattle.std.{proofs.{Common.{◌+◌, ◌++◌, drop, ap, sym, ◌∙◌}, lemmas.List.{drop_more, drop_all}}, specs.List.flat_map}
 use Rattle.npf_faults.proofs.FirstLemmas.{earlier-none}
 use Rattle.npf_check.specs.Duplicate.{first_again, rulesets_of_stmt}
 use Rattle.npf_check.proofs.duplicate.repeated_ruleset.Goals as goal

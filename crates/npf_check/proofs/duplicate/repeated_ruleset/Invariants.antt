@@ -1,8 +1,6 @@
-use Rattle.std.proofs.Common.{◌≡◌, drop}
-use Rattle.std.specs.List.{flat_map}
+use Rattle.std.{proofs.Common.{◌≡◌, drop}, specs.List.flat_map}
 use Rattle.npf_faults.specs.First.{first_fault}
-use Rattle.npf_check.specs.Duplicate.{first_again, repeated, rulesets_of_stmt}
-use Rattle.npf_check.specs.Name.{no_text}
+use Rattle.npf_check.specs.{Duplicate.{first_again, repeated, rulesets_of_stmt}, Name.no_text}
 use Rattle.npf_check.proofs.duplicate.repeated_ruleset.Given as goal
 
 abbrev pub invariant-loop-stmt : goal.invariant-loop-stmt

@@ -1,12 +1,6 @@
 use Rattle.std.proofs.Common.{◌++◌}
-use Rattle.npf_check.specs.Default.{default_faults}
-use Rattle.npf_check.specs.Duplicate.{duplicate_faults}
-use Rattle.npf_check.specs.Limit.{limit_faults}
-use Rattle.npf_check.specs.Map.{bad_map_faults}
-use Rattle.npf_check.specs.Unbuilt.{unbuilt_faults}
-use Rattle.npf_check.specs.Undefined.{undefined_table_faults, undefined_procedure_faults}
-use Rattle.npf_check.specs.WrittenRule.{faults_of_rules}
-use Rattle.npf_check.proofs.FaultLemmas.{joined}
+use Rattle.npf_check.specs.{Default.default_faults, Duplicate.duplicate_faults, Limit.limit_faults, Map.bad_map_faults, Unbuilt.unbuilt_faults}
+use Rattle.npf_check.{specs.{Undefined.{undefined_table_faults, undefined_procedure_faults}, WrittenRule.faults_of_rules}, proofs.FaultLemmas.joined}
 use Rattle.npf_check.proofs.fault.check_fault.Goals as goal
 
 pub returns : goal.returns

@@ -1,5 +1,4 @@
-use Rattle.std.proofs.Common.{◌≡◌, ◌+◌, drop, length, slice_get}
-use Rattle.std.specs.List.{flat_map}
+use Rattle.std.{proofs.Common.{◌≡◌, ◌+◌, drop, length, slice_get}, specs.List.flat_map}
 use Rattle.npf_check.specs.Limit.{rule_place}
 use Rattle.npf_check.proofs.limit.find_rule.Given as goal
 

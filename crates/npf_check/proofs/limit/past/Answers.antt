@@ -1,9 +1,6 @@
-use Rattle.std.proofs.Common.{◌≡◌, ◌+◌, Some, ◌++◌, drop, slice_get, sym, ap, subst, ◌∙◌}
-use Rattle.std.proofs.lemmas.List.{drop_more}
-use Rattle.std.specs.List.{flat_map}
+use Rattle.std.{proofs.{Common.{◌≡◌, ◌+◌, Some, ◌++◌, drop, slice_get, sym, ap, subst, ◌∙◌}, lemmas.List.drop_more}, specs.List.flat_map}
 use Rattle.npf_faults.specs.First.{first_fault}
-use Rattle.npf_check.specs.Limit.{FindsPlace, limited_places, past_limit}
-use Rattle.npf_check.proofs.LimitLemmas.{get-front, get-behind}
+use Rattle.npf_check.{specs.Limit.{FindsPlace, limited_places, past_limit}, proofs.LimitLemmas.{get-front, get-behind}}
 use Rattle.npf_check.proofs.limit.past.Goals as goal
 
 pub returns-in-At : goal.returns-in-At

@@ -1,5 +1,4 @@
-use Rattle.std.proofs.Common.{◌≡◌, drop, slice_get}
-use Rattle.std.specs.List.{flat_map}
+use Rattle.std.{proofs.Common.{◌≡◌, drop, slice_get}, specs.List.flat_map}
 use Rattle.npf_check.specs.Limit.{limited_places}
 use Rattle.npf_check.proofs.limit.past.Given as goal
 

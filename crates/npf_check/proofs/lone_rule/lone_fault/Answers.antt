@@ -1,7 +1,5 @@
 use Rattle.std.proofs.Common.{◌++◌}
-use Rattle.npf_check.specs.LoneRule.{unknown_applied, unknown_in_where}
-use Rattle.npf_check.specs.WrittenRule.{faults_of_rule}
-use Rattle.npf_check.proofs.FaultLemmas.{joined}
+use Rattle.npf_check.{specs.{LoneRule.{unknown_applied, unknown_in_where}, WrittenRule.faults_of_rule}, proofs.FaultLemmas.joined}
 use Rattle.npf_check.proofs.lone_rule.lone_fault.Goals as goal
 
 pub returns : goal.returns

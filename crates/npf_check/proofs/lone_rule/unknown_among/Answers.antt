@@ -1,9 +1,7 @@
-use Rattle.std.proofs.Common.{◌+◌, ◌++◌, List, drop, ap, sym, ◌∙◌}
-use Rattle.std.proofs.lemmas.List.{drop_more, drop_all}
+use Rattle.std.proofs.{Common.{◌+◌, ◌++◌, List, drop, ap, sym, ◌∙◌}, lemmas.List.{drop_more, drop_all}}
 use Rattle.npf_types.specs.declared.span.Span.{Span}
 use Rattle.npf_faults.proofs.FirstLemmas.{earlier-none}
-use Rattle.npf_check.specs.LoneRule.{table_numbers, table_place, table_places, unknown_table}
-use Rattle.npf_check.specs.Pair.{first_beside}
+use Rattle.npf_check.specs.{LoneRule.{table_numbers, table_place, table_places, unknown_table}, Pair.first_beside}
 use Rattle.npf_check.proofs.lone_rule.unknown_among.Goals as goal
 
 pub loop-value-preserved : goal.loop-value-preserved

@@ -1,6 +1,5 @@
 use Rattle.std.proofs.Common.{◌≡◌, None, drop}
-use Rattle.npf_check.specs.LoneRule.{table_numbers, table_places, unknown_table}
-use Rattle.npf_check.specs.Pair.{first_beside}
+use Rattle.npf_check.specs.{LoneRule.{table_numbers, table_places, unknown_table}, Pair.first_beside}
 use Rattle.npf_check.proofs.lone_rule.unknown_among.Given as goal
 
 abbrev pub invariant-loop-value : goal.invariant-loop-value

@@ -1,5 +1,4 @@
-use Rattle.std.proofs.Common.{◌+◌, ◌∷◌, drop, ap, sym, ◌∙◌}
-use Rattle.std.proofs.lemmas.List.{drop_more, drop_all}
+use Rattle.std.proofs.{Common.{◌+◌, ◌∷◌, drop, ap, sym, ◌∙◌}, lemmas.List.{drop_more, drop_all}}
 use Rattle.npf_faults.proofs.FirstLemmas.{earlier-none}
 use Rattle.npf_check.specs.Map.{first_bad}
 use Rattle.npf_check.proofs.map.map_fault.Goals as goal

@@ -1,6 +1,5 @@
 use Rattle.std.proofs.Common.{ap, sym, ◌∙◌}
-use Rattle.npf_faults.specs.First.{earlier, first_fault}
-use Rattle.npf_faults.proofs.FirstLemmas.{each_step, each_end}
+use Rattle.npf_faults.{specs.First.{earlier, first_fault}, proofs.FirstLemmas.{each_step, each_end}}
 use Rattle.npf_check.specs.Unbuilt.{unbuilt}
 use Rattle.npf_check.proofs.unbuilt.unbuilt_fault.Goals as goal
 

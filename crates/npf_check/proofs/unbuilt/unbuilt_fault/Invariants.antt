@@ -1,5 +1,4 @@
-use Rattle.std.proofs.Common.{◌≡◌, drop}
-use Rattle.std.specs.List.{flat_map}
+use Rattle.std.{proofs.Common.{◌≡◌, drop}, specs.List.flat_map}
 use Rattle.npf_faults.specs.First.{earlier, first_fault}
 use Rattle.npf_check.specs.Unbuilt.{unbuilt}
 use Rattle.npf_check.proofs.unbuilt.unbuilt_fault.Given as goal

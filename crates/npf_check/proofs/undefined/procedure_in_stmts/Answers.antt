@@ -1,8 +1,6 @@
 use Rattle.std.proofs.Common.{ap, sym, ◌∙◌}
-use Rattle.npf_faults.specs.First.{earlier, first_fault}
-use Rattle.npf_faults.proofs.FirstLemmas.{each_step, each_end}
-use Rattle.npf_check.specs.Name.{holds}
-use Rattle.npf_check.specs.Undefined.{procedures_of_stmt}
+use Rattle.npf_faults.{specs.First.{earlier, first_fault}, proofs.FirstLemmas.{each_step, each_end}}
+use Rattle.npf_check.specs.{Name.holds, Undefined.procedures_of_stmt}
 use Rattle.npf_check.proofs.undefined.procedure_in_stmts.Goals as goal
 
 pub loop-stmt-preserved : goal.loop-stmt-preserved

@@ -1,8 +1,6 @@
 use Rattle.std.proofs.Common.{ap, sym, ◌∙◌}
-use Rattle.npf_faults.specs.First.{earlier, first_fault}
-use Rattle.npf_faults.proofs.FirstLemmas.{each_step, each_end}
-use Rattle.npf_check.specs.Name.{holds}
-use Rattle.npf_check.specs.Undefined.{tables_of_item}
+use Rattle.npf_faults.{specs.First.{earlier, first_fault}, proofs.FirstLemmas.{each_step, each_end}}
+use Rattle.npf_check.specs.{Name.holds, Undefined.tables_of_item}
 use Rattle.npf_check.proofs.undefined.table_in_items.Goals as goal
 
 pub loop-item-preserved : goal.loop-item-preserved

@@ -1,8 +1,6 @@
 use Rattle.std.proofs.Common.{ap, sym, ◌∙◌}
-use Rattle.npf_faults.specs.First.{earlier, first_fault}
-use Rattle.npf_faults.proofs.FirstLemmas.{each_step, each_end}
-use Rattle.npf_check.specs.Name.{holds}
-use Rattle.npf_check.specs.Undefined.{table_faults}
+use Rattle.npf_faults.{specs.First.{earlier, first_fault}, proofs.FirstLemmas.{each_step, each_end}}
+use Rattle.npf_check.specs.{Name.holds, Undefined.table_faults}
 use Rattle.npf_check.proofs.undefined.table_in_list.Goals as goal
 
 pub loop-value-preserved : goal.loop-value-preserved

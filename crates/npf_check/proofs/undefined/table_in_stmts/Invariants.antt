@@ -1,8 +1,6 @@
-use Rattle.std.proofs.Common.{◌≡◌, drop}
-use Rattle.std.specs.List.{flat_map}
+use Rattle.std.{proofs.Common.{◌≡◌, drop}, specs.List.flat_map}
 use Rattle.npf_faults.specs.First.{earlier, first_fault}
-use Rattle.npf_check.specs.Name.{holds}
-use Rattle.npf_check.specs.Undefined.{tables_of_stmt}
+use Rattle.npf_check.specs.{Name.holds, Undefined.tables_of_stmt}
 use Rattle.npf_check.proofs.undefined.table_in_stmts.Given as goal
 
 abbrev pub invariant-loop-stmt : goal.invariant-loop-stmt

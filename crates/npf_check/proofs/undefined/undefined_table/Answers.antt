@@ -1,10 +1,8 @@
-use Rattle.std.proofs.Common.{ap, ◌∙◌}
+use Rattle.std.{proofs.Common.{ap, ◌∙◌}, specs.List.flat_map}
 use mathlib.Core.Path.{fun_ext}
-use Rattle.std.specs.List.{flat_map}
 use Rattle.npf_faults.specs.First.{first_fault}
 use Rattle.npf_check.specs.declared.name.NameKind.TheVariants as Names
-use Rattle.npf_check.specs.Name.{is_given}
-use Rattle.npf_check.specs.Undefined.{tables_of_stmt}
+use Rattle.npf_check.specs.{Name.is_given, Undefined.tables_of_stmt}
 use Rattle.npf_check.proofs.undefined.undefined_table.Goals as goal
 
 pub returns : goal.returns

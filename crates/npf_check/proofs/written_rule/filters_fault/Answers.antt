@@ -1,10 +1,7 @@
-use Rattle.std.proofs.Common.{◌+◌, ◌++◌, List, Option, drop, ap, sym, ◌∙◌}
-use Rattle.std.proofs.lemmas.List.{drop_more, drop_all}
-use Rattle.std.specs.List.{flat_map}
+use Rattle.std.{proofs.{Common.{◌+◌, ◌++◌, List, Option, drop, ap, sym, ◌∙◌}, lemmas.List.{drop_more, drop_all}}, specs.List.flat_map}
 use Rattle.npf_syntax.specs.declared.filter.Filter.{Filter}
 use Rattle.npf_faults.proofs.FirstLemmas.{earlier-none}
-use Rattle.npf_check.specs.Pair.{first_beside}
-use Rattle.npf_check.specs.WrittenRule.{faults_of_pass, pass_of_map}
+use Rattle.npf_check.specs.{Pair.first_beside, WrittenRule.{faults_of_pass, pass_of_map}}
 use Rattle.npf_check.proofs.written_rule.filters_fault.Goals as goal
 
 pub loop-stmt-preserved : goal.loop-stmt-preserved

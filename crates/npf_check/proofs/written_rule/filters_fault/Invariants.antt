@@ -1,7 +1,5 @@
-use Rattle.std.proofs.Common.{◌≡◌, None, drop}
-use Rattle.std.specs.List.{flat_map}
-use Rattle.npf_check.specs.Pair.{first_beside}
-use Rattle.npf_check.specs.WrittenRule.{faults_of_pass, pass_of_map}
+use Rattle.std.{proofs.Common.{◌≡◌, None, drop}, specs.List.flat_map}
+use Rattle.npf_check.specs.{Pair.first_beside, WrittenRule.{faults_of_pass, pass_of_map}}
 use Rattle.npf_check.proofs.written_rule.filters_fault.Given as goal
 
 abbrev pub invariant-loop-stmt : goal.invariant-loop-stmt

@@ -1,9 +1,6 @@
-use Rattle.std.proofs.Common.{◌+◌, ◌++◌, List, drop, append_assoc, ap, sym, ◌∙◌}
-use Rattle.std.proofs.lemmas.List.{drop_more, drop_all}
-use Rattle.std.specs.List.{flat_map}
-use Rattle.npf_syntax.specs.declared.group.Item.{Item}
-use Rattle.npf_check.specs.Pair.{first_beside}
-use Rattle.npf_check.specs.WrittenRule.{faults_of_group, items_in}
+use Rattle.std.{proofs.{Common.{◌+◌, ◌++◌, List, drop, append_assoc, ap, sym, ◌∙◌}, lemmas.List.{drop_more, drop_all}}, specs.List.flat_map}
+use Rattle.npf_syntax.specs.declared.group.ItemTree.{ItemTree}
+use Rattle.npf_check.specs.{Pair.first_beside, WrittenRule.{faults_of_group, items_in}}
 use Rattle.npf_check.proofs.written_rule.in_groups.Goals as goal
 
 pub loop-stmt-preserved : goal.loop-stmt-preserved
@@ -11,7 +8,7 @@ loop-stmt-preserved c = λ more.
     let left = c.loop-stmt.left in
     let i = c.loop-stmt.stmt-index in
     let behind = flat_map (items_in c.args.kind) (drop (i + 1) c.args.stmts.now) in
-    let fault = λ (items : List (List Item)). first_beside faults_of_group left.first items left.rest.now in
+    let fault = λ (items : List (List ItemTree)). first_beside faults_of_group left.first items left.rest.now in
     c.loop-stmt.invariant more
     ∙ ap (λ stmts. fault (flat_map (items_in c.args.kind) stmts ++ more)) (drop_more c.args.stmts.now i c.stmt-item.result c.loop-stmt-test.true)
     ∙ ap (λ stmt. fault ((items_in c.args.kind stmt ++ behind) ++ more)) (sym c.stmt-item.is)

@@ -1,5 +1,4 @@
-use Rattle.std.proofs.Common.{◌≡◌, drop, length, zip}
-use Rattle.std.specs.List.{flat_map}
+use Rattle.std.{proofs.Common.{◌≡◌, drop, length, zip}, specs.List.flat_map}
 use Rattle.npf_faults.specs.First.{earlier, first_fault}
 use Rattle.npf_check.specs.WrittenRule.{faults_of_item}
 use Rattle.npf_check.proofs.written_rule.items_fault.Given as goal

@@ -1,6 +1,4 @@
-use Rattle.npf_check.specs.Family.{family_faults}
-use Rattle.npf_check.specs.Port.{port_faults}
-use Rattle.npf_check.proofs.FaultLemmas.{joined}
+use Rattle.npf_check.{specs.{Family.family_faults, Port.port_faults}, proofs.FaultLemmas.joined}
 use Rattle.npf_check.proofs.written_rule.rule_fault.Goals as goal
 
 pub returns : goal.returns

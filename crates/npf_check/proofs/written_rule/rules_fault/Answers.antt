@@ -1,10 +1,7 @@
-use Rattle.std.proofs.Common.{◌≡◌, None, [], zip, append-nil, ap, sym, ◌∙◌}
-use Rattle.std.specs.List.{flat_map}
-use Rattle.npf_faults.specs.First.{earlier}
-use Rattle.npf_faults.proofs.FirstLemmas.{earlier-none}
+use Rattle.std.{proofs.Common.{◌≡◌, None, [], zip, append-nil, ap, sym, ◌∙◌}, specs.List.flat_map}
+use Rattle.npf_faults.{specs.First.earlier, proofs.FirstLemmas.earlier-none}
 use Rattle.npf_check.specs.declared.written_rule.GroupKind.TheVariants.{Default}
-use Rattle.npf_check.specs.WrittenRule.{faults_of_group, faults_of_pass, items_by_group, items_in, pass_of_map}
-use Rattle.npf_check.proofs.FaultLemmas.{joined}
+use Rattle.npf_check.{specs.WrittenRule.{faults_of_group, faults_of_pass, items_by_group, items_in, pass_of_map}, proofs.FaultLemmas.joined}
 use Rattle.npf_check.specs.Pair.{first_beside}
 use Rattle.npf_check.proofs.written_rule.rules_fault.Goals as goal
 

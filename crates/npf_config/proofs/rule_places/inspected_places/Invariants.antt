@@ -1,5 +1,4 @@
-use Rattle.std.proofs.Common.{◌≡◌, ◌++◌, take}
-use Rattle.std.specs.List.{flat_map}
+use Rattle.std.{proofs.Common.{◌≡◌, ◌++◌, take}, specs.List.flat_map}
 use Rattle.npf_config.specs.RulePlaces.{default_rule_places, named_rule_places}
 use Rattle.npf_config.proofs.rule_places.inspected_places.Given as goal
 

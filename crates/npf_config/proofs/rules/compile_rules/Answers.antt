@@ -1,11 +1,9 @@
-use Rattle.std.proofs.Common.{◌≡◌, ◌<◌, ℕ, Some, List, length, slice_get, refl, subst, ap, ◌∙◌, ◌∷◌, arith}
-use Rattle.std.proofs.lemmas.List.{length-append}
+use Rattle.std.proofs.{Common.{◌≡◌, ◌<◌, ℕ, Some, List, length, slice_get, refl, subst, ap, ◌∙◌, ◌∷◌, arith}, lemmas.List.length-append}
 use Rattle.std.proofs.lemmas.Option.{slice_get_read}
 use Rattle.npf_types.specs.declared.span.Span.{Span}
 use Rattle.npf_model.specs.Verdict.{PlacedRule}
 use Rattle.npf_ruleset.specs.Refusal.{IsFirstHeavy}
-use Rattle.npf_config.specs.Refusal.{too_heavy, too_much}
-use Rattle.npf_config.specs.RulePlaces.{inspected_places}
+use Rattle.npf_config.specs.{Refusal.{too_heavy, too_much}, RulePlaces.inspected_places}
 use Rattle.npf_config.proofs.rules.compile_rules.Goals as goal
 
 heavy_within : (rules : List PlacedRule) (place weight : ℕ) → IsFirstHeavy rules place weight → place < length rules

@@ -1,9 +1,6 @@
-use Rattle.std.proofs.Common.{◌≡◌, ◌≢◌, ◌+◌, ◌++◌, [], ◌∷◌, Err, List, length, take, drop, rules, sym, subst}
-use Rattle.std.specs.List.{AllPairs}
-use Rattle.std.specs.Arc.{arc_value}
+use Rattle.std.{proofs.Common.{◌≡◌, ◌≢◌, ◌+◌, ◌++◌, [], ◌∷◌, Err, List, length, take, drop, rules, sym, subst}, specs.{List.AllPairs, Arc.arc_value}}
 use Rattle.npf_model.specs.declared.table.TableDecl.{TableDecl}
-use Rattle.npf_table.specs.declared.table.Table.{Table}
-use Rattle.npf_table.specs.Table.{prefixes}
+use Rattle.npf_table.specs.{declared.table.Table.Table, Table.prefixes}
 use Rattle.npf_config.specs.TableSteps.{IsReadTable, StopsAtTables}
 use Rattle.npf_config.proofs.TableLemmas.{ReadSoFar, front_and_here, one_more, past_limit, reads_after, split_here, stops_there}
 use Rattle.npf_config.proofs.tables.read_tables.Goals as goal
@@ -16,7 +13,8 @@ returns-in_err-table-clause-refuses g c =
     let decl = c.decl-item.result in
     let fault = c.in_err-table.field-0.0 in
     let same : c.from_residual.result ≡ Err fault = search rules in
-    rw same (stops_there (moment c.args.files.now) (moment c.loop-decl.files) (moment c.read_table.new.files) (take i decls) decl c.loop-decl.tables.items c.loop-decl.count c.loop-decl.invariant.so_far
+    rw same (stops_there (moment c.args.files.now) (moment c.loop-decl.files) (moment c.read_table.new.files)
+    (take i decls) decl c.loop-decl.tables.items c.loop-decl.count c.loop-decl.invariant.so_far
     decls (drop (i + 1) decls) (split_here decls i decl c.loop-decl-test.true c.decl-item.is) fault c.in_err-table.ensures.refuses)
 
 pub returns-in_err-count-clause-refuses : goal.returns-in_err-count-clause-refuses

@@ -1,5 +1,4 @@
-use Rattle.std.proofs.Common.{◌≡◌, Err, rules}
-use Rattle.std.proofs.lemmas.Result.{err_from_is_err_and}
+use Rattle.std.proofs.{Common.{◌≡◌, Err, rules}, lemmas.Result.err_from_is_err_and}
 use Rattle.npf_config.proofs.FaultLemmas.{checks_refused, meaning_refused}
 use Rattle.npf_config.proofs.text.read_text.Goals as goal
 
@@ -16,4 +15,6 @@ returns-in_err-model-clause-refuses c =
 pub returns-in_err-check-clause-refuses : goal.returns-in_err-check-clause-refuses
 returns-in_err-check-clause-refuses c =
     let p = err_from_is_err_and c.from_residual-in_err-check.result c.from_residual-in_err-check.ensures.1 in
-    rw (p.1, p.2) (checks_refused c.args.ifaces.now.list c.args.text.now c.in_ok-tree.tree c.in_ok-model.model c.in_ok-tree.ensures.ok c.in_ok-model.ensures.ok c.in_err-check.field-0.0 c.in_err-check.ensures.err)
+    rw (p.1, p.2)
+    (checks_refused c.args.ifaces.now.list c.args.text.now c.in_ok-tree.tree c.in_ok-model.model
+    c.in_ok-tree.ensures.ok c.in_ok-model.ensures.ok c.in_err-check.field-0.0 c.in_err-check.ensures.err)

@@ -1,10 +1,8 @@
-use Rattle.std.proofs.lemmas.Result.{err_from_is_err_and}
-use Rattle.npf_parser.specs.Parse.{HaltsAt, OnFault}
-use Rattle.npf_parser.specs.Stmt.{file}
+use Rattle.std.proofs.{lemmas.Result.err_from_is_err_and, Common.{List, subst, Err}}
+use Rattle.npf_parser.specs.{Parse.{HaltsAt, OnFault}, Stmt.file}
 use Rattle.npf_syntax.specs.declared.stmt.Tree.{Tree}
 use Rattle.npf_faults.specs.declared.fault.ConfFault.{ConfFault}
 use Rattle.npf_lexer.specs.declared.token.Token.{Token}
-use Rattle.std.proofs.Common.{List, subst, Err}
 use Rattle.npf_config.proofs.FaultLemmas.{grammar_refused, tokens_refused}
 use Rattle.npf_config.proofs.text.read_tree.Goals as goal
 

@@ -1,12 +1,8 @@
-use Rattle.std.proofs.Common.{◌≡◌, ◌≤◌, length, sym, ap, subst, ◌∙◌, arith}
-use Rattle.std.proofs.lemmas.Slice.Zip.{AllZip-long}
+use Rattle.std.proofs.{Common.{◌≡◌, ◌≤◌, length, sym, ap, subst, ◌∙◌, arith}, lemmas.Slice.Zip.AllZip-long}
 use Rattle.npf_faults.specs.declared.fault.Excess.TheVariants.{Instructions}
 use Rattle.npf_model.specs.Verdict.{all_rules}
-use Rattle.npf_config_changes.specs.Additions.{KeepsCounts}
-use Rattle.npf_config_changes.specs.Kept.{Serves}
-use Rattle.npf_config_changes.specs.Told.{EndsUnlessMemory, too_many}
-use Rattle.npf_config_changes.proofs.AdditionLemmas.{counts_kept, elements_over, instructions_over, rules_over}
-use Rattle.npf_config_changes.proofs.NextLemmas.{are_programs, next_buildable}
+use Rattle.npf_config_changes.specs.{Additions.KeepsCounts, Kept.Serves, Told.{EndsUnlessMemory, too_many}}
+use Rattle.npf_config_changes.proofs.{AdditionLemmas.{counts_kept, elements_over, instructions_over, rules_over}, NextLemmas.{are_programs, next_buildable}}
 use Rattle.npf_config_changes.proofs.addition.keep_counts.Goals as goal
 
 pub returns-then-count-gt-MAX_RULES-clause-passed : goal.returns-then-count-gt-MAX_RULES-clause-passed

@@ -1,15 +1,9 @@
 use Rattle.std.proofs.Common.{◌≡◌, Ok, Err, List, flat_map, rules, sym, ap, subst, ◌∙◌}
-use Rattle.npf_model.specs.declared.group.Group.{Group}
-use Rattle.npf_model.specs.declared.model.Model.{Model}
-use Rattle.npf_model.specs.Configuration.{Configuration}
+use Rattle.npf_model.specs.{declared.{group.Group.Group, model.Model.Model}, Configuration.Configuration}
 use Rattle.npf_types.specs.Stages.{goes_on, stops}
 use Rattle.npf_ruleset.specs.Configuration.{configuration}
-use Rattle.npf_config_changes.specs.declared.fault.ChangeFault.TheVariants.{UnknownRuleset}
-use Rattle.npf_config_changes.specs.Additions.{AddsRule, KeepsLimits, MeansRule}
-use Rattle.npf_config_changes.specs.Changes.{found_ruleset}
-use Rattle.npf_config_changes.specs.Found.{ruleset_of, told_ruleset}
-use Rattle.npf_config_changes.specs.Rulesets.{rulesets_in, rulesets_named}
-use Rattle.npf_config_changes.specs.Told.{EndsUnlessMemory}
+use Rattle.npf_config_changes.specs.{declared.fault.ChangeFault.TheVariants.UnknownRuleset, Additions.{AddsRule, KeepsLimits, MeansRule}, Changes.found_ruleset}
+use Rattle.npf_config_changes.specs.{Found.{ruleset_of, told_ruleset}, Rulesets.{rulesets_in, rulesets_named}, Told.EndsUnlessMemory}
 use Rattle.npf_config_changes.proofs.AdditionLemmas.{rule_tables}
 use Rattle.npf_config_changes.proofs.addition.rule_add.Goals as goal
 
@@ -28,7 +22,8 @@ returns-in_err-tree-clause-err c =
     ap told_ruleset (sym c.in-Some.is) ∙ c.find_ruleset.ensures ∙ ap (λ (all : List Group). found_ruleset (flat_map (rulesets_in c.args.name) all)) groups in
     let fault = c.in_err-tree.field-0.0 in
     let same : c.from_residual.result ≡ Err fault = search rules in
-    let ends : EndsUnlessMemory (AddsRule (configuration c.args.config.now) c.args.name c.args.ifaces.now.list c.args.text.now) fault = λ other. goes_on some (stops (c.in_err-tree.ensures.err other)) in
+    let ends : EndsUnlessMemory (AddsRule (configuration c.args.config.now) c.args.name c.args.ifaces.now.list c.args.text.now) fault =
+    λ other. goes_on some (stops (c.in_err-tree.ensures.err other)) in
     rw same ends
 
 pub returns-in_err-rule-clause-err : goal.returns-in_err-rule-clause-err

@@ -1,21 +1,14 @@
 use Rattle.std.proofs.Common.{◌≡◌, ◌≤◌, ◌+◌, Ok, Err, length, rules, sym, ap, subst, ◌∙◌}
-use Rattle.npf_model.specs.declared.model.Model.{Model}
-use Rattle.npf_model.specs.Configuration.{Configuration}
-use Rattle.npf_model.specs.Verdict.{all_rules}
-use Rattle.npf_ruleset.specs.Configuration.{configuration}
-use Rattle.npf_ruleset.specs.Flat.{instructions}
+use Rattle.npf_model.specs.{declared.model.Model.Model, Configuration.Configuration, Verdict.all_rules}
+use Rattle.npf_ruleset.specs.{Configuration.configuration, Flat.instructions}
 use Rattle.npf_config.specs.Loaded.{HasNextIds}
-use Rattle.npf_config_changes.specs.declared.change.Change.{Change}
-use Rattle.npf_config_changes.specs.declared.change.Change.TheVariants.{Added}
-use Rattle.npf_config_changes.specs.Additions.{KeepsCounts}
-use Rattle.npf_config_changes.specs.Told.{EndsUnlessMemory}
-use Rattle.npf_config_changes.proofs.AdditionLemmas.{added_ids}
-use Rattle.npf_config_changes.proofs.NextLemmas.{kept_serve, next_buildable, next_limits}
+use Rattle.npf_config_changes.specs.{declared.change.RulesChange.{RulesChange, TheVariants.Added}, Additions.KeepsCounts, Told.EndsUnlessMemory}
+use Rattle.npf_config_changes.proofs.{AdditionLemmas.added_ids, NextLemmas.{kept_serve, next_buildable, next_limits}}
 use Rattle.npf_config_changes.proofs.addition.with_program.Goals as goal
 
 pub keep_counts-requires-clause-serve : goal.keep_counts-requires-clause-serve
 keep_counts-requires-clause-serve c =
-    let change : Change = Added c.args.rule c.args.program in
+    let change : RulesChange = Added c.args.rule c.args.program in
     let model = c.in_ok-model.model in
     rw c.deref.ensures.value (kept_serve c.args.config.now change (all_rules model.groups) c.in_ok-model.programs.items c.in_ok-model.ensures.keeps)
 
@@ -31,7 +24,7 @@ returns-in_err-keep_counts-clause-err c =
 
 pub with_model-requires-clause-buildable : goal.with_model-requires-clause-buildable
 with_model-requires-clause-buildable c =
-    let change : Change = Added c.args.rule c.args.program in
+    let change : RulesChange = Added c.args.rule c.args.program in
     let model = c.in_ok-model.model in
     let kept = c.in_ok-model.programs.items in
     next_buildable model kept (kept_serve c.args.config.now change (all_rules model.groups) kept c.in_ok-model.ensures.keeps) c.in_ok-keep_counts.ensures.few
@@ -39,7 +32,7 @@ with_model-requires-clause-buildable c =
 
 pub with_model-requires-clause-limits : goal.with_model-requires-clause-limits
 with_model-requires-clause-limits c =
-    let change : Change = Added c.args.rule c.args.program in
+    let change : RulesChange = Added c.args.rule c.args.program in
     let model = c.in_ok-model.model in
     let kept = c.in_ok-model.programs.items in
     next_limits model kept (kept_serve c.args.config.now change (all_rules model.groups) kept c.in_ok-model.ensures.keeps)

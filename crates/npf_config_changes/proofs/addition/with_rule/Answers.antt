@@ -1,9 +1,7 @@
 use Rattle.std.proofs.Common.{◌≤◌, rules, sym, ap, subst, ◌∙◌, arith}
 use Rattle.npf_faults.specs.declared.fault.Excess.TheVariants.{Weight}
 use Rattle.npf_bpfgen.specs.RuleWeight.{weight_of}
-use Rattle.npf_config_changes.specs.Additions.{KeepsLimits}
-use Rattle.npf_config_changes.specs.Rulesets.{model_with_ruleset, with_rule_added}
-use Rattle.npf_config_changes.specs.Told.{EndsUnlessMemory, too_many}
+use Rattle.npf_config_changes.specs.{Additions.KeepsLimits, Rulesets.{model_with_ruleset, with_rule_added}, Told.{EndsUnlessMemory, too_many}}
 use Rattle.npf_config_changes.proofs.AdditionLemmas.{light_err, light_ok, serves_as, too_heavy}
 use Rattle.npf_config_changes.proofs.addition.with_rule.Goals as goal
 
@@ -17,7 +15,12 @@ returns-then-weight-clause-err c =
 pub with_program-requires-clause-served : goal.with_program-requires-clause-served
 with_program-requires-clause-served c =
     let light : weight_of c.args.rule.now ≤ 4096 = (let within = c.if-weight.false in let weighs = c.weight-weight.ensures in omega arith) in
-    serves_as c.args.rule.now c.in-Ok.program (record { value = c.in-Ok.ensures.value; valid = ∣ c.in-Ok.ensures.valid ∣₁; count = c.in-Ok.ensures.count; size = c.in-Ok.ensures.size }) light (search rules) c.requires.tables
+    serves_as c.args.rule.now c.in-Ok.program (record {
+      value = c.in-Ok.ensures.value;
+      valid = ∣ c.in-Ok.ensures.valid ∣₁;
+      count = c.in-Ok.ensures.count;
+      size = c.in-Ok.ensures.size;
+    }) light (search rules) c.requires.tables
 
 pub returns-in-Ok-clause-limits : goal.returns-in-Ok-clause-limits
 returns-in-Ok-clause-limits c =

@@ -1,6 +1,5 @@
 use Rattle.std.proofs.Common.{◌≡◌, map, take}
-use Rattle.npf_config_changes.specs.Kept.{ruleset_change}
-use Rattle.npf_config_changes.specs.Rulesets.{group_with_ruleset}
+use Rattle.npf_config_changes.specs.{Kept.ruleset_change, Rulesets.group_with_ruleset}
 use Rattle.npf_config_changes.proofs.change.changed_groups.Given as goal
 
 abbrev pub invariant-loop-group : goal.invariant-loop-group

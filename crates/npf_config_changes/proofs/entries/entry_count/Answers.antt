@@ -1,7 +1,4 @@
-use Rattle.std.proofs.Common.{◌≡◌, ◌<◌, length, ap, ◌∙◌, arith}
-use Rattle.std.specs.Arc.{arc_value}
-use Rattle.std.proofs.lemmas.List.{length-map}
-use Rattle.std.proofs.lemmas.List.Sums.{sum_by_more}
+use Rattle.std.{proofs.{Common.{◌≡◌, ◌<◌, length, ap, ◌∙◌, arith}, lemmas.List.{length-map, Sums.sum_by_more}}, specs.Arc.arc_value}
 use Rattle.npf_table.specs.Table.{prefixes}
 use Rattle.npf_ruleset.specs.Tables.{entries}
 use Rattle.npf_config_changes.proofs.EntryLemmas.{entry_at}

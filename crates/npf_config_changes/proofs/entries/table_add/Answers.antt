@@ -1,21 +1,13 @@
-use Rattle.std.proofs.Common.{◌≡◌, ◌<◌, ◌+◌, Some, Ok, Err, List, length, sym, ap, subst, ◌∙◌, arith}
-use Rattle.std.proofs.lemmas.Result.{err_from_is_err_and}
-use Rattle.std.specs.Arc.{arc_value}
-use Rattle.std.specs.Global.{Global}
-use Rattle.std.specs.declared.sync.Arc.{Arc}
-use Rattle.npf_model.specs.declared.table.TableDecl.{TableDecl}
-use Rattle.npf_model.specs.Verdict.{first_where}
+use Rattle.std.proofs.{Common.{◌≡◌, ◌<◌, ◌+◌, Some, Ok, Err, List, length, sym, ap, subst, ◌∙◌, arith}, lemmas.Result.err_from_is_err_and}
+use Rattle.std.specs.{Arc.arc_value, Global.Global, declared.sync.Arc.Arc}
+use Rattle.npf_model.specs.{declared.table.TableDecl.TableDecl, Verdict.first_where}
 use Rattle.npf_faults.specs.declared.fault.Excess.TheVariants.{Entries}
 use Rattle.npf_types.specs.Stages.{stops}
-use Rattle.npf_table.specs.declared.table.Table.{Table}
-use Rattle.npf_table.specs.Table.{MayChange, RefusesAddition, kind_of, prefixes}
-use Rattle.npf_ruleset.specs.Configuration.{configuration}
-use Rattle.npf_ruleset.specs.Tables.{entries}
+use Rattle.npf_table.specs.{declared.table.Table.Table, Table.{MayChange, RefusesAddition, kind_of, prefixes}}
+use Rattle.npf_ruleset.specs.{Configuration.configuration, Tables.entries}
 use Rattle.npf_config.specs.Tables.{entry_count, table_kinds}
-use Rattle.npf_config_changes.specs.declared.fault.ChangeFault.{ChangeFault}
-use Rattle.npf_config_changes.specs.Entries.{AddsEntry, GainsEntry, gained, unknown, with_entries}
-use Rattle.npf_config_changes.specs.Rulesets.{are_one_name}
-use Rattle.npf_config_changes.specs.Told.{told_count, too_many}
+use Rattle.npf_config_changes.specs.{declared.fault.ChangeFault.ChangeFault, Entries.{AddsEntry, GainsEntry, gained, unknown, with_entries}}
+use Rattle.npf_config_changes.specs.{Rulesets.are_one_name, Told.{told_count, too_many}}
 use Rattle.npf_config_changes.proofs.EntryLemmas.{addition_refused, adds, count_there, had_entries, next_count, next_is, next_loaded, place_within, passes, there_at}
 use Rattle.npf_config_changes.proofs.entries.table_add.Goals as goal
 
@@ -66,11 +58,14 @@ returns-then-count-clause-err c = λ _.
     (gained c.in_ok-add.ensures.was_absent c.in_ok-add.ensures.adds c.each_once.ensures c.in_ok-add.ensures.len) in
     let len : length (prefixes new) ≡ length (prefixes (arc_value was)) + 1 = subst (λ (t : Table). length (prefixes new) ≡ length (prefixes t) + 1) same c.in_ok-add.ensures.len in
     let sum = count_there (entries config.tables.items) at (prefixes (arc_value was)) (prefixes new) (had_entries config at was there) in
-    let old : c.entry_count.result ≡ told_count (entry_count (entries config.tables.items)) = c.entry_count.ensures ∙ ap (λ (all : List (Arc Table Global)). told_count (entry_count (entries all))) c.tables-2.ensures in
+    let old : c.entry_count.result ≡ told_count (entry_count (entries config.tables.items)) =
+    c.entry_count.ensures ∙ ap (λ (all : List (Arc Table Global)). told_count (entry_count (entries all))) c.tables-2.ensures in
     let one = c.saturating_add-count.ensures in
     let counted : told_count (entry_count (with_entries at (prefixes new) (configuration config)).tables) ≡ c.saturating_add-count.result = omega arith in
-    subst (λ (fault : ChangeFault). AddsEntry (table_kinds config.tables.items) (configuration config) c.args.name c.args.prefix (Err fault)) (sym (c.at.ensures ∙ ap (λ span. too_many span Entries c.saturating_add-count.result) c.beginning.ensures))
-    (passes config c.args.name at was there first c.args.prefix new (subst (λ (t : Table). MayChange (kind_of t) c.args.prefix) same c.in_ok-add.ensures.may) gains c.saturating_add-count.result counted c.if-count.true)
+    subst (λ (fault : ChangeFault). AddsEntry (table_kinds config.tables.items) (configuration config) c.args.name c.args.prefix (Err fault))
+    (sym (c.at.ensures ∙ ap (λ span. too_many span Entries c.saturating_add-count.result) c.beginning.ensures))
+    (passes config c.args.name at was there first c.args.prefix new
+    (subst (λ (t : Table). MayChange (kind_of t) c.args.prefix) same c.in_ok-add.ensures.may) gains c.saturating_add-count.result counted c.if-count.true)
 
 pub returns-clause-ok : goal.returns-clause-ok
 returns-clause-ok c =
@@ -88,7 +83,8 @@ returns-clause-ok c =
     (gained c.in_ok-add.ensures.was_absent c.in_ok-add.ensures.adds c.each_once.ensures c.in_ok-add.ensures.len) in
     let len : length (prefixes new) ≡ length (prefixes (arc_value was)) + 1 = subst (λ (t : Table). length (prefixes new) ≡ length (prefixes t) + 1) same c.in_ok-add.ensures.len in
     let sum = next_count config next at was new there c.in_ok-with_table.ensures.model c.in_ok-with_table.ensures.tables in
-    let old : c.entry_count.result ≡ told_count (entry_count (entries config.tables.items)) = c.entry_count.ensures ∙ ap (λ (all : List (Arc Table Global)). told_count (entry_count (entries all))) c.tables-2.ensures in
+    let old : c.entry_count.result ≡ told_count (entry_count (entries config.tables.items)) =
+    c.entry_count.ensures ∙ ap (λ (all : List (Arc Table Global)). told_count (entry_count (entries all))) c.tables-2.ensures in
     let one = c.saturating_add-count.ensures in
     let few = c.if-count.false in
     adds config c.args.name at was there first c.args.prefix new (subst (λ (t : Table). MayChange (kind_of t) c.args.prefix) same c.in_ok-add.ensures.may) gains next
@@ -106,7 +102,8 @@ returns-clause-loaded c = λ loaded.
     let same : c.in_ok-table.table ≡ arc_value was = c.in_ok-table.ensures ∙ c.deref.ensures in
     let len : length (prefixes new) ≡ length (prefixes (arc_value was)) + 1 = subst (λ (t : Table). length (prefixes new) ≡ length (prefixes t) + 1) same c.in_ok-add.ensures.len in
     let sum = next_count config next at was new there c.in_ok-with_table.ensures.model c.in_ok-with_table.ensures.tables in
-    let old : c.entry_count.result ≡ told_count (entry_count (entries config.tables.items)) = c.entry_count.ensures ∙ ap (λ (all : List (Arc Table Global)). told_count (entry_count (entries all))) c.tables-2.ensures in
+    let old : c.entry_count.result ≡ told_count (entry_count (entries config.tables.items)) =
+    c.entry_count.ensures ∙ ap (λ (all : List (Arc Table Global)). told_count (entry_count (entries all))) c.tables-2.ensures in
     let one = c.saturating_add-count.ensures in
     let few = c.if-count.false in
     next_loaded config next at was new there c.in_ok-with_table.ensures.model c.in_ok-with_table.ensures.tables loaded

@@ -1,15 +1,9 @@
-use Rattle.std.proofs.Common.{◌≡◌, ◌<◌, ◌+◌, Some, Ok, List, length, sym, ap, subst, ◌∙◌, arith}
-use Rattle.std.proofs.lemmas.Result.{err_from_is_err_and}
-use Rattle.std.specs.Arc.{arc_value}
-use Rattle.std.specs.declared.sync.Arc.{Arc}
-use Rattle.std.specs.Global.{Global}
-use Rattle.npf_model.specs.declared.table.TableDecl.{TableDecl}
-use Rattle.npf_model.specs.Verdict.{first_where}
+use Rattle.std.{proofs.{Common.{◌≡◌, ◌<◌, ◌+◌, Some, Ok, List, length, sym, ap, subst, ◌∙◌, arith}, lemmas.Result.err_from_is_err_and}, specs.Arc.arc_value}
+use Rattle.std.specs.{declared.sync.Arc.Arc, Global.Global}
+use Rattle.npf_model.specs.{declared.table.TableDecl.TableDecl, Verdict.first_where}
 use Rattle.npf_types.specs.Stages.{stops}
-use Rattle.npf_table.specs.declared.table.Table.{Table}
-use Rattle.npf_table.specs.Table.{MayChange, RefusesRemoval, kind_of, prefixes}
-use Rattle.npf_config_changes.specs.Entries.{LosesEntry, lost, unknown}
-use Rattle.npf_config_changes.specs.Rulesets.{are_one_name}
+use Rattle.npf_table.specs.{declared.table.Table.Table, Table.{MayChange, RefusesRemoval, kind_of, prefixes}}
+use Rattle.npf_config_changes.specs.{Entries.{LosesEntry, lost, unknown}, Rulesets.are_one_name}
 use Rattle.npf_config_changes.proofs.EntryLemmas.{next_count, next_is, next_loaded, place_within, removal_refused, removes, there_at}
 use Rattle.npf_config_changes.proofs.entries.table_rem.Goals as goal
 

@@ -1,7 +1,4 @@
-use Rattle.std.proofs.Common.{length, map, set, sym, ap, ◌∙◌}
-use Rattle.std.specs.Arc.{arc_value}
-use Rattle.std.proofs.lemmas.List.{length-map, length-set, map-set}
-use Rattle.std.proofs.lemmas.Result.{IfOk-weaker}
+use Rattle.std.{proofs.{Common.{length, map, set, sym, ap, ◌∙◌}, lemmas.{List.{length-map, length-set, map-set}, Result.IfOk-weaker}}, specs.Arc.arc_value}
 use Rattle.npf_config_changes.proofs.entries.with_table.Goals as goal
 
 pub returns-clause-tables : goal.returns-clause-tables

@@ -1,6 +1,4 @@
-use Rattle.std.proofs.Common.{ap, arith}
-use Rattle.std.specs.List.{sum_by}
-use Rattle.std.proofs.lemmas.List.Sums.{sum_by_more_le}
+use Rattle.std.{proofs.{Common.{ap, arith}, lemmas.List.Sums.sum_by_more_le}, specs.List.sum_by}
 use Rattle.npf_config_changes.specs.Elements.{group_elements, elements_in_item}
 use Rattle.npf_config_changes.proofs.limit.groups_elements.Goals as goal
 

@@ -1,5 +1,4 @@
-use Rattle.std.proofs.Common.{◌≡◌, take}
-use Rattle.std.specs.List.{sum_by}
+use Rattle.std.{proofs.Common.{◌≡◌, take}, specs.List.sum_by}
 use Rattle.npf_config_changes.specs.Elements.{group_elements}
 use Rattle.npf_config_changes.proofs.limit.groups_elements.Given as goal
 

@@ -1,5 +1,4 @@
-use Rattle.std.proofs.Common.{ap, arith}
-use Rattle.std.proofs.lemmas.List.Sums.{sum_by_more_le}
+use Rattle.std.proofs.{Common.{ap, arith}, lemmas.List.Sums.sum_by_more_le}
 use Rattle.npf_config_changes.specs.Elements.{elements_in_item}
 use Rattle.npf_config_changes.proofs.limit.items_elements.Goals as goal
 

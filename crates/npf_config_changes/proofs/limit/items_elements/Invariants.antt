@@ -1,5 +1,4 @@
-use Rattle.std.proofs.Common.{◌≡◌, take}
-use Rattle.std.specs.List.{sum_by}
+use Rattle.std.{proofs.Common.{◌≡◌, take}, specs.List.sum_by}
 use Rattle.npf_config_changes.specs.Elements.{elements_in_item}
 use Rattle.npf_config_changes.proofs.limit.items_elements.Given as goal
 

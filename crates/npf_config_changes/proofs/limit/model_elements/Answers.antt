@@ -1,7 +1,5 @@
-use Rattle.std.proofs.Common.{◌≤◌, length, ap, subst, sym, arith}
-use Rattle.std.specs.List.{sum_by}
-use Rattle.npf_config_changes.specs.Elements.{filter_elements_of, group_elements}
-use Rattle.npf_config_changes.proofs.ElementLemmas.{few_elements, groups_are}
+use Rattle.std.{proofs.Common.{◌≤◌, length, ap, subst, sym, arith}, specs.List.sum_by}
+use Rattle.npf_config_changes.{specs.Elements.{filter_elements_of, group_elements}, proofs.ElementLemmas.{few_elements, groups_are}}
 use Rattle.npf_config_changes.proofs.limit.model_elements.Goals as goal
 
 pub groups_elements-requires : goal.groups_elements-requires

@@ -1,7 +1,5 @@
-use Rattle.std.proofs.Common.{ℕ, ap, arith}
-use Rattle.std.proofs.lemmas.List.Sums.{sum_by_more_le}
-use Rattle.npf_model.specs.declared.rule.Rule.{Rule}
-use Rattle.npf_model.specs.Count.{elements_of}
+use Rattle.std.proofs.{Common.{ℕ, ap, arith}, lemmas.List.Sums.sum_by_more_le}
+use Rattle.npf_model.specs.{declared.rule.Rule.Rule, Count.elements_of}
 use Rattle.npf_config_changes.proofs.limit.numbered_elements.Goals as goal
 
 pub overflow_add-total : goal.overflow_add-total

@@ -1,5 +1,4 @@
-use Rattle.std.proofs.Common.{◌≡◌, take}
-use Rattle.std.specs.List.{sum_by}
+use Rattle.std.{proofs.Common.{◌≡◌, take}, specs.List.sum_by}
 use Rattle.npf_model.specs.Count.{elements_of}
 use Rattle.npf_config_changes.proofs.limit.numbered_elements.Given as goal
 

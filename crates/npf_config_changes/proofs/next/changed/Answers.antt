@@ -1,13 +1,7 @@
-use Rattle.std.proofs.Common.{◌≡◌, [], List, map, sym, ap, subst, ◌∙◌}
-use Rattle.std.specs.List.{AllZip}
-use Rattle.npf_model.specs.declared.group.Group.{Group}
-use Rattle.npf_model.specs.declared.model.Model.{Model}
-use Rattle.npf_model.specs.Verdict.{all_rules}
-use Rattle.npf_ruleset.specs.declared.flat.FlatRule.{FlatRule}
-use Rattle.npf_ruleset.specs.Flat.{programs_of}
-use Rattle.npf_config_changes.specs.Kept.{Keeps, Serves, ruleset_change}
-use Rattle.npf_config_changes.specs.Rulesets.{group_with_ruleset, model_with_ruleset}
-use Rattle.npf_config_changes.proofs.NextLemmas.{old_serve}
+use Rattle.std.{proofs.Common.{◌≡◌, [], List, map, sym, ap, subst, ◌∙◌}, specs.List.AllZip}
+use Rattle.npf_model.specs.{declared.{group.Group.Group, model.Model.Model}, Verdict.all_rules}
+use Rattle.npf_ruleset.specs.{declared.flat.FlatRule.FlatRule, Flat.programs_of}
+use Rattle.npf_config_changes.{specs.{Kept.{Keeps, Serves, ruleset_change}, Rulesets.{group_with_ruleset, model_with_ruleset}}, proofs.NextLemmas.old_serve}
 use Rattle.npf_config_changes.proofs.next.changed.Goals as goal
 
 pub changed_programs-requires-clause-serve : goal.changed_programs-requires-clause-serve

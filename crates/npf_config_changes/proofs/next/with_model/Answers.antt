@@ -1,7 +1,4 @@
-use Rattle.std.proofs.Common.{◌≡◌, ◌≤◌, length, map, sym, ap, subst, ◌∙◌}
-use Rattle.std.specs.Arc.{arc_value}
-use Rattle.std.proofs.lemmas.List.{length-map}
-use Rattle.std.proofs.lemmas.Result.{IfOk-weaker}
+use Rattle.std.{proofs.{Common.{◌≡◌, ◌≤◌, length, map, sym, ap, subst, ◌∙◌}, lemmas.{List.length-map, Result.IfOk-weaker}}, specs.Arc.arc_value}
 use Rattle.npf_config_changes.proofs.NextLemmas.{assembled, next_is, next_loaded}
 use Rattle.npf_config_changes.proofs.next.with_model.Goals as goal
 

@@ -1,13 +1,8 @@
 use Rattle.std.proofs.Common.{◌≡◌, ◌<◌, ◌+◌, ◌++◌, ℕ, Some, List, drop, flat_map, get_or, length, slice_get, take, refl, sym, ap, subst, ◌∙◌, arith}
-use Rattle.std.specs.List.{AllZip}
-use Rattle.std.proofs.lemmas.List.{append_assoc, take-append-drop}
-use Rattle.std.proofs.lemmas.Option.{slice_get_read}
-use Rattle.npf_model.specs.declared.group.Item.{Item}
-use Rattle.npf_model.specs.Verdict.{PlacedRule, rules_at}
-use Rattle.npf_ruleset.specs.declared.flat.FlatRule.{FlatRule}
-use Rattle.npf_ruleset.specs.Flat.{programs_of}
-use Rattle.npf_config_changes.specs.Kept.{Keeps, Serves, ruleset_change}
-use Rattle.npf_config_changes.specs.Rulesets.{item_with_ruleset}
+use Rattle.std.{specs.List.AllZip, proofs.lemmas.{List.{append_assoc, take-append-drop}, Option.slice_get_read}}
+use Rattle.npf_model.specs.{declared.group.Item.Item, Verdict.{PlacedRule, rules_at}}
+use Rattle.npf_ruleset.specs.{declared.flat.FlatRule.FlatRule, Flat.programs_of}
+use Rattle.npf_config_changes.specs.{Kept.{Keeps, Serves, ruleset_change}, Rulesets.item_with_ruleset}
 use Rattle.npf_config_changes.proofs.KeptLemmas.{keeps_here, keeps_next, rules_left, serve_behind, serve_front, serve_within}
 use Rattle.npf_config_changes.proofs.programs.add_group.Goals as goal
 
@@ -58,9 +53,11 @@ loop-item-preserved c =
     let count = c.count_of.ensures in
     let front : here ≡ take (length (rules_at item)) left = c.split_at.ensures.front ∙ ap (λ k. take k left) count in
     let back : behind ≡ drop (length (rules_at item)) left = c.split_at.ensures.back ∙ ap (λ k. drop k left) count in
-    let whole : here ++ behind ≡ left = ap (λ (one : List FlatRule). one ++ behind) front ∙ ap (λ (one : List FlatRule). take (length (rules_at item)) left ++ one) back ∙ take-append-drop (length (rules_at item)) left in
+    let whole : here ++ behind ≡ left = ap (λ (one : List FlatRule). one ++ behind) front
+    ∙ ap (λ (one : List FlatRule). take (length (rules_at item)) left ++ one) back ∙ take-append-drop (length (rules_at item)) left in
     record {
-      keeps = keeps_next rules_at changed items i item at change c.args.flats.now c.args.programs.now.items c.loop-item.programs.items c.add_item.new.programs.items left behind c.loop-item.invariant.keeps
+      keeps = keeps_next rules_at changed items i item at change c.args.flats.now c.args.programs.now.items
+          c.loop-item.programs.items c.add_item.new.programs.items left behind c.loop-item.invariant.keeps
           (subst (λ (all : List FlatRule). Keeps change (rules_at (changed item)) all behind c.loop-item.programs.items c.add_item.new.programs.items) whole
           (keeps_here change (rules_at (changed item)) here behind c.loop-item.programs.items c.add_item.new.programs.items c.in_ok-add_item.ensures));
       left = λ more serve.

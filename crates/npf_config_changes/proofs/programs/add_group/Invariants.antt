@@ -1,9 +1,7 @@
-use Rattle.std.proofs.Common.{◌++◌, List, drop, flat_map, map, take}
-use Rattle.std.specs.List.{AllZip}
+use Rattle.std.{proofs.Common.{◌++◌, List, drop, flat_map, map, take}, specs.List.AllZip}
 use Rattle.npf_model.specs.Verdict.{PlacedRule, rules_at, rules_of}
 use Rattle.npf_ruleset.specs.Flat.{programs_of}
-use Rattle.npf_config_changes.specs.Kept.{Keeps, Serves, ruleset_change}
-use Rattle.npf_config_changes.specs.Rulesets.{item_with_ruleset}
+use Rattle.npf_config_changes.specs.{Kept.{Keeps, Serves, ruleset_change}, Rulesets.item_with_ruleset}
 use Rattle.npf_config_changes.proofs.programs.add_group.Given as goal
 
 abbrev pub invariant-loop-item : goal.invariant-loop-item

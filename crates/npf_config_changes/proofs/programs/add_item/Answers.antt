@@ -1,11 +1,7 @@
-use Rattle.std.proofs.Common.{◌++◌, [], length, sym, ap, subst, ◌∙◌}
-use Rattle.std.specs.List.{AllZip}
-use Rattle.std.proofs.lemmas.Result.{IfOk-weaker}
-use Rattle.npf_model.specs.declared.group.Item.{Item}
-use Rattle.npf_model.specs.Verdict.{rules_at}
+use Rattle.std.{proofs.{Common.{◌++◌, [], length, sym, ap, subst, ◌∙◌}, lemmas.Result.IfOk-weaker}, specs.List.AllZip}
+use Rattle.npf_model.specs.{declared.group.Item.Item, Verdict.rules_at}
 use Rattle.npf_ruleset.specs.Flat.{programs_of}
-use Rattle.npf_config_changes.specs.Kept.{Keeps, Serves, ruleset_change, programs_changed}
-use Rattle.npf_config_changes.specs.Rulesets.{item_with_ruleset}
+use Rattle.npf_config_changes.specs.{Kept.{Keeps, Serves, ruleset_change, programs_changed}, Rulesets.item_with_ruleset}
 use Rattle.npf_config_changes.proofs.KeptLemmas.{dynamic_len, named_keeps, other_keeps}
 use Rattle.npf_config_changes.proofs.programs.add_item.Goals as goal
 

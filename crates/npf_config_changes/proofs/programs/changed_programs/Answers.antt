@@ -1,11 +1,7 @@
-use Rattle.std.proofs.Common.{◌≡◌, ◌+◌, [], Some, List, drop, length, slice_get, refl, subst}
-use Rattle.std.specs.List.{AllZip}
-use Rattle.std.proofs.lemmas.Option.{slice_get_read}
+use Rattle.std.{proofs.{Common.{◌≡◌, ◌+◌, [], Some, List, drop, length, slice_get, refl, subst}, lemmas.Option.slice_get_read}, specs.List.AllZip}
 use Rattle.npf_model.specs.Verdict.{PlacedRule, all_rules, rules_of}
 use Rattle.npf_ruleset.specs.Flat.{programs_of}
-use Rattle.npf_config_changes.specs.Kept.{Serves, ruleset_change}
-use Rattle.npf_config_changes.specs.Rulesets.{group_with_ruleset}
-use Rattle.npf_config_changes.proofs.KeptLemmas.{keeps_next, rules_left}
+use Rattle.npf_config_changes.{specs.{Kept.{Serves, ruleset_change}, Rulesets.group_with_ruleset}, proofs.KeptLemmas.{keeps_next, rules_left}}
 use Rattle.npf_config_changes.proofs.programs.changed_programs.Goals as goal
 
 pub loop-group-preserved : goal.loop-group-preserved

@@ -1,9 +1,7 @@
-use Rattle.std.proofs.Common.{[], drop, map, take}
-use Rattle.std.specs.List.{AllZip}
+use Rattle.std.{proofs.Common.{[], drop, map, take}, specs.List.AllZip}
 use Rattle.npf_model.specs.Verdict.{all_rules}
 use Rattle.npf_ruleset.specs.Flat.{programs_of}
-use Rattle.npf_config_changes.specs.Kept.{Keeps, Serves, ruleset_change}
-use Rattle.npf_config_changes.specs.Rulesets.{group_with_ruleset}
+use Rattle.npf_config_changes.specs.{Kept.{Keeps, Serves, ruleset_change}, Rulesets.group_with_ruleset}
 use Rattle.npf_config_changes.proofs.programs.changed_programs.Given as goal
 
 abbrev pub invariant-loop-group : goal.invariant-loop-group

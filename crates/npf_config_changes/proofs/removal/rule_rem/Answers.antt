@@ -1,9 +1,7 @@
 use Rattle.std.proofs.Common.{◌≡◌, true, false, Ok, Err, List, flat_map, refl, rules, sym, ap, ◌∙◌}
 use Rattle.npf_model.specs.declared.group.Group.{Group}
 use Rattle.npf_types.specs.Stages.{goes_on, stops}
-use Rattle.npf_config_changes.specs.declared.fault.ChangeFault.TheVariants.{UnknownRuleset}
-use Rattle.npf_config_changes.specs.Changes.{found_ruleset}
-use Rattle.npf_config_changes.specs.Found.{ruleset_of, told_ruleset}
+use Rattle.npf_config_changes.specs.{declared.fault.ChangeFault.TheVariants.UnknownRuleset, Changes.found_ruleset, Found.{ruleset_of, told_ruleset}}
 use Rattle.npf_config_changes.specs.Rulesets.{has_rule, rulesets_in, rulesets_named}
 use Rattle.npf_config_changes.proofs.removal.rule_rem.Goals as goal
 

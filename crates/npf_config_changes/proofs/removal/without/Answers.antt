@@ -1,8 +1,5 @@
-use Rattle.std.proofs.Common.{◌≡◌, ◌≤◌, length, sym, ap, subst, ◌∙◌}
-use Rattle.std.proofs.lemmas.Result.{IfOk-weaker}
-use Rattle.npf_model.specs.declared.model.Model.{Model}
-use Rattle.npf_model.specs.Configuration.{Configuration}
-use Rattle.npf_model.specs.Verdict.{all_rules}
+use Rattle.std.proofs.{Common.{◌≡◌, ◌≤◌, length, sym, ap, subst, ◌∙◌}, lemmas.Result.IfOk-weaker}
+use Rattle.npf_model.specs.{declared.model.Model.Model, Configuration.Configuration, Verdict.all_rules}
 use Rattle.npf_ruleset.specs.Configuration.{configuration}
 use Rattle.npf_config.specs.Loaded.{HasNextIds}
 use Rattle.npf_config_changes.proofs.NextLemmas.{all_room, kept_serve, next_buildable, next_limits, no_more_instructions, no_more_rules, same_ids, served_none}

@@ -1,5 +1,4 @@
-use Rattle.std.proofs.Common.{◌≡◌, map, take}
-use Rattle.std.specs.Arc.{arc_value}
+use Rattle.std.{proofs.Common.{◌≡◌, map, take}, specs.Arc.arc_value}
 use Rattle.npf_config_changes.proofs.shared.shared.Given as goal
 
 abbrev pub invariant-loop-table : goal.invariant-loop-table

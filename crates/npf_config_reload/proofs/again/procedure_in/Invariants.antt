@@ -1,5 +1,4 @@
-use Rattle.std.proofs.Common.{◌≡◌, drop}
-use Rattle.std.specs.Str.{bytes_eq}
+use Rattle.std.{proofs.Common.{◌≡◌, drop}, specs.Str.bytes_eq}
 use Rattle.npf_model.specs.Verdict.{first_where}
 use Rattle.npf_config_reload.specs.Taken.{procedure_in}
 use Rattle.npf_config_reload.proofs.again.procedure_in.Given as goal

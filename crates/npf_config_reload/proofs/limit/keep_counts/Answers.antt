@@ -1,8 +1,7 @@
 use Rattle.std.proofs.Common.{length, ap, subst, sym, Err, arith}
 use Rattle.npf_model.specs.Verdict.{all_rules}
 use Rattle.npf_config.specs.Stage.{IfConf}
-use Rattle.npf_config_changes.specs.declared.fault.ChangeFault.TheVariants.{Conf}
-use Rattle.npf_config_changes.specs.Additions.{KeepsCounts}
+use Rattle.npf_config_changes.specs.{declared.fault.ChangeFault.TheVariants.Conf, Additions.KeepsCounts}
 use Rattle.npf_config_reload.proofs.LayoutLemmas.{elements_over, rules_over}
 use Rattle.npf_config_reload.proofs.limit.keep_counts.Goals as goal
 

@@ -1,6 +1,5 @@
 use Rattle.std.proofs.Common.{◌≡◌, map, take}
-use Rattle.npf_config_reload.specs.Before.{again_of, found_by}
-use Rattle.npf_config_reload.specs.Taken.{item_taken}
+use Rattle.npf_config_reload.specs.{Before.{again_of, found_by}, Taken.item_taken}
 use Rattle.npf_config_reload.proofs.model.items_taken.Given as goal
 
 abbrev pub invariant-loop-item : goal.invariant-loop-item

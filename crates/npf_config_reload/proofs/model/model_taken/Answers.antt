@@ -1,11 +1,8 @@
-use Rattle.std.proofs.Common.{◌≡◌, List, flat_map, map, ap, ◌∙◌}
-use Rattle.std.proofs.lemmas.Result.{IfOk-weaker}
+use Rattle.std.proofs.{Common.{◌≡◌, List, flat_map, map, ap, ◌∙◌}, lemmas.Result.IfOk-weaker}
 use Rattle.npf_types.specs.declared.name.Name.{Name}
 use Rattle.npf_model.specs.declared.group.Group.{Group}
 use Rattle.npf_config_changes.specs.Rulesets.{rulesets_in}
-use Rattle.npf_config_reload.specs.Before.{again_of, found_by}
-use Rattle.npf_config_reload.specs.Taken.{Again, again_in, first_of, group_taken, ruleset_in}
-use Rattle.npf_config_reload.proofs.TakenLemmas.{same_groups}
+use Rattle.npf_config_reload.{specs.{Before.{again_of, found_by}, Taken.{Again, again_in, first_of, group_taken, ruleset_in}}, proofs.TakenLemmas.same_groups}
 use Rattle.npf_config_reload.proofs.model.model_taken.Goals as goal
 
 pub returns : goal.returns

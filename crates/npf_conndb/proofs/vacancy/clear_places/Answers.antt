@@ -1,5 +1,4 @@
-use Rattle.std.proofs.Common.{◌-◌, ◌/◌, ◌^◌, sym, ◌∙◌, arith}
-use Rattle.std.proofs.lemmas.Nat.{shr_le}
+use Rattle.std.proofs.{Common.{◌-◌, ◌/◌, ◌^◌, sym, ◌∙◌, arith}, lemmas.Nat.shr_le}
 use Rattle.npf_conndb.proofs.VacancyLemmas.{below_lowest_clear, bit_shifted}
 use Rattle.npf_conndb.proofs.vacancy.clear_places.Goals as goal
 

@@ -1,5 +1,4 @@
-use Rattle.std.proofs.Common.{arith}
-use Rattle.std.proofs.lemmas.Bool.Decides.{Decides-ltb}
+use Rattle.std.proofs.{Common.arith, lemmas.Bool.Decides.Decides-ltb}
 use Rattle.npf_conndb.proofs.vacancy.is_vacant.Goals as goal
 
 pub returns-clause-vacant : goal.returns-clause-vacant

@@ -1,8 +1,6 @@
-use Rattle.npf_core.specs.History.{IsPrefix}
-use Rattle.npf_core.proofs.HistoryLemmas.{IsPrefix-trans}
-use Rattle.npf_connections_tests.proofs.JoinedLemmas.{begins, stands, stands_on}
+use Rattle.npf_core.{specs.History.IsPrefix, proofs.HistoryLemmas.IsPrefix-trans}
+use Rattle.npf_connections_tests.proofs.{JoinedLemmas.{begins, stands, stands_on}, asking.ask.Goals.{then-starts, else-starts}}
 use Rattle.npf_connections_tests.proofs.asking.ask.Goals as goal
-use Rattle.npf_connections_tests.proofs.asking.ask.Goals.{then-starts, else-starts}
 
 pub returns-clause-asks : goal.returns-clause-asks
 returns-clause-asks g c =

@@ -1,6 +1,5 @@
 use Rattle.std.proofs.Common.{◌≡◌}
-use Rattle.npf_connections.specs.Pass.{all_places}
-use Rattle.npf_connections.specs.Stay.{IsOut}
+use Rattle.npf_connections.specs.{Pass.all_places, Stay.IsOut}
 use Rattle.npf_connections_tests.specs.Sum.{sum_law}
 use Rattle.npf_connections_tests.proofs.crowd.tell_crowds.Given as goal
 

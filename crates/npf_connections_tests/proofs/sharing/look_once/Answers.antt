@@ -1,9 +1,6 @@
 use Rattle.std.proofs.Common.{◌≡◌, [], ◌∷◌, ap, sym, ◌∙◌, subst, arith}
-use Rattle.npf_core.specs.declared.act.Act.TheVariants.{Look}
-use Rattle.npf_core.specs.declared.reply.Reply.TheVariants.{ToLook}
-use Rattle.npf_connections.proofs.AddLemmas.{adds_more}
-use Rattle.npf_connections.specs.Adding.{Adds}
-use Rattle.npf_connections.specs.Pass.{Pass}
+use Rattle.npf_core.specs.declared.{act.Act.TheVariants.Look, reply.Reply.TheVariants.ToLook}
+use Rattle.npf_connections.{proofs.AddLemmas.adds_more, specs.{Adding.Adds, Pass.Pass}}
 use Rattle.npf_connections_tests.proofs.sharing.look_once.Goals as goal
 
 pub returns-clause-did : goal.returns-clause-did

@@ -1,6 +1,5 @@
 use Rattle.std.proofs.Common.{◌≡◌}
-use Rattle.npf_connections.specs.Pass.{all_places}
-use Rattle.npf_connections.specs.Stay.{IsOut}
+use Rattle.npf_connections.specs.{Pass.all_places, Stay.IsOut}
 use Rattle.npf_flow.specs.Flows.{flow_law}
 use Rattle.npf_connsave_tests.proofs.rows.answer_rows.Given as goal
 

@@ -1,5 +1,4 @@
-use Rattle.npf_core.proofs.BuildingLemmas.{claimed_after}
-use Rattle.npf_core.proofs.ClaimedLemmas.{was_claimed, was_not_freed}
+use Rattle.npf_core.proofs.{BuildingLemmas.claimed_after, ClaimedLemmas.{was_claimed, was_not_freed}}
 use Rattle.npf_core.proofs.laws.claimed_law.Goals as goal
 
 pub returns-clause-claimed : goal.returns-clause-claimed

@@ -1,9 +1,6 @@
 use Rattle.std.proofs.Common.{refl}
 use Rattle.npf_ctl_words.specs.CommandLine.{word_texts}
-use Rattle.npf_ctl.specs.Ends.{AnswersWords}
-use Rattle.npf_ctl.specs.Running.{moment}
-use Rattle.npf_ctl.proofs.AnswerLemmas.{said_fault}
-use Rattle.npf_ctl.proofs.FileLemmas.{nothing_put}
+use Rattle.npf_ctl.{specs.{Ends.AnswersWords, Run.moment}, proofs.{AnswerLemmas.said_fault, FileLemmas.nothing_put}}
 use Rattle.npf_ctl.proofs.top.answer.Goals as goal
 
 pub returns-in-Ok-clause-answered : goal.returns-in-Ok-clause-answered

@@ -1,8 +1,6 @@
 use Rattle.std.proofs.Common.{rules, inl, subst}
 use Rattle.npf_ctl_words.specs.CommandLine.{SaysCommand, word_texts}
-use Rattle.npf_ctl.specs.Faults.{MeetsFault}
-use Rattle.npf_ctl.specs.Running.{moment}
-use Rattle.npf_ctl.proofs.FileLemmas.{not_touched, nothing_put, same_as_itself}
+use Rattle.npf_ctl.{specs.{Faults.{LeavesFiles, MeetsFault}, Run.moment}, proofs.FileLemmas.{not_touched, nothing_put, same_as_itself}}
 use Rattle.npf_ctl.proofs.top.do_words.Goals as goal
 
 pub returns-in-Err-Usage-clause-ends : goal.returns-in-Err-Usage-clause-ends
@@ -10,7 +8,8 @@ returns-in-Err-Usage-clause-ends g c =
     MeetsFault.in_words (search rules) (not_touched (moment (g.F.Files.moment c.args.files.now) (g.O.Sink.moment c.args.out.now) (g.C.Connections.view c.args.pass.now)))
 
 pub returns-in-Err-NoMemory-clause-ends : goal.returns-in-Err-NoMemory-clause-ends
-returns-in-Err-NoMemory-clause-ends g c = MeetsFault.in_memory (inl (nothing_put (g.O.Sink.moment c.args.out.now))) (inl (inl (same_as_itself (g.F.Files.moment c.args.files.now).contents)))
+returns-in-Err-NoMemory-clause-ends g c = MeetsFault.in_memory (inl (nothing_put (g.O.Sink.moment c.args.out.now)))
+    (LeavesFiles.unchanged (same_as_itself (g.F.Files.moment c.args.files.now).contents))
 
 pub returns-in-Run-clause-ends : goal.returns-in-Run-clause-ends
 returns-in-Run-clause-ends g c =

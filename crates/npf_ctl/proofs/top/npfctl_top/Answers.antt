@@ -1,6 +1,5 @@
 use Rattle.npf_ctl_words.specs.CommandLine.{word_texts}
-use Rattle.npf_ctl.specs.Running.{moment}
-use Rattle.npf_ctl.proofs.AnswerLemmas.{refuses_usage, was_done, was_kept, was_quiet, was_refused}
+use Rattle.npf_ctl.{specs.Run.moment, proofs.AnswerLemmas.{refuses_usage, was_done, was_kept, was_quiet, was_refused}}
 use Rattle.npf_ctl.proofs.LawLemmas.{does_all, generates_all, refuses_fault}
 use Rattle.npf_ctl.proofs.top.npfctl_top.Goals as goal
 
@@ -57,7 +56,8 @@ returns-clause-refuses g c =
     let new = g.E.Sink.moment c.answer.new.err in
     let texts = word_texts c.args.words.now in
     λ tree fault told must well.
-    refuses_fault texts before after tree told well c.one_command.ensures c.contents_decide-2.ensures c.contents_decide.ensures.files c.contents_decide.ensures.loads c.one_run.ensures.run c.one_run.ensures.load old new c.answer.result fault must c.answer.ensures.answered
+    refuses_fault texts before after tree told well c.one_command.ensures c.contents_decide-2.ensures c.contents_decide.ensures.files c.contents_decide.ensures.loads
+    c.one_run.ensures.run c.one_run.ensures.load old new c.answer.result fault must c.answer.ensures.answered
 
 pub returns-clause-complete : goal.returns-clause-complete
 returns-clause-complete g c =
@@ -67,7 +67,8 @@ returns-clause-complete g c =
     let new = g.E.Sink.moment c.answer.new.err in
     let texts = word_texts c.args.words.now in
     λ tree told can well puts writes.
-    does_all texts before after tree told well c.one_command.ensures c.contents_decide-2.ensures c.contents_decide.ensures.files c.contents_decide.ensures.loads c.one_run.ensures.run c.one_run.ensures.load old new c.answer.result can puts writes c.answer.ensures.answered
+    does_all texts before after tree told well c.one_command.ensures c.contents_decide-2.ensures c.contents_decide.ensures.files c.contents_decide.ensures.loads
+    c.one_run.ensures.run c.one_run.ensures.load old new c.answer.result can puts writes c.answer.ensures.answered
 
 pub returns-clause-quiet : goal.returns-clause-quiet
 returns-clause-quiet g c =

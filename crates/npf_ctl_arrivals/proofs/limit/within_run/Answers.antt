@@ -1,9 +1,6 @@
-use Rattle.std.proofs.Common.{arith}
-use Rattle.std.proofs.lemmas.Bool.{le-leb, lt-leb}
-use Rattle.npf_types.specs.declared.limits.TheConstants.{MAX_BYTES_OF_CAPTURES, MAX_PACKETS}
-use Rattle.npf_ctl_messages.specs.declared.fault.CommandFault.TheVariants.{Many}
-use Rattle.npf_ctl_messages.specs.declared.fault.Quantity.TheVariants.{CaptureBytes, Packets}
-use Rattle.npf_types.specs.Stages.{stops, goes_on}
+use Rattle.std.proofs.{Common.arith, lemmas.Bool.{le-leb, lt-leb}}
+use Rattle.npf_types.specs.{declared.limits.TheConstants.{MAX_BYTES_OF_CAPTURES, MAX_PACKETS}, Stages.{stops, goes_on}}
+use Rattle.npf_ctl_messages.specs.declared.fault.{CommandFault.TheVariants.Many, Quantity.TheVariants.{CaptureBytes, Packets}}
 use Rattle.npf_ctl_arrivals.proofs.GatherLemmas.{asked_no, asked_yes}
 use Rattle.npf_ctl_arrivals.proofs.limit.within_run.Goals as goal
 

@@ -1,5 +1,4 @@
-use Rattle.std.specs.List.Sorted.{IsSortedWithin}
-use Rattle.std.specs.Ordering.{is_lt, nat_cmp}
+use Rattle.std.specs.{List.Sorted.IsSortedWithin, Ordering.{is_lt, nat_cmp}}
 use Rattle.npf_ctl_arrivals.proofs.order.are_in_order.Given as goal
 
 abbrev pub invariant-loop-next : goal.invariant-loop-next

@@ -1,5 +1,4 @@
-use Rattle.std.proofs.Common.{◌≡◌, rules}
-use Rattle.std.proofs.lemmas.Fn.{always_returns_same}
+use Rattle.std.proofs.{Common.{◌≡◌, rules}, lemmas.Fn.always_returns_same}
 use Rattle.npf_ctl_arrivals.proofs.order.by_time.Goals as goal
 
 pub returns-in-Ok : goal.returns-in-Ok

@@ -1,6 +1,5 @@
 use Rattle.std.proofs.Common.{◌≤◌, ◌+◌, ◌<◌, ℕ, suc, List, [], ◌∷◌, length, get_or, drop, length-drop, drop-cons, arith}
-use Rattle.npf_pcap.specs.declared.extent.Extent.{Extent}
-use Rattle.npf_pcap.specs.Extent.{StandApart}
+use Rattle.npf_pcap.specs.{declared.extent.Extent.Extent, Extent.StandApart}
 use Rattle.npf_ctl_arrivals.proofs.trace.cut.Goals as goal
 
 ends_within : (low : ℕ) (extents : List Extent) (high : ℕ) → StandApart low extents high → low ≤ high

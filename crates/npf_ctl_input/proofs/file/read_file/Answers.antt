@@ -1,8 +1,6 @@
 use Rattle.std.proofs.Common.{Ok, Err, length}
 use Rattle.npf_ctl_messages.specs.declared.fault.CommandFault.TheVariants.{Long, Unread}
-use Rattle.npf_ctl_input.specs.File.{whole, longer, failed}
-use Rattle.npf_ctl_input.proofs.FileLemmas.{file_lasts}
-use Rattle.npf_ctl_input.proofs.ReadingLemmas.{meets_around, taken_whole}
+use Rattle.npf_ctl_input.{specs.File.{whole, longer, failed}, proofs.{FileLemmas.file_lasts, ReadingLemmas.{meets_around, taken_whole}}}
 use Rattle.npf_ctl_input.proofs.file.read_file.Goals as goal
 
 pub returns-in-Ok-clause-comes : goal.returns-in-Ok-clause-comes

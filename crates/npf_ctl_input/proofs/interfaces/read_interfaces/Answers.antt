@@ -1,8 +1,6 @@
 use Rattle.std.proofs.Common.{◌≡◌, ℕ, Ok, Err, List, rules, subst, sym}
 use Rattle.npf_types.specs.declared.limits.TheConstants.{MAX_TEXT_BYTES}
-use Rattle.npf_ctl_input.specs.File.{ReadsFile}
-use Rattle.npf_ctl_input.specs.Interfaces.{NamesInterfaces}
-use Rattle.npf_ctl_input.proofs.UnlessLemmas.{goes_on_unless, stops_unless}
+use Rattle.npf_ctl_input.{specs.{File.ReadsFile, Interfaces.NamesInterfaces}, proofs.UnlessLemmas.{goes_on_unless, stops_unless}}
 use Rattle.npf_ctl_input.proofs.interfaces.read_interfaces.Goals as goal
 
 pub returns-in_err-text-in-Some-clause-comes : goal.returns-in_err-text-in-Some-clause-comes

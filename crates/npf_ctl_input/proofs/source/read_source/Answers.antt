@@ -1,9 +1,7 @@
 use Rattle.std.proofs.Common.{◌≡◌, ◌≤◌, ℕ, false, List, length, IsTrue, arith, refl, subst, sym}
 use Rattle.npf_types.specs.declared.limits.TheConstants.{MAX_TEXT_BYTES}
-use Rattle.npf_ctl_script.specs.declared.script.ScriptFault.TheVariants.{BadLine}
-use Rattle.npf_ctl_script.specs.Lines.{IsScript, RefusesScript}
-use Rattle.npf_ctl_input.specs.Source.{BeginsAsCapture, alone, bad_line, longer, scripted}
-use Rattle.npf_ctl_input.proofs.RuleLemmas.{script_fits}
+use Rattle.npf_ctl_script.specs.{declared.script.ScriptFault.TheVariants.BadLine, Lines.{IsScript, RefusesScript}}
+use Rattle.npf_ctl_input.{specs.Source.{BeginsAsCapture, alone, bad_line, longer, scripted}, proofs.RuleLemmas.script_fits}
 use Rattle.npf_ctl_input.proofs.source.read_source.Goals as goal
 
 -- the test said no

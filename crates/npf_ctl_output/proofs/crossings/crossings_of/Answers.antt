@@ -1,9 +1,7 @@
-use Rattle.std.proofs.Common.{rules, ◌≡◌, ◌+◌, ◌++◌, ◌∙◌, List, [], ◌∷◌, take, ap, sym, subst, arith}
-use Rattle.std.proofs.lemmas.List.{take_all, take_more}
+use Rattle.std.proofs.{Common.{rules, ◌≡◌, ◌+◌, ◌++◌, ◌∙◌, List, [], ◌∷◌, take, ap, sym, subst, arith}, lemmas.List.{take_all, take_more}}
 use Rattle.std.proofs.lemmas.Slice.Zip.{all_zipped_more}
 use Rattle.npf_model.specs.declared.iface.Iface.{Iface}
-use Rattle.npf_ctl_output.specs.declared.crossings.Crossings.{Crossings}
-use Rattle.npf_ctl_output.specs.Crossings.{AreCrossingsOf, IsCrossingsOf}
+use Rattle.npf_ctl_output.specs.{declared.crossings.Crossings.Crossings, Crossings.{AreCrossingsOf, IsCrossingsOf}}
 use Rattle.npf_ctl_output.proofs.crossings.crossings_of.Goals as goal
 
 pub loop-iface-preserved : goal.loop-iface-preserved

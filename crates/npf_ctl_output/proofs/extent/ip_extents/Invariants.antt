@@ -1,5 +1,4 @@
-use Rattle.std.proofs.Common.{◌+◌, ◌-◌, ◌≤◌, take, length, vec_len, vec_capacity, All}
-use Rattle.std.specs.List.{AllZip}
+use Rattle.std.{proofs.Common.{◌+◌, ◌-◌, ◌≤◌, take, length, vec_len, vec_capacity, All}, specs.List.AllZip}
 use Rattle.npf_ctl_output.specs.Extents.{EndsInPacket, IsExtentOf}
 use Rattle.npf_ctl_output.proofs.extent.ip_extents.Given as goal
 

@@ -1,6 +1,4 @@
-use Rattle.std.proofs.Common.{◌++◌, ◌∙◌, List, ℕ, ap, subst, append-nil, arith}
-use Rattle.std.proofs.lemmas.List.{drop_all}
-use Rattle.std.proofs.lemmas.Result.{on_ok_weaker}
+use Rattle.std.proofs.{Common.{◌++◌, ◌∙◌, List, ℕ, ap, subst, append-nil, arith}, lemmas.{List.drop_all, Result.on_ok_weaker}}
 use Rattle.npf_outside.specs.Sink.{Appends, AppendsFront}
 use Rattle.npf_report.specs.TotalText.{total_text}
 use Rattle.npf_ctl_output.proofs.report.put_last.Goals as goal

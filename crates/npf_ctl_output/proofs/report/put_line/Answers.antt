@@ -1,5 +1,4 @@
-use Rattle.std.proofs.Common.{◌++◌, ◌∙◌, List, ℕ, OnOk, ap, subst, append-nil, arith}
-use Rattle.std.proofs.lemmas.List.{drop_all}
+use Rattle.std.proofs.{Common.{◌++◌, ◌∙◌, List, ℕ, OnOk, ap, subst, append-nil, arith}, lemmas.List.drop_all}
 use Rattle.npf_types.specs.Name.{name_bytes}
 use Rattle.npf_outside.specs.Sink.{Appends, AppendsFront}
 use Rattle.npf_report.specs.LineText.{line_text}

@@ -1,14 +1,8 @@
-use Rattle.std.proofs.Common.{rules, ◌+◌, List, [], sym, subst, arith}
-use Rattle.std.proofs.lemmas.List.{take_all}
-use Rattle.std.proofs.lemmas.Result.{on_ok_weaker}
+use Rattle.std.proofs.{Common.{rules, ◌+◌, List, [], sym, subst, arith}, lemmas.{List.take_all, Result.on_ok_weaker}}
 use Rattle.npf_engine.specs.declared.outcome.Outcome.{Outcome}
-use Rattle.npf_outside.specs.Sink.{Appends, AppendsFront}
-use Rattle.npf_outside.proofs.SinkLemmas.{IsPutTo-ends, IsPutTo-stops}
-use Rattle.npf_report.specs.TotalText.{total_text, AddsOutcome, CountsOutcomes}
-use Rattle.npf_report.proofs.CountLemmas.{one_counted}
-use Rattle.npf_ctl_output.specs.Crossings.{AreCrossingsOf}
-use Rattle.npf_ctl_output.specs.Report.{report_text}
-use Rattle.npf_ctl_output.proofs.CrossingsLemmas.{as_many}
+use Rattle.npf_outside.{specs.Sink.{Appends, AppendsFront}, proofs.SinkLemmas.{IsPutTo-ends, IsPutTo-stops}}
+use Rattle.npf_report.{specs.TotalText.{total_text, AddsOutcome, CountsOutcomes}, proofs.CountLemmas.one_counted}
+use Rattle.npf_ctl_output.{specs.{Crossings.AreCrossingsOf, Report.report_text}, proofs.CrossingsLemmas.as_many}
 use Rattle.npf_ctl_output.proofs.ReportLemmas.{line_put, line_fails, nothing_put, of_crossed, rest_fails, rest_put}
 use Rattle.npf_ctl_output.proofs.report.put_report.Goals as goal
 
@@ -78,7 +72,8 @@ returns-clause-whole g c =
     let text = report_text ifaces packets outcomes in
     let all = take_all c.loop-place.place outcomes (omega (arith, c.loop-place-test.false, c.requires.count)) in
     let counts = subst (λ (os : List Outcome). CountsOutcomes os c.loop-place.counts) all c.loop-place.invariant.counts in
-    let put = rest_put ifaces packets outcomes old text (total_text outcomes) _ _ c.loop-place.place _ c.loop-place-test.false c.loop-place.invariant.put (c.in_ok-put_last.ensures.whole outcomes counts) c.flush.ensures.stays in
+    let put = rest_put ifaces packets outcomes old text (total_text outcomes) _ _ c.loop-place.place _ c.loop-place-test.false c.loop-place.invariant.put
+    (c.in_ok-put_last.ensures.whole outcomes counts) c.flush.ensures.stays in
     on_ok_weaker c.flush.result (λ flushed. IsPutTo-ends old _ text put) c.flush.ensures.flushed
 
 pub returns-clause-front : goal.returns-clause-front
@@ -91,4 +86,5 @@ returns-clause-front g c =
     let all = take_all c.loop-place.place outcomes (omega (arith, c.loop-place-test.false, c.requires.count)) in
     let counts = subst (λ (os : List Outcome). CountsOutcomes os c.loop-place.counts) all c.loop-place.invariant.counts in
     IsPutTo-stops old _ text []
-    (rest_put ifaces packets outcomes old text (total_text outcomes) _ _ c.loop-place.place _ c.loop-place-test.false c.loop-place.invariant.put (c.in_ok-put_last.ensures.whole outcomes counts) c.flush.ensures.stays)
+    (rest_put ifaces packets outcomes old text (total_text outcomes) _ _ c.loop-place.place _ c.loop-place-test.false c.loop-place.invariant.put
+    (c.in_ok-put_last.ensures.whole outcomes counts) c.flush.ensures.stays)

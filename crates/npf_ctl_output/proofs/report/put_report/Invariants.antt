@@ -1,7 +1,6 @@
 use Rattle.std.proofs.Common.{◌≤◌, take}
 use Rattle.npf_report.specs.TotalText.{total_text, CountsOutcomes}
-use Rattle.npf_ctl_output.specs.Report.{report_text}
-use Rattle.npf_ctl_output.proofs.ReportLemmas.{IsLeft}
+use Rattle.npf_ctl_output.{specs.Report.report_text, proofs.ReportLemmas.IsLeft}
 use Rattle.npf_ctl_output.proofs.report.put_report.Given as goal
 
 abbrev pub invariant-loop-place : goal.invariant-loop-place

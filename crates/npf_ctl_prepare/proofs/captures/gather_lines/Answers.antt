@@ -1,13 +1,8 @@
-use Rattle.std.proofs.Common.{◌≡◌, ◌+◌, ℕ, All, Err, List, length, drop, rules, subst, sym}
-use Rattle.std.proofs.lemmas.List.{drop_all}
-use Rattle.std.proofs.lemmas.List.Elements.{All-nil}
+use Rattle.std.proofs.{Common.{◌≡◌, ◌+◌, ℕ, All, Err, List, length, drop, rules, subst, sym}, lemmas.List.{drop_all, Elements.All-nil}}
 use Rattle.npf_ctl_script.specs.declared.script.ScriptLine.{ScriptLine}
-use Rattle.npf_ctl_arrivals.specs.Arrivals.{Gathered}
-use Rattle.npf_ctl_arrivals.specs.Gathering.{gathered_so_far}
-use Rattle.npf_ctl_arrivals.specs.Within.{CrossesOneOf}
+use Rattle.npf_ctl_arrivals.specs.{Arrivals.Gathered, Gathering.gathered_so_far, Within.CrossesOneOf}
 use Rattle.npf_ctl_input.specs.Source.{Scripted}
-use Rattle.npf_ctl_prepare.proofs.GatherLemmas.{GatheredSoFar, all_gathered, gathered_more, gathered_none, gathering_stops}
-use Rattle.npf_ctl_prepare.proofs.LineLemmas.{line_and_rest}
+use Rattle.npf_ctl_prepare.proofs.{GatherLemmas.{GatheredSoFar, all_gathered, gathered_more, gathered_none, gathering_stops}, LineLemmas.line_and_rest}
 use Rattle.npf_ctl_prepare.proofs.captures.gather_lines.Goals as goal
 
 pub loop-line-init : goal.loop-line-init

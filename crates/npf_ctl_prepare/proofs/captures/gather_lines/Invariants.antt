@@ -1,6 +1,5 @@
 use Rattle.std.proofs.Common.{All, drop, length}
-use Rattle.npf_ctl_arrivals.specs.Gathering.{gathered_so_far}
-use Rattle.npf_ctl_arrivals.specs.Within.{CrossesOneOf, IsWithinRun}
+use Rattle.npf_ctl_arrivals.specs.{Gathering.gathered_so_far, Within.{CrossesOneOf, IsWithinRun}}
 use Rattle.npf_ctl_input.specs.Source.{Scripted}
 use Rattle.npf_ctl_prepare.proofs.GatherLemmas.{GatheredSoFar}
 use Rattle.npf_ctl_prepare.proofs.captures.gather_lines.Given as goal

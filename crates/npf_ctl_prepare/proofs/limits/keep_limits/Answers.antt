@@ -2,8 +2,7 @@ use Rattle.std.proofs.Common.{◌≡◌, ◌≤◌, Err, List, ap, length, rules
 use Rattle.npf_types.specs.declared.limits.TheConstants.{MAX_INTERFACES}
 use Rattle.npf_model.specs.declared.iface.Iface.{Iface}
 use Rattle.npf_ctl_schedule.specs.Schedule.{unnumbered}
-use Rattle.npf_ctl_prepare.proofs.LimitLemmas.{captures_over, changes_over, interfaces_over, kept, phases_over}
-use Rattle.npf_ctl_prepare.proofs.LineLemmas.{all_known}
+use Rattle.npf_ctl_prepare.proofs.{LimitLemmas.{captures_over, changes_over, interfaces_over, kept, phases_over}, LineLemmas.all_known}
 use Rattle.npf_ctl_prepare.proofs.limits.keep_limits.Goals as goal
 
 pub returns-in_err-few-clause-comes : goal.returns-in_err-few-clause-comes

@@ -1,8 +1,6 @@
 use Rattle.std.proofs.Common.{◌≡◌, ◌∙◌, ℕ, List, [], ◌∷◌, ◌++◌, ap, codes, rules}
-use Rattle.npf_types.specs.declared.direction.Dir.TheVariants.{In}
-use Rattle.npf_types.specs.Named.{named}
-use Rattle.npf_ctl_script.specs.declared.script.ScriptLine.{ScriptLine}
-use Rattle.npf_ctl_script.specs.declared.script.ScriptLine.TheVariants.{Capture}
+use Rattle.npf_types.specs.{declared.direction.Dir.TheVariants.In, Named.named}
+use Rattle.npf_ctl_script.specs.declared.script.ScriptLine.{ScriptLine, TheVariants.Capture}
 use Rattle.npf_ctl_prepare.proofs.orders.line_of_capture.Goals as goal
 
 pub returns-clause-value : goal.returns-clause-value

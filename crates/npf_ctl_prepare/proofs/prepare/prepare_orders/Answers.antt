@@ -2,14 +2,10 @@ use Rattle.std.proofs.Common.{◌≡◌, ◌+◌, ◌∙◌, ℕ, Err, List, ap,
 use Rattle.npf_ctl_input.proofs.AroundLemmas.{around_first, around_next}
 use Rattle.npf_ruleset.specs.Configuration.{configuration}
 use Rattle.npf_ctl_arrivals.specs.Gathering.{gathered_so_far}
-use Rattle.npf_traffic.specs.declared.packet.Packet.{Packet}
-use Rattle.npf_runner.specs.declared.phase.Phase.{Phase}
-use Rattle.npf_runner.specs.Plays.{AreInOrder, packets_in}
+use Rattle.npf_traffic.specs.{declared.{packet.Packet.Packet, phase.Phase.Phase}, Phases.{AreInOrder, packets_in}}
 use Rattle.npf_ctl_script.specs.declared.script.ScriptLine.{ScriptLine}
 use Rattle.npf_ctl_schedule.specs.Schedule.{changes_in, phases_of, unnumbered}
-use Rattle.npf_ctl_prepare.specs.View.{source_ordered}
-use Rattle.npf_ctl_prepare.proofs.AroundLemmas.{reads_on}
-use Rattle.npf_ctl_prepare.proofs.LineLemmas.{one_line}
+use Rattle.npf_ctl_prepare.{specs.View.source_ordered, proofs.{AroundLemmas.reads_on, LineLemmas.one_line}}
 use Rattle.npf_ctl_prepare.proofs.PrepareLemmas.{captures_end, limits_end, making_end, planned_at_end, plans_with}
 use Rattle.npf_ctl_prepare.proofs.prepare.prepare_orders.Goals as goal
 

@@ -1,8 +1,7 @@
 use Rattle.std.proofs.Common.{◌≡◌, Err, rules}
 use Rattle.npf_ctl_input.proofs.AroundLemmas.{around_first, around_next}
 use Rattle.npf_ruleset.specs.Configuration.{configuration}
-use Rattle.npf_ctl_prepare.specs.View.{names_of, run_plan_of, source_ordered}
-use Rattle.npf_ctl_prepare.proofs.AroundLemmas.{reads_on}
+use Rattle.npf_ctl_prepare.{specs.View.{names_of, run_plan_of, source_ordered}, proofs.AroundLemmas.reads_on}
 use Rattle.npf_ctl_prepare.proofs.PrepareLemmas.{file_ends, interfaces_end, loading_end, run_goes_on, source_ends}
 use Rattle.npf_ctl_prepare.proofs.prepare.prepare_run.Goals as goal
 

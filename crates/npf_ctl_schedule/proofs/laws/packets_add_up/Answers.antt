@@ -1,5 +1,4 @@
-use Rattle.npf_ctl_schedule.specs.Schedule.{phase_parts}
-use Rattle.npf_ctl_schedule.proofs.PhaseLemmas.{phases_add_up}
+use Rattle.npf_ctl_schedule.{specs.Schedule.phase_parts, proofs.PhaseLemmas.phases_add_up}
 use Rattle.npf_ctl_schedule.proofs.laws.packets_add_up.Goals as goal
 
 pub returns : goal.returns

@@ -1,7 +1,5 @@
 use Rattle.std.proofs.Common.{◌+◌, arith}
-use Rattle.npf_ctl_schedule.specs.Schedule.{changes_in, phase_parts}
-use Rattle.npf_ctl_schedule.proofs.PartLemmas.{changes_parted}
-use Rattle.npf_ctl_schedule.proofs.PhaseLemmas.{phases_in_order}
+use Rattle.npf_ctl_schedule.{specs.Schedule.{changes_in, phase_parts}, proofs.{PartLemmas.changes_parted, PhaseLemmas.phases_in_order}}
 use Rattle.npf_ctl_schedule.proofs.laws.publications_are_in_order.Goals as goal
 
 pub returns : goal.returns

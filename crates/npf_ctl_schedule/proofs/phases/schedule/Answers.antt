@@ -1,8 +1,7 @@
 use Rattle.std.proofs.Common.{◌++◌, List, ap, sym}
-use Rattle.npf_runner.specs.declared.phase.Phase.{Phase}
+use Rattle.npf_traffic.specs.declared.phase.Phase.{Phase}
 use Rattle.npf_types.specs.declared.limits.TheConstants.{MAX_CHANGES}
-use Rattle.npf_ctl_schedule.specs.Schedule.{phase_parts, phases_from, unnumbered}
-use Rattle.npf_ctl_schedule.proofs.PartLemmas.{parts_within}
+use Rattle.npf_ctl_schedule.{specs.Schedule.{phase_parts, phases_from, unnumbered}, proofs.PartLemmas.parts_within}
 use Rattle.npf_ctl_schedule.proofs.phases.schedule.Goals as goal
 
 pub loop-at-init : goal.loop-at-init

@@ -1,6 +1,5 @@
 use Rattle.std.proofs.Common.{◌≡◌, ◌≤◌, ◌+◌, ◌++◌, drop}
-use Rattle.npf_ctl_schedule.specs.Schedule.{phase_parts, phases_from, phases_of, unnumbered}
-use Rattle.npf_ctl_schedule.proofs.PartLemmas.{changes_of_parts}
+use Rattle.npf_ctl_schedule.{specs.Schedule.{phase_parts, phases_from, phases_of, unnumbered}, proofs.PartLemmas.changes_of_parts}
 use Rattle.npf_types.specs.declared.limits.TheConstants.{MAX_CHANGES}
 use Rattle.npf_ctl_schedule.proofs.phases.schedule.Given as goal
 

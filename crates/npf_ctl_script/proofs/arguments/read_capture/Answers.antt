@@ -1,8 +1,6 @@
 use Rattle.std.proofs.Common.{List, ℕ, Option, MatchOption, IsTrue, subst, refl, sym, ap, ◌∙◌}
-use Rattle.npf_types.specs.Named.{named}
-use Rattle.npf_types.specs.NameText.{is_name}
-use Rattle.npf_ctl_script.specs.Arguments.{IsFileName}
-use Rattle.npf_ctl_script.specs.Words.{behind_word, leading_word}
+use Rattle.npf_types.specs.{Named.named, NameText.is_name}
+use Rattle.npf_ctl_script.specs.{Arguments.IsFileName, Words.{behind_word, leading_word}}
 use Rattle.npf_ctl_script.proofs.arguments.read_capture.Goals as goal
 
 pub returns : goal.returns

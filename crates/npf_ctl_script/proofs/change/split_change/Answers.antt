@@ -1,6 +1,5 @@
 use Rattle.std.proofs.Common.{List, ℕ, IsTrue, refl, subst, sym, ap, ◌∙◌}
-use Rattle.npf_types.specs.Named.{named}
-use Rattle.npf_types.specs.NameText.{is_name}
+use Rattle.npf_types.specs.{Named.named, NameText.is_name}
 use Rattle.npf_ctl_script.specs.Words.{behind_word, leading_word}
 use Rattle.npf_ctl_script.proofs.change.split_change.Goals as goal
 

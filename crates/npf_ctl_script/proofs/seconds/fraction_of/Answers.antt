@@ -1,5 +1,4 @@
-use Rattle.std.proofs.Common.{ℕ, ◌*◌, ◌<◌, subst, sym, arith}
-use Rattle.std.specs.Str.Parse.{digits_value}
+use Rattle.std.{proofs.Common.{ℕ, ◌*◌, ◌<◌, subst, sym, arith}, specs.Str.Parse.digits_value}
 use Rattle.npf_ctl_script.proofs.NumberLemmas.{below_second, fraction_fits}
 use Rattle.npf_ctl_script.proofs.seconds.fraction_of.Goals as goal
 

@@ -1,7 +1,6 @@
 use Rattle.std.proofs.Common.{rules, Some, None}
 use Rattle.npf_connections.proofs.SaidLemmas.{did_so}
-use Rattle.npf_engine.specs.Connection.{FindsByKey}
-use Rattle.npf_engine.proofs.ConnectionLemmas.{looked, stepped}
+use Rattle.npf_engine.{specs.Connection.FindsByKey, proofs.ConnectionLemmas.{looked, stepped}}
 use Rattle.npf_engine.proofs.connection.find.Goals as goal
 
 pub returns-in_default-clause-does : goal.returns-in_default-clause-does

@@ -1,6 +1,5 @@
 use Rattle.std.proofs.Common.{true, refl, sym, ◌∙◌}
-use Rattle.npf_engine.specs.Gateway.{AsksQuoted}
-use Rattle.npf_engine.proofs.GatewayLemmas.{asked_nothing, asked_quoted, quotes_none}
+use Rattle.npf_engine.{specs.Gateway.AsksQuoted, proofs.GatewayLemmas.{asked_nothing, asked_quoted, quotes_none}}
 use Rattle.npf_engine.proofs.gateway.find_inner.Goals as goal
 
 pub returns-in_default-clause-does : goal.returns-in_default-clause-does

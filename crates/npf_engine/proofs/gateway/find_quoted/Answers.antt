@@ -1,8 +1,6 @@
 use Rattle.std.proofs.Common.{Bool, sym, subst}
 use Rattle.npf_connections.specs.Said.{Does}
-use Rattle.npf_engine.specs.Answer.{arrival_of}
-use Rattle.npf_engine.specs.Gateway.{AsksQuoted}
-use Rattle.npf_engine.proofs.GatewayLemmas.{asked_nothing}
+use Rattle.npf_engine.{specs.{Answer.arrival_of, Gateway.AsksQuoted}, proofs.GatewayLemmas.asked_nothing}
 use Rattle.npf_engine.proofs.gateway.find_quoted.Goals as goal
 
 pub returns-then-not-model-clause-does : goal.returns-then-not-model-clause-does

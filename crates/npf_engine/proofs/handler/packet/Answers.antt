@@ -1,8 +1,6 @@
 use Rattle.std.proofs.Common.{None, [], refl, sym, ◌∙◌}
 use Rattle.npf_connections.proofs.SaidLemmas.{did_nothing}
-use Rattle.npf_engine.specs.Explains.{Explains}
-use Rattle.npf_engine.proofs.HandlerLemmas.{handled}
-use Rattle.npf_engine.proofs.SightLemmas.{turns}
+use Rattle.npf_engine.{specs.Explains.Explains, proofs.{HandlerLemmas.handled, SightLemmas.turns}}
 use Rattle.npf_engine.proofs.handler.packet.Goals as goal
 
 pub returns-in-Skip-clause-handles : goal.returns-in-Skip-clause-handles

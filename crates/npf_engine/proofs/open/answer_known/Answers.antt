@@ -1,7 +1,6 @@
 use Rattle.std.proofs.Common.{refl}
 use Rattle.npf_engine_opening.specs.declared.attempt.Opened.{Opened}
-use Rattle.npf_engine.specs.Explains.{LacksConnection}
-use Rattle.npf_engine.proofs.AnswerLemmas.{tried_known}
+use Rattle.npf_engine.{specs.Explains.LacksConnection, proofs.AnswerLemmas.tried_known}
 use Rattle.npf_engine.proofs.open.answer_known.Goals as goal
 
 pub returns-in-Done-clause-explains : goal.returns-in-Done-clause-explains

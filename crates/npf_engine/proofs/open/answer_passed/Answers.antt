@@ -1,7 +1,6 @@
 use Rattle.std.proofs.Common.{Some, ap, ◌∙◌, rules}
 use Rattle.npf_types.specs.declared.change.Change.{Change}
-use Rattle.npf_engine.specs.Answer.{own_rewriting}
-use Rattle.npf_engine.proofs.AnswerLemmas.{ruled_passed, ruled_tried}
+use Rattle.npf_engine.{specs.Answer.own_rewriting, proofs.AnswerLemmas.{ruled_passed, ruled_tried}}
 use Rattle.npf_engine.proofs.open.answer_passed.Goals as goal
 
 pub returns-then-not-opens_one-clause-does : goal.returns-then-not-opens_one-clause-does

@@ -1,7 +1,6 @@
 use Rattle.std.proofs.Common.{ap, ◌∙◌}
 use Rattle.npf_engine_opening.specs.declared.attempt.Opened.{Opened}
-use Rattle.npf_engine.specs.Explains.{LacksConnection}
-use Rattle.npf_engine.proofs.AnswerLemmas.{tried_open}
+use Rattle.npf_engine.{specs.Explains.LacksConnection, proofs.AnswerLemmas.tried_open}
 use Rattle.npf_engine.proofs.open.answer_tried.Goals as goal
 
 pub returns-in-Open-clause-explains : goal.returns-in-Open-clause-explains

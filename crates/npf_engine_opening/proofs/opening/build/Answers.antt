@@ -1,15 +1,10 @@
 use Rattle.std.proofs.Common.{[], ◌∷◌, ◌++◌, refl}
 use Rattle.npf_types.specs.declared.key.Way.{Way}
-use Rattle.npf_core.specs.History.{state_of}
-use Rattle.npf_core.specs.declared.held.Held.{Held}
+use Rattle.npf_core.specs.{History.state_of, declared.held.Held.Held}
 use Rattle.npf_connections.proofs.SaidLemmas.{did_more, did_so}
 use Rattle.npf_flow.specs.Flows.{flow_law}
-use Rattle.npf_engine_opening.specs.Opening.{Builds}
-use Rattle.npf_engine_opening.specs.Saying.{hold_said, step_said, abandon_said}
-use Rattle.npf_engine_opening.specs.Starting.{packet_key}
-use Rattle.npf_engine_opening.specs.Ways.{is_one_of}
-use Rattle.npf_engine_opening.proofs.SayingLemmas.{did_hold_of, did_end, did_first}
-use Rattle.npf_engine_opening.proofs.WayLemmas.{none_of}
+use Rattle.npf_engine_opening.specs.{Opening.Builds, Saying.{hold_said, step_said, abandon_said}, Start.packet_key, Ways.is_one_of}
+use Rattle.npf_engine_opening.proofs.{SayingLemmas.{did_hold_of, did_end, did_first}, WayLemmas.none_of}
 use Rattle.npf_engine_opening.proofs.opening.build.Goals as goal
 
 pub hold-requires-clause-none : goal.hold-requires-clause-none
@@ -31,7 +26,8 @@ returns-in-NoNode-clause-does g c = record {
   said = abandon_said c.args.id [];
   described = Builds.no_node;
   did = did_more _ _ _ [] (abandon_said c.args.id [])
-      (did_hold_of _ _ c.args.id c.hold.ensures.view c.hold.ensures.sweeps c.key_of-forward.result (packet_key c.args.attempt.now) Way.Forward Held.NoNode c.key_of-forward.ensures c.in-NoNode.ensures.adds)
+      (did_hold_of _ _ c.args.id c.hold.ensures.view c.hold.ensures.sweeps c.key_of-forward.result
+      (packet_key c.args.attempt.now) Way.Forward Held.NoNode c.key_of-forward.ensures c.in-NoNode.ensures.adds)
       (did_end _ _ c.args.id [] (c.in-NoNode.ensures.ways (is_one_of []) c.requires.ways) c.abandon.ensures.adds c.abandon.ensures.view);
 }
 

@@ -1,9 +1,6 @@
 use Rattle.std.proofs.Common.{[], ◌∷◌}
 use Rattle.npf_connections.proofs.SaidLemmas.{did_so}
-use Rattle.npf_engine_opening.specs.Opening.{OpensConnection}
-use Rattle.npf_engine_opening.specs.Saying.{claim_said}
-use Rattle.npf_engine_opening.proofs.RoomLemmas.{builds_with_room}
-use Rattle.npf_engine_opening.proofs.SayingLemmas.{did_first}
+use Rattle.npf_engine_opening.{specs.{Opening.OpensConnection, Saying.claim_said}, proofs.{RoomLemmas.builds_with_room, SayingLemmas.did_first}}
 use Rattle.npf_engine_opening.proofs.opening.open.Goals as goal
 
 pub returns-in_default-clause-opens : goal.returns-in_default-clause-opens

@@ -1,10 +1,6 @@
 use Rattle.std.proofs.Common.{ℕ, Ok, Err, List, [], ◌∷◌, subst}
 use Rattle.npf_types.specs.declared.key.Way.{Way}
-use Rattle.npf_engine_opening.specs.declared.starting.Changes.{Changes}
-use Rattle.npf_engine_opening.specs.Drawing.{Draws}
-use Rattle.npf_engine_opening.specs.Opening.{Translates}
-use Rattle.npf_engine_opening.specs.Saying.{abandon_said}
-use Rattle.npf_engine_opening.specs.Starting.{StartsConnection}
+use Rattle.npf_engine_opening.specs.{declared.start.Changes.Changes, Draw.Draws, Opening.Translates, Saying.abandon_said, Start.StartsConnection}
 use Rattle.npf_engine_opening.proofs.SayingLemmas.{did_end, did_second, does_both}
 use Rattle.npf_engine_opening.proofs.opening.translate.Goals as goal
 

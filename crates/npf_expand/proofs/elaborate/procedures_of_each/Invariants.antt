@@ -1,5 +1,4 @@
-use Rattle.std.proofs.Common.{◌≡◌, take}
-use Rattle.std.specs.List.{flat_map}
+use Rattle.std.{proofs.Common.{◌≡◌, take}, specs.List.flat_map}
 use Rattle.npf_expand.specs.Elaborates.{procedures_of}
 use Rattle.npf_expand.proofs.elaborate.procedures_of_each.Given as goal
 

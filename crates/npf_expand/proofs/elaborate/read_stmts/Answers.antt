@@ -7,11 +7,8 @@ loop-stmt-init c =
     let stmts = c.args.stmts.now in
     let declared = declared_by c.args.declarations.now.source in
     record {
-      left = stmts_start c.args.interfaces.now.list.now declared c.new-state.result stmts c.new-state.ensures.sound c.new-state.ensures.none c.new-state.ensures.met c.new-state.ensures.empty;
+      left = stmts_start c.args.interfaces.now.list.now declared c.new-state.result stmts c.new-state.ensures.none c.new-state.ensures.met c.new-state.ensures.empty;
     }
-
-pub step-requires : goal.step-requires
-step-requires c = c.loop-stmt.invariant.left.sound
 
 pub loop-stmt-preserved : goal.loop-stmt-preserved
 loop-stmt-preserved c =

@@ -1,5 +1,4 @@
-use Rattle.std.proofs.Common.{◌≡◌, take}
-use Rattle.std.specs.List.{flat_map}
+use Rattle.std.{proofs.Common.{◌≡◌, take}, specs.List.flat_map}
 use Rattle.npf_expand.specs.Table.{tables_of}
 use Rattle.npf_expand.proofs.elaborate.tables_of_each.Given as goal
 

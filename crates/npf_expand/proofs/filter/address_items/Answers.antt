@@ -1,11 +1,5 @@
-use Rattle.std.proofs.Common.{List, ℕ, Some, sym, ap, ◌∙◌}
-use Rattle.std.specs.List.{flat_map}
-use Rattle.std.specs.Option.{option_map}
-use Rattle.std.proofs.lemmas.List.Folds.{flat_map-map}
-use Rattle.npf_expand_values.specs.Address.{items_of}
-use Rattle.npf_expand_values.specs.Atom.{kept_atom}
-use Rattle.npf_expand_values.specs.Scope.{declared_of_scope, env_of_scope, ifaces_of_scope}
-use Rattle.npf_expand_values.specs.Variable.{spliced}
+use Rattle.std.{proofs.{Common.{List, ℕ, Some, sym, ap, ◌∙◌}, lemmas.List.Folds.flat_map-map}, specs.{List.flat_map, Option.option_map}}
+use Rattle.npf_expand_values.specs.{Address.items_of, Atom.kept_atom, Scope.{declared_of_scope, env_of_scope, ifaces_of_scope}, Variable.spliced}
 use Rattle.npf_expand.proofs.filter.address_items.Goals as goal
 
 pub returns-in_ok-items-in-Some : goal.returns-in_ok-items-in-Some

@@ -1,9 +1,5 @@
-use Rattle.std.proofs.Common.{Some, ap, ◌∙◌}
-use Rattle.std.specs.List.{filter_map}
-use Rattle.npf_expand_values.specs.Atom.{kept_atom}
-use Rattle.npf_expand_values.specs.Port.{atom_ports}
-use Rattle.npf_expand_values.specs.Scope.{env_of_scope, ifaces_of_scope}
-use Rattle.npf_expand_values.specs.Variable.{spliced}
+use Rattle.std.{proofs.Common.{Some, ap, ◌∙◌}, specs.List.filter_map}
+use Rattle.npf_expand_values.specs.{Atom.kept_atom, Port.atom_ports, Scope.{env_of_scope, ifaces_of_scope}, Variable.spliced}
 use Rattle.npf_expand_values.proofs.KeptLemmas.{filter_map-mapped}
 use Rattle.npf_expand.proofs.filter.listed_ports.Goals as goal
 

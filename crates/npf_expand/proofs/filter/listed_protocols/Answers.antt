@@ -1,8 +1,5 @@
-use Rattle.std.proofs.Common.{ap, ◌∙◌}
-use Rattle.std.specs.List.{filter_map}
-use Rattle.npf_expand_values.specs.Atom.{kept_atom}
-use Rattle.npf_expand_values.specs.Protocol.{protocol_of}
-use Rattle.npf_expand_values.proofs.KeptLemmas.{filter_map-mapped}
+use Rattle.std.{proofs.Common.{ap, ◌∙◌}, specs.List.filter_map}
+use Rattle.npf_expand_values.{specs.{Atom.kept_atom, Protocol.protocol_of}, proofs.KeptLemmas.filter_map-mapped}
 use Rattle.npf_expand.proofs.filter.listed_protocols.Goals as goal
 
 pub returns : goal.returns

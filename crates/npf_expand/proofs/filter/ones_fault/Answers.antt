@@ -1,8 +1,6 @@
 use Rattle.std.proofs.Common.{ap, sym, ◌∙◌}
-use Rattle.npf_faults.specs.First.{earlier, first_fault}
-use Rattle.npf_faults.proofs.FirstLemmas.{each_end, each_step}
-use Rattle.npf_expand_values.specs.Scope.{env_of_scope}
-use Rattle.npf_expand_values.specs.Protocol.{protocol_faults}
+use Rattle.npf_faults.{specs.First.{earlier, first_fault}, proofs.FirstLemmas.{each_end, each_step}}
+use Rattle.npf_expand_values.specs.{Scope.env_of_scope, Protocol.protocol_faults}
 use Rattle.npf_expand.proofs.filter.ones_fault.Goals as goal
 
 pub loop-one-preserved : goal.loop-one-preserved

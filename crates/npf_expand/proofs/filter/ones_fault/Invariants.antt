@@ -1,8 +1,6 @@
-use Rattle.std.proofs.Common.{◌≡◌, drop}
-use Rattle.std.specs.List.{flat_map}
+use Rattle.std.{proofs.Common.{◌≡◌, drop}, specs.List.flat_map}
 use Rattle.npf_faults.specs.First.{earlier, first_fault}
-use Rattle.npf_expand_values.specs.Scope.{env_of_scope}
-use Rattle.npf_expand_values.specs.Protocol.{protocol_faults}
+use Rattle.npf_expand_values.specs.{Scope.env_of_scope, Protocol.protocol_faults}
 use Rattle.npf_expand.proofs.filter.ones_fault.Given as goal
 
 abbrev pub invariant-loop-one : goal.invariant-loop-one

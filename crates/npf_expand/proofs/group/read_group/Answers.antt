@@ -1,7 +1,6 @@
 use Rattle.std.proofs.Common.{◌∙◌}
 use Rattle.npf_expand_values.specs.Scope.{declared_of_scope, env_of_scope, ifaces_of_scope}
-use Rattle.npf_expand.specs.Group.{head_faults, items_elements}
-use Rattle.npf_expand.proofs.StepLemmas.{group_is, group_met}
+use Rattle.npf_expand.{specs.Group.{head_faults, items_elements}, proofs.StepLemmas.{group_is, group_met}}
 use Rattle.npf_expand.proofs.group.read_group.Goals as goal
 
 pub returns-clause-met : goal.returns-clause-met

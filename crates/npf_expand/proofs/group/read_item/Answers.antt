@@ -1,15 +1,13 @@
 use Rattle.std.proofs.Common.{◌++◌, ◌∷◌, [], sym, ap, subst, ◌∙◌}
-use Rattle.npf_syntax.specs.declared.group.Item.{Item as WrittenItem}
+use Rattle.npf_syntax.specs.declared.group.ItemTree.{ItemTree as WrittenItem}
 use Rattle.npf_model.specs.declared.group.Item.{Item}
 use Rattle.npf_expand_values.specs.Scope.{declared_of_scope, env_of_scope, ifaces_of_scope}
-use Rattle.npf_expand.specs.Group.{item_elements, item_faults, item_of_tree}
-use Rattle.npf_expand.specs.Meets.{Meets}
-use Rattle.npf_expand.specs.Rule.{filter_count, passing_faults, rule_faults}
+use Rattle.npf_expand.specs.{Group.{item_elements, item_faults, item_of_tree}, Meets.Meets, Rule.{filter_count, passing_faults, rule_faults}}
 use Rattle.npf_expand.proofs.StepLemmas.{few_gathered}
 use Rattle.npf_expand.proofs.group.read_item.Goals as goal
 
-pub add_rule-requires-clause-few : goal.add_rule-requires-clause-few
-add_rule-requires-clause-few c =
+pub add_rule-requires : goal.add_rule-requires
+add_rule-requires c =
     let scope = c.args.scope.now in
     let rule = c.in-Rule.rule in
     let faults = rule_faults (ifaces_of_scope scope) (env_of_scope scope) rule in

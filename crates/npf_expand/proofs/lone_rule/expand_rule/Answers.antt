@@ -1,6 +1,5 @@
 use Rattle.std.proofs.Common.{◌≡◌, IfOk, List, subst, ◌∙◌}
-use Rattle.npf_model.specs.declared.iface.Iface.{Iface}
-use Rattle.npf_model.specs.Count.{elements_of}
+use Rattle.npf_model.specs.{declared.iface.Iface.Iface, Count.elements_of}
 use Rattle.npf_expand.specs.LoneRule.{elements_alone}
 use Rattle.npf_expand.proofs.lone_rule.expand_rule.Goals as goal
 

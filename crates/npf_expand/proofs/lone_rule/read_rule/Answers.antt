@@ -1,27 +1,21 @@
-use Rattle.std.proofs.Common.{sym, ap, ◌∙◌}
-use Rattle.std.proofs.Math.Path.{fun_ext}
-use Rattle.npf_faults.specs.First.{first_fault}
-use Rattle.npf_faults.proofs.FirstLemmas.{is_first_fault, no_first_fault}
-use Rattle.npf_expand_values.specs.Atom.{Env}
-use Rattle.npf_expand_values.specs.Declarations.{Declared}
-use Rattle.npf_expand_values.specs.Source.{declared_by, declared_of}
-use Rattle.npf_expand.specs.LoneRule.{faults_alone, rule_alone}
-use Rattle.npf_expand.specs.Rule.{rule_faults, rule_of_tree}
-use Rattle.npf_expand.proofs.ElementLemmas.{lone_elements}
+use Rattle.std.proofs.{Common.{sym, ap, ◌∙◌}, Math.Path.fun_ext}
+use Rattle.npf_faults.{specs.First.first_fault, proofs.FirstLemmas.{is_first_fault, no_first_fault}}
+use Rattle.npf_expand_values.specs.{Atom.Env, Declarations.Declared, Source.{declared_by, declared_of}}
+use Rattle.npf_expand.{specs.{LoneRule.{faults_alone, rule_alone}, Rule.{rule_faults, rule_of_tree}}, proofs.ElementLemmas.lone_elements}
 use Rattle.npf_expand.proofs.lone_rule.read_rule.Goals as goal
 
 pub returns-in-Some-clause-refused : goal.returns-in-Some-clause-refused
 returns-in-Some-clause-refused c =
     let tree = c.args.tree.now in
     let ifaces = c.args.interfaces.now.list.now in
-    let told = c.rule_fault.ensures ∙ ap (λ (env : Env). first_fault (rule_faults ifaces env tree)) (fun_ext c.new-variables.ensures.none) in
+    let told = c.rule_fault.ensures ∙ ap (λ (env : Env). first_fault (rule_faults ifaces env tree)) (fun_ext c.new-variables.ensures) in
     is_first_fault (faults_alone tree ifaces) c.in-Some.fault (sym told ∙ c.in-Some.is)
 
 pub returns-clause-ok : goal.returns-clause-ok
 returns-clause-ok c =
     let tree = c.args.tree.now in
     let ifaces = c.args.interfaces.now.list.now in
-    let same = fun_ext c.new-variables.ensures.none in
+    let same = fun_ext c.new-variables.ensures in
     let told = c.rule_fault.ensures ∙ ap (λ (env : Env). first_fault (rule_faults ifaces env tree)) same in
     let declared = declared_by c.in_ok-declarations.declarations.source in
     record {

@@ -1,5 +1,4 @@
-use Rattle.std.proofs.Common.{◌≡◌, ◌+◌, ◌-◌, ◌∷◌, bit_or, drop, get_or, sym, ap, ◌∙◌, arith}
-use Rattle.std.proofs.lemmas.List.{drop_more}
+use Rattle.std.proofs.{Common.{◌≡◌, ◌+◌, ◌-◌, ◌∷◌, bit_or, drop, get_or, sym, ap, ◌∙◌, arith}, lemmas.List.drop_more}
 use Rattle.npf_expand.specs.Rule.{flag_bit, flag_bits}
 use Rattle.npf_expand.proofs.rule.flag_bits.Goals as goal
 

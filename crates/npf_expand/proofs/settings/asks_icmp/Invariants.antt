@@ -1,6 +1,4 @@
-use Rattle.std.proofs.Common.{◌≡◌, codes, drop}
-use Rattle.std.specs.List.{flat_map, list_any}
-use Rattle.std.specs.Str.{bytes_eq}
+use Rattle.std.{proofs.Common.{◌≡◌, codes, drop}, specs.{List.{flat_map, list_any}, Str.bytes_eq}}
 use Rattle.npf_expand.specs.Settings.{algs_in, asks_icmp}
 use Rattle.npf_expand.proofs.settings.asks_icmp.Given as goal
 

@@ -1,5 +1,4 @@
-use Rattle.std.proofs.Common.{◌≡◌, drop}
-use Rattle.std.specs.List.{flat_map}
+use Rattle.std.{proofs.Common.{◌≡◌, drop}, specs.List.flat_map}
 use Rattle.npf_model.specs.Settings.{with_settings}
 use Rattle.npf_expand.specs.Settings.{settings_in, settings_of}
 use Rattle.npf_expand.proofs.settings.settings_of.Given as goal

@@ -1,7 +1,6 @@
 use Rattle.std.proofs.Common.{◌+◌, subst, sym, take, map}
 use Rattle.npf_types.specs.AddressText.{IsAddressText}
-use Rattle.npf_expand_interfaces.specs.IfaceFile.{Each}
-use Rattle.npf_expand_interfaces.proofs.IfaceFileLemmas.{not_read, read_more}
+use Rattle.npf_expand_interfaces.{specs.IfaceFile.Each, proofs.IfaceFileLemmas.{not_read, read_more}}
 use Rattle.npf_expand_interfaces.proofs.iface_file.addresses.Goals as goal
 
 pub returns-in_default : goal.returns-in_default

@@ -1,6 +1,5 @@
 use Rattle.std.proofs.Common.{◌≤◌, ◌+◌, List, ℕ, length, take, ◌++◌, ◌∷◌, [], subst, refl, sym, ap, ◌∙◌, rules, tests, arith}
-use Rattle.std.proofs.lemmas.List.{length_push, take_all, map-append}
-use Rattle.std.proofs.lemmas.Iterator.Consumers.{YieldsList-turn, YieldsList-end}
+use Rattle.std.proofs.lemmas.{List.{length_push, take_all, map-append}, Iterator.Consumers.{YieldsList-turn, YieldsList-end}}
 use Rattle.std.proofs.lemmas.Iterator.Splits.{YieldsList-from_slice_split}
 use Rattle.npf_model.specs.declared.iface.Iface.{Iface}
 use Rattle.npf_expand_interfaces.specs.IfaceFile.{ends_line, iface_names, line_words, file_lines, AreInterfaces, IsIfaceLine, RefusesIfaces}
@@ -9,7 +8,8 @@ use Rattle.npf_expand_interfaces.proofs.iface_file.read_ifaces.Goals as goal
 
 pub overflow_add-at-in-loop-line : goal.overflow_add-at-in-loop-line
 overflow_add-at-in-loop-line c =
-    let t = YieldsList-turn (YieldsList-from_slice_split _ ends_line c.args.text.now (cc) (cc) (cc) (λ x b q k. search (rules, tests))) c.loop-line.yielded _ c.loop-line.yielded_by _ _ c.in-Some.line c.in-Some.is c.next.ensures.steps in
+    let t = YieldsList-turn (YieldsList-from_slice_split _ ends_line c.args.text.now (cc) (cc) (cc)
+    (λ x b q k. search (rules, tests))) c.loop-line.yielded _ c.loop-line.yielded_by _ _ c.in-Some.line c.in-Some.is c.next.ensures.steps in
     let all = file_lines c.args.text.now in
     let n = length c.loop-line.yielded in
     let line = c.in-Some.line.now in
@@ -19,7 +19,8 @@ overflow_add-at-in-loop-line c =
 
 pub returns-then-not-branch-clause-err : goal.returns-then-not-branch-clause-err
 returns-then-not-branch-clause-err c =
-    let t = YieldsList-turn (YieldsList-from_slice_split _ ends_line c.args.text.now (cc) (cc) (cc) (λ x b q k. search (rules, tests))) c.loop-line.yielded _ c.loop-line.yielded_by _ _ c.in-Some.line c.in-Some.is c.next.ensures.steps in
+    let t = YieldsList-turn (YieldsList-from_slice_split _ ends_line c.args.text.now (cc) (cc) (cc)
+    (λ x b q k. search (rules, tests))) c.loop-line.yielded _ c.loop-line.yielded_by _ _ c.in-Some.line c.in-Some.is c.next.ensures.steps in
     let all = file_lines c.args.text.now in
     let n = length c.loop-line.yielded in
     let line = c.in-Some.line.now in
@@ -32,7 +33,8 @@ returns-then-not-branch-clause-err c =
 
 pub returns-in-Bad-clause-err : goal.returns-in-Bad-clause-err
 returns-in-Bad-clause-err c =
-    let t = YieldsList-turn (YieldsList-from_slice_split _ ends_line c.args.text.now (cc) (cc) (cc) (λ x b q k. search (rules, tests))) c.loop-line.yielded _ c.loop-line.yielded_by _ _ c.in-Some.line c.in-Some.is c.next.ensures.steps in
+    let t = YieldsList-turn (YieldsList-from_slice_split _ ends_line c.args.text.now (cc) (cc) (cc)
+    (λ x b q k. search (rules, tests))) c.loop-line.yielded _ c.loop-line.yielded_by _ _ c.in-Some.line c.in-Some.is c.next.ensures.steps in
     let all = file_lines c.args.text.now in
     let n = length c.loop-line.yielded in
     let line = c.in-Some.line.now in
@@ -43,7 +45,8 @@ returns-in-Bad-clause-err c =
 
 pub loop-line-preserved-in-Blank : goal.loop-line-preserved-in-Blank
 loop-line-preserved-in-Blank c =
-    let t = YieldsList-turn (YieldsList-from_slice_split _ ends_line c.args.text.now (cc) (cc) (cc) (λ x b q k. search (rules, tests))) c.loop-line.yielded _ c.loop-line.yielded_by _ _ c.in-Some.line c.in-Some.is c.next.ensures.steps in
+    let t = YieldsList-turn (YieldsList-from_slice_split _ ends_line c.args.text.now (cc) (cc) (cc)
+    (λ x b q k. search (rules, tests))) c.loop-line.yielded _ c.loop-line.yielded_by _ _ c.in-Some.line c.in-Some.is c.next.ensures.steps in
     let all = file_lines c.args.text.now in
     let n = length c.loop-line.yielded in
     let line = c.in-Some.line.now in
@@ -61,7 +64,8 @@ loop-line-preserved-in-Blank c =
 
 pub loop-line-preserved : goal.loop-line-preserved
 loop-line-preserved c =
-    let t = YieldsList-turn (YieldsList-from_slice_split _ ends_line c.args.text.now (cc) (cc) (cc) (λ x b q k. search (rules, tests))) c.loop-line.yielded _ c.loop-line.yielded_by _ _ c.in-Some.line c.in-Some.is c.next.ensures.steps in
+    let t = YieldsList-turn (YieldsList-from_slice_split _ ends_line c.args.text.now (cc) (cc) (cc)
+    (λ x b q k. search (rules, tests))) c.loop-line.yielded _ c.loop-line.yielded_by _ _ c.in-Some.line c.in-Some.is c.next.ensures.steps in
     let all = file_lines c.args.text.now in
     let n = length c.loop-line.yielded in
     let line = c.in-Some.line.now in
@@ -84,6 +88,7 @@ loop-line-preserved c =
 
 pub returns-clause-ok : goal.returns-clause-ok
 returns-clause-ok c =
-    let e = YieldsList-end (YieldsList-from_slice_split _ ends_line c.args.text.now (cc) (cc) (cc) (λ x b q k. search (rules, tests))) c.loop-line.yielded _ c.loop-line.yielded_by _ _ c.in-None.is c.next.ensures.steps in
+    let e = YieldsList-end (YieldsList-from_slice_split _ ends_line c.args.text.now (cc) (cc) (cc)
+    (λ x b q k. search (rules, tests))) c.loop-line.yielded _ c.loop-line.yielded_by _ _ c.in-None.is c.next.ensures.steps in
     subst (AreInterfaces (file_lines c.args.text.now)) (sym c.of_vec.ensures)
     (subst (λ (ls : List (List ℕ)). AreInterfaces ls c.loop-line.ifaces.items) (take_all (length c.loop-line.yielded) (file_lines c.args.text.now) (omega (arith, e.1))) c.loop-line.invariant.good)

@@ -1,7 +1,6 @@
 use Rattle.std.proofs.Common.{◌≡◌, length, take}
 use Rattle.npf_types.specs.declared.name.Name.{Name}
-use Rattle.npf_expand_interfaces.specs.IfaceFile.{file_lines, bytes_of_lines, iface_names, AreInterfaces}
-use Rattle.npf_expand_interfaces.proofs.IfaceFileLemmas.{has_name}
+use Rattle.npf_expand_interfaces.{specs.IfaceFile.{file_lines, bytes_of_lines, iface_names, AreInterfaces}, proofs.IfaceFileLemmas.has_name}
 use Rattle.npf_expand_interfaces.proofs.iface_file.read_ifaces.Given as goal
 
 abbrev pub invariant-loop-line : goal.invariant-loop-line

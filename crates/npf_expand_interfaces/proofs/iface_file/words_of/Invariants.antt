@@ -1,5 +1,4 @@
-use Rattle.std.proofs.Common.{◌≡◌, length, map, take}
-use Rattle.std.specs.List.{filter, slice_split}
+use Rattle.std.{proofs.Common.{◌≡◌, length, map, take}, specs.List.{filter, slice_split}}
 use Rattle.npf_expand_interfaces.specs.IfaceFile.{has_some, is_space}
 use Rattle.npf_expand_interfaces.proofs.iface_file.words_of.Given as goal
 

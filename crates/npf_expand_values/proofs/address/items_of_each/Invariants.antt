@@ -1,8 +1,5 @@
-use Rattle.std.proofs.Common.{◌≡◌, take}
-use Rattle.std.specs.List.{flat_map}
-use Rattle.npf_expand_values.specs.Address.{items_of}
-use Rattle.npf_expand_values.specs.Atom.{kept_atom}
-use Rattle.npf_expand_values.specs.Source.{declared_by}
+use Rattle.std.{proofs.Common.{◌≡◌, take}, specs.List.flat_map}
+use Rattle.npf_expand_values.specs.{Address.items_of, Atom.kept_atom, Source.declared_by}
 use Rattle.npf_expand_values.proofs.address.items_of_each.Given as goal
 
 abbrev pub invariant-loop-atom : goal.invariant-loop-atom

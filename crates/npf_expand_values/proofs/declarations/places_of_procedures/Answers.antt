@@ -1,8 +1,6 @@
-use Rattle.std.proofs.Common.{List, ℕ, ◌++◌, ◌∷◌, [], map, subst, take, arith}
-use Rattle.std.proofs.lemmas.List.{length_push}
+use Rattle.std.proofs.{Common.{List, ℕ, ◌++◌, ◌∷◌, [], map, subst, take, arith}, lemmas.List.length_push}
 use Rattle.npf_model.specs.declared.procedure.Procedure.{Procedure}
-use Rattle.npf_expand_values.specs.Place.{ArePlaces}
-use Rattle.npf_expand_values.proofs.PlaceLemmas.{names_more}
+use Rattle.npf_expand_values.{specs.Place.ArePlaces, proofs.PlaceLemmas.names_more}
 use Rattle.npf_expand_values.proofs.declarations.places_of_procedures.Goals as goal
 
 pub loop-procedure-preserved : goal.loop-procedure-preserved

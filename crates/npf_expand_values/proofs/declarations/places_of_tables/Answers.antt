@@ -1,9 +1,7 @@
-use Rattle.std.proofs.Common.{List, ℕ, ◌++◌, ◌∷◌, [], map, subst, take, arith}
-use Rattle.std.proofs.lemmas.List.{length_push}
+use Rattle.std.proofs.{Common.{List, ℕ, ◌++◌, ◌∷◌, [], map, subst, take, arith}, lemmas.List.length_push}
 use Rattle.npf_types.specs.Name.{name_bytes}
 use Rattle.npf_model.specs.declared.table.TableDecl.{TableDecl}
-use Rattle.npf_expand_values.specs.Place.{ArePlaces}
-use Rattle.npf_expand_values.proofs.PlaceLemmas.{names_more}
+use Rattle.npf_expand_values.{specs.Place.ArePlaces, proofs.PlaceLemmas.names_more}
 use Rattle.npf_expand_values.proofs.declarations.places_of_tables.Goals as goal
 
 pub loop-table-preserved : goal.loop-table-preserved

@@ -1,7 +1,5 @@
 use Rattle.std.proofs.Common.{subst, sym, arith}
-use Rattle.npf_expand_values.specs.Declarations.{procedure_name}
-use Rattle.npf_expand_values.specs.Place.{ArePlaces}
-use Rattle.npf_expand_values.proofs.KeptLemmas.{flat_map-more}
+use Rattle.npf_expand_values.{specs.{Declarations.procedure_name, Place.ArePlaces}, proofs.KeptLemmas.flat_map-more}
 use Rattle.npf_expand_values.proofs.declarations.procedure_places.Goals as goal
 
 pub loop-stmt-preserved : goal.loop-stmt-preserved

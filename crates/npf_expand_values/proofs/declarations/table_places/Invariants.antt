@@ -1,6 +1,5 @@
 use Rattle.std.proofs.Common.{◌≤◌, take}
-use Rattle.npf_expand_values.specs.Declarations.{table_names}
-use Rattle.npf_expand_values.specs.Place.{ArePlaces}
+use Rattle.npf_expand_values.specs.{Declarations.table_names, Place.ArePlaces}
 use Rattle.npf_expand_values.proofs.declarations.table_places.Given as goal
 
 abbrev pub invariant-loop-stmt : goal.invariant-loop-stmt

@@ -1,5 +1,4 @@
-use Rattle.std.proofs.Common.{◌≡◌, map, take}
-use Rattle.std.specs.List.{filter}
+use Rattle.std.{proofs.Common.{◌≡◌, map, take}, specs.List.filter}
 use Rattle.npf_expand_values.specs.Parted.{is_v4, is_v6}
 use Rattle.npf_expand_values.proofs.iface.families_of.Given as goal
 

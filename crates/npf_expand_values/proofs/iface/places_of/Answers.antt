@@ -1,10 +1,7 @@
-use Rattle.std.proofs.Common.{◌++◌, ◌∷◌, [], subst, take, arith}
-use Rattle.std.proofs.lemmas.List.{length_push}
+use Rattle.std.proofs.{Common.{◌++◌, ◌∷◌, [], subst, take, arith}, lemmas.List.length_push}
 use Rattle.npf_types.specs.Name.{name_bytes}
 use Rattle.npf_model.specs.declared.iface.Iface.{Iface}
-use Rattle.npf_expand_values.specs.Parted.{iface_texts}
-use Rattle.npf_expand_values.specs.Place.{ArePlaces}
-use Rattle.npf_expand_values.proofs.PlaceLemmas.{names_more}
+use Rattle.npf_expand_values.{specs.{Parted.iface_texts, Place.ArePlaces}, proofs.PlaceLemmas.names_more}
 use Rattle.npf_expand_values.proofs.iface.places_of.Goals as goal
 
 pub loop-iface-preserved : goal.loop-iface-preserved

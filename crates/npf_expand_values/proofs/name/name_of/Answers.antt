@@ -1,5 +1,4 @@
-use Rattle.std.proofs.Common.{sym, ◌∙◌, true≢false}
-use Rattle.std.proofs.lemmas.Bool.{false_from_ne_true}
+use Rattle.std.proofs.{Common.{sym, ◌∙◌, true≢false}, lemmas.Bool.false_from_ne_true}
 use Rattle.npf_types.specs.NameText.{is_name}
 use Rattle.npf_expand_values.proofs.NameLemmas.{no_name}
 use Rattle.npf_expand_values.proofs.name.name_of.Goals as goal

@@ -1,7 +1,5 @@
 use Rattle.std.proofs.Common.{arith}
-use Rattle.npf_flow.specs.Flows.{accepts, opening_flow}
-use Rattle.npf_flow.proofs.FlowLemmas.{went_on, moved_goes_on, passed_moves}
-use Rattle.npf_flow.proofs.TimeoutLemmas.{not_due}
+use Rattle.npf_flow.{specs.Flows.{accepts, opening_flow}, proofs.{FlowLemmas.{went_on, moved_goes_on, passed_moves}, TimeoutLemmas.not_due}}
 use Rattle.npf_flow.proofs.laws.due_by_idle_time.Goals as goal
 
 pub returns-clause-last : goal.returns-clause-last

@@ -1,5 +1,4 @@
-use Rattle.npf_flow.proofs.FlowLemmas.{last_rises}
-use Rattle.npf_flow.proofs.RunLemmas.{last_is_latest}
+use Rattle.npf_flow.proofs.{FlowLemmas.last_rises, RunLemmas.last_is_latest}
 use Rattle.npf_flow.proofs.laws.last_never_falls.Goals as goal
 
 pub returns-clause-packet : goal.returns-clause-packet

@@ -1,6 +1,4 @@
-use Rattle.npf_flow.specs.Flows.{accepts}
-use Rattle.npf_flow.proofs.FlowLemmas.{unmoved_stays, not_passed}
-use Rattle.npf_flow.proofs.RunLemmas.{no_trace}
+use Rattle.npf_flow.{specs.Flows.accepts, proofs.{FlowLemmas.{unmoved_stays, not_passed}, RunLemmas.no_trace}}
 use Rattle.npf_flow.proofs.laws.refused_leaves_flow.Goals as goal
 
 pub returns-clause-packet : goal.returns-clause-packet

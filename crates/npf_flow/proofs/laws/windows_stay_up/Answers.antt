@@ -1,7 +1,4 @@
-use Rattle.npf_flow.specs.Flows.{opening_flow}
-use Rattle.npf_flow.specs.Run.{flow_after}
-use Rattle.npf_flow.proofs.FlowLemmas.{quiet_opening, up_next}
-use Rattle.npf_flow.proofs.RunLemmas.{quiet_after}
+use Rattle.npf_flow.{specs.{Flows.opening_flow, Run.flow_after}, proofs.{FlowLemmas.{quiet_opening, up_next}, RunLemmas.quiet_after}}
 use Rattle.npf_flow.proofs.laws.windows_stay_up.Goals as goal
 
 pub returns-clause-quiet : goal.returns-clause-quiet

@@ -1,5 +1,4 @@
-use Rattle.std.proofs.Common.{◌≡◌, ◌≤◌, ◌*◌, take}
-use Rattle.std.specs.Prelude.{sum}
+use Rattle.std.{proofs.Common.{◌≡◌, ◌≤◌, ◌*◌, take}, specs.Prelude.sum}
 use Rattle.npf_gen.proofs.datagram.internet_sum.Given as goal
 
 abbrev pub invariant-loop-word : goal.invariant-loop-word

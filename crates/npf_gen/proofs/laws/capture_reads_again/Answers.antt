@@ -1,6 +1,5 @@
 use Rattle.std.proofs.Common.{arith}
-use Rattle.npf_gen.specs.Workload.{generated_records, packet_count}
-use Rattle.npf_gen.proofs.WorkloadLemmas.{records_fit}
+use Rattle.npf_gen.{specs.Workload.{generated_records, packet_count}, proofs.WorkloadLemmas.records_fit}
 use Rattle.npf_pcap.proofs.SpellingLemmas.{written_is_capture}
 use Rattle.npf_gen.proofs.laws.capture_reads_again.Goals as goal
 

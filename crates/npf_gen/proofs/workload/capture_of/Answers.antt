@@ -1,7 +1,5 @@
 use Rattle.std.proofs.Common.{◌≡◌, ◌+◌, ◌*◌, ◌^◌, ◌∙◌, ap, refl, arith}
-use Rattle.npf_gen.specs.Draw.{drawn_state}
-use Rattle.npf_gen.specs.Workload.{generated_records, sent_at}
-use Rattle.npf_gen.proofs.DrawLemmas.{after_third, tells_packet}
+use Rattle.npf_gen.{specs.{Draw.drawn_state, Workload.{generated_records, sent_at}}, proofs.DrawLemmas.{after_third, tells_packet}}
 use Rattle.npf_gen.proofs.WorkloadLemmas.{capture_more}
 use Rattle.npf_gen.proofs.workload.capture_of.Goals as goal
 

@@ -1,7 +1,6 @@
 use Rattle.std.proofs.Common.{◌≡◌, ◌*◌}
 use Rattle.npf_pcap.specs.Spelling.{capture_bytes}
-use Rattle.npf_gen.specs.Draw.{drawn_state}
-use Rattle.npf_gen.specs.Workload.{generated_records}
+use Rattle.npf_gen.specs.{Draw.drawn_state, Workload.generated_records}
 use Rattle.npf_gen.proofs.workload.capture_of.Given as goal
 
 abbrev pub invariant-loop-i : goal.invariant-loop-i

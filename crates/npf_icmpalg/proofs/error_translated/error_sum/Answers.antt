@@ -1,11 +1,7 @@
 use Rattle.std.proofs.Common.{◌+◌, ◌++◌, ap, ◌∙◌}
 use Rattle.npf_packet.specs.Field.{icmp_checksum}
-use Rattle.npf_rewrite.specs.Sum.{sum_after}
-use Rattle.npf_rewrite.specs.Word.{word, word_list}
-use Rattle.npf_icmpalg.specs.ErrorTranslated.{counted_outer}
-use Rattle.npf_icmpalg.specs.Header.{header_addresses}
-use Rattle.npf_icmpalg.specs.Within.{port_words}
-use Rattle.npf_icmpalg.proofs.SumLemmas.{sum_after_both}
+use Rattle.npf_rewrite.specs.{Sum.sum_after, Word.{word, word_list}}
+use Rattle.npf_icmpalg.{specs.{ErrorTranslated.counted_outer, Header.header_addresses, Within.port_words}, proofs.SumLemmas.sum_after_both}
 use Rattle.npf_icmpalg.proofs.error_translated.error_sum.Goals as goal
 
 pub returns-clause-value : goal.returns-clause-value

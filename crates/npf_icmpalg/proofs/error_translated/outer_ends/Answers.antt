@@ -1,6 +1,5 @@
 use Rattle.std.proofs.Common.{arith}
-use Rattle.npf_icmpalg.specs.Quoted.{is_same_address}
-use Rattle.npf_icmpalg.proofs.AddressLemmas.{header_within}
+use Rattle.npf_icmpalg.{specs.Quoted.is_same_address, proofs.AddressLemmas.header_within}
 use Rattle.npf_icmpalg.proofs.error_translated.outer_ends.Goals as goal
 
 pub returns-clause-within : goal.returns-clause-within

@@ -1,6 +1,4 @@
-use Rattle.npf_icmpalg.specs.Header.{header_addresses}
-use Rattle.npf_icmpalg.specs.Within.{port_words}
-use Rattle.npf_icmpalg.proofs.SumLemmas.{sum_after_both}
+use Rattle.npf_icmpalg.{specs.{Header.header_addresses, Within.port_words}, proofs.SumLemmas.sum_after_both}
 use Rattle.npf_icmpalg.proofs.error_translated.sum_after_quoted.Goals as goal
 
 pub returns : goal.returns

@@ -1,13 +1,8 @@
 use Rattle.std.proofs.Common.{◌+◌, Option, [], ◌∷◌, ◌++◌, ap, ◌∙◌}
 use Rattle.npf_fields.specs.Field.{number16}
 use Rattle.npf_packet.specs.Field.{icmp_checksum}
-use Rattle.npf_rewrite.specs.declared.word.WordAt.{WordAt}
-use Rattle.npf_rewrite.specs.Sum.{sum_after}
-use Rattle.npf_rewrite.specs.Word.{word, word_list}
-use Rattle.npf_rewrite.proofs.WordLemmas.{rewrites_as, rewrites_both}
-use Rattle.npf_icmpalg.specs.ErrorTranslated.{counted_outer}
-use Rattle.npf_icmpalg.specs.Header.{header_addresses}
-use Rattle.npf_icmpalg.specs.Within.{port_words}
+use Rattle.npf_rewrite.{specs.{declared.word.WordAt.WordAt, Sum.sum_after, Word.{word, word_list}}, proofs.WordLemmas.{rewrites_as, rewrites_both}}
+use Rattle.npf_icmpalg.specs.{ErrorTranslated.counted_outer, Header.header_addresses, Within.port_words}
 use Rattle.npf_icmpalg.proofs.error_translated.write_ends_and_sums.Goals as goal
 
 pub returns : goal.returns

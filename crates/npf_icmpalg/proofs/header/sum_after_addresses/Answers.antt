@@ -1,6 +1,5 @@
 use Rattle.std.proofs.Common.{ap}
-use Rattle.npf_rewrite.specs.Address.{end_words}
-use Rattle.npf_rewrite.specs.Translated.{destination_at, source_at}
+use Rattle.npf_rewrite.specs.{Address.end_words, Translated.{destination_at, source_at}}
 use Rattle.npf_icmpalg.proofs.SumLemmas.{sum_after_as, sum_after_both}
 use Rattle.npf_icmpalg.proofs.header.sum_after_addresses.Goals as goal
 

@@ -1,6 +1,5 @@
 use Rattle.std.proofs.Common.{ap}
-use Rattle.npf_rewrite.specs.Address.{end_words}
-use Rattle.npf_rewrite.proofs.WordLemmas.{rewrites_as, rewrites_both}
+use Rattle.npf_rewrite.{specs.Address.end_words, proofs.WordLemmas.{rewrites_as, rewrites_both}}
 use Rattle.npf_icmpalg.proofs.header.write_addresses.Goals as goal
 
 pub returns : goal.returns

@@ -1,5 +1,4 @@
-use Rattle.npf_key.specs.Translated.{about, facts_there}
-use Rattle.npf_key.proofs.TranslatedLemmas.{keeps_family, about_family}
+use Rattle.npf_key.{specs.Translated.{about, facts_there}, proofs.TranslatedLemmas.{keeps_family, about_family}}
 use Rattle.npf_key.proofs.laws.backward_keys_tell_apart.Goals as goal
 
 pub returns-clause-family : goal.returns-clause-family

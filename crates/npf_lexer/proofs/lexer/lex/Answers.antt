@@ -5,7 +5,8 @@ use Rattle.npf_lexer.proofs.lexer.lex.Goals as goal
 
 pub returns-in-End-clause-tokens : goal.returns-in-End-clause-tokens
 returns-in-End-clause-tokens c =
-    let ends = so_far_ends c.args.text.now c.tokens.tokens.items c.tokens.place c.tokens.rest.now c.tokens.invariant.so_far (subst (Begins c.tokens.place c.tokens.rest.now) c.in-End.is c.in_ok-front_at.ensures.begins) in
+    let ends = so_far_ends c.args.text.now c.tokens.tokens.items c.tokens.place c.tokens.rest.now c.tokens.invariant.so_far
+    (subst (Begins c.tokens.place c.tokens.rest.now) c.in-End.is c.in_ok-front_at.ensures.begins) in
     rw (c.in_ok-push-in-End.ensures.items, c.end_token.ensures) ends
 
 pub tokens-preserved-in-Skipped : goal.tokens-preserved-in-Skipped
@@ -14,7 +15,8 @@ tokens-preserved-in-Skipped c =
     let begins = subst (Begins c.tokens.place c.tokens.rest.now) c.in-Skipped.is c.in_ok-front_at.ensures.begins in
     let left : length c.split_at.result.1.now ≡ length c.tokens.rest.now - c.in-Skipped.len = omega (arith, c.split_at.ensures.back_len) in
     record {
-      so_far = subst (IsLexedSoFar c.args.text.now c.tokens.tokens.items c.in-Skipped.next) (sym c.split_at.ensures.back) (so_far_skips c.args.text.now c.tokens.tokens.items c.tokens.place c.tokens.rest.now c.in-Skipped.len c.in-Skipped.next c.tokens.invariant.so_far begins);
+      so_far = subst (IsLexedSoFar c.args.text.now c.tokens.tokens.items c.in-Skipped.next) (sym c.split_at.ensures.back)
+          (so_far_skips c.args.text.now c.tokens.tokens.items c.tokens.place c.tokens.rest.now c.in-Skipped.len c.in-Skipped.next c.tokens.invariant.so_far begins);
       fits = subst (Fits c.in-Skipped.next) (sym left) step.counted;
     }
 
@@ -31,4 +33,5 @@ tokens-preserved c =
 
 pub returns-in-Faulty-clause-fault : goal.returns-in-Faulty-clause-fault
 returns-in-Faulty-clause-fault c =
-    so_far_fails c.args.text.now c.tokens.tokens.items c.tokens.place c.tokens.rest.now c.in-Faulty.fault c.tokens.invariant.so_far (subst (Begins c.tokens.place c.tokens.rest.now) c.in-Faulty.is c.in_ok-front_at.ensures.begins)
+    so_far_fails c.args.text.now c.tokens.tokens.items c.tokens.place c.tokens.rest.now c.in-Faulty.fault c.tokens.invariant.so_far
+    (subst (Begins c.tokens.place c.tokens.rest.now) c.in-Faulty.is c.in_ok-front_at.ensures.begins)

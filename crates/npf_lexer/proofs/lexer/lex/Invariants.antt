@@ -1,6 +1,5 @@
 use Rattle.std.proofs.Common.{length}
-use Rattle.npf_lexer.specs.Front.{Fits}
-use Rattle.npf_lexer.proofs.LexerLemmas.{IsLexedSoFar}
+use Rattle.npf_lexer.{specs.Front.Fits, proofs.LexerLemmas.IsLexedSoFar}
 use Rattle.npf_lexer.proofs.lexer.lex.Given as goal
 
 abbrev pub invariant-tokens : goal.invariant-tokens

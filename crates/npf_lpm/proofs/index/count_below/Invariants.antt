@@ -1,5 +1,4 @@
-use Rattle.npf_lpm.specs.Cut.{IsLowCut}
-use Rattle.npf_lpm.specs.Index.{bucket}
+use Rattle.npf_lpm.specs.{Cut.IsLowCut, Index.bucket}
 use Rattle.npf_lpm.proofs.index.count_below.Given as goal
 
 abbrev pub invariant-loop-place : goal.invariant-loop-place

@@ -18,7 +18,8 @@ insert_within-requires-3-clause-within c =
     omega (arith, length-blocks c.args.firsts.now.items c.args.lengths.now.items c.requires.rows.ordered.pairs, c.requires.rows.beside, c.args.outermost.now.ok.0, c.reserve-3.ensures.len)
 
 pub renew-requires-clause-ordered : goal.renew-requires-clause-ordered
-renew-requires-clause-ordered c = rw c.deref.ensures.value (rw c.deref-2.ensures.value (rw c.insert_within.ensures.items (rw c.insert_within-2.ensures.items (rw c.reserve.ensures.items (rw c.reserve-2.ensures.items
+renew-requires-clause-ordered c =
+    rw c.deref.ensures.value (rw c.deref-2.ensures.value (rw c.insert_within.ensures.items (rw c.insert_within-2.ensures.items (rw c.reserve.ensures.items (rw c.reserve-2.ensures.items
     (put_ordered c.args.firsts.now.items c.args.lengths.now.items c.args.block c.args.place c.requires.rows.ordered c.requires.place c.requires.aligned))))))
 
 pub returns-clause-ok : goal.returns-clause-ok

@@ -1,5 +1,4 @@
-use Rattle.npf_nat.proofs.NetmapLemmas.{netmap_back}
-use Rattle.npf_nat.proofs.NptLemmas.{npt66_back}
+use Rattle.npf_nat.proofs.{NetmapLemmas.netmap_back, NptLemmas.npt66_back}
 use Rattle.npf_nat.proofs.laws.static_map_comes_back.Goals as goal
 
 pub returns-clause-netmap : goal.returns-clause-netmap

@@ -1,7 +1,5 @@
-use Rattle.std.proofs.Common.{◌<◌, ◌≡◌, ◌^◌, arith}
-use Rattle.std.proofs.Math.Facts.{Fits-lt-pow}
-use Rattle.npf_nat.specs.Netmap.{in_block, host_bits}
-use Rattle.npf_nat.proofs.NetmapLemmas.{in_block_fits}
+use Rattle.std.proofs.{Common.{◌<◌, ◌≡◌, ◌^◌, arith}, Math.Facts.Fits-lt-pow}
+use Rattle.npf_nat.{specs.Netmap.{in_block, host_bits}, proofs.NetmapLemmas.in_block_fits}
 use Rattle.npf_nat.proofs.netmap.in_block_v4.Goals as goal
 
 pub overflow_add-result : goal.overflow_add-result

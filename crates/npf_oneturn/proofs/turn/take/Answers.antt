@@ -1,6 +1,5 @@
 use Rattle.std.proofs.Common.{◌∙◌, subst, sym, arith}
-use Rattle.npf_oneturn.specs.Taking.{IsResting}
-use Rattle.npf_oneturn.proofs.TakeLemmas.{try_turn}
+use Rattle.npf_oneturn.{specs.Taking.IsResting, proofs.TakeLemmas.try_turn}
 use Rattle.npf_oneturn.proofs.turn.take.Goals as goal
 
 pub compare_exchange-requires : goal.compare_exchange-requires

@@ -1,6 +1,5 @@
 use Rattle.std.proofs.Common.{◌<◌, ◌∙◌, length, refl, sym, ap}
-use Rattle.npf_oneturn_store.specs.declared.connection.Connection.{Connection}
-use Rattle.npf_oneturn_store.specs.Store.{IsLivePhase, phase_of}
+use Rattle.npf_oneturn_store.specs.{declared.connection.Connection.Connection, Store.{IsLivePhase, phase_of}}
 use Rattle.npf_oneturn_store.proofs.ConnectionLemmas.{claimed_inc, claimed_within, fit_put, given_inc, live_claimed, live_phase, live_stays, set_elsewhere, set_there, slot_read}
 use Rattle.npf_oneturn_store.proofs.StandLemmas.{stand_put}
 use Rattle.npf_oneturn_store.proofs.steps.step.Goals as goal

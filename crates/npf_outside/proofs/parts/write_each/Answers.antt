@@ -1,5 +1,4 @@
-use Rattle.std.proofs.Common.{◌≡◌, ◌∙◌, ap, arith, le_refl, length, rules, subst, take, take_all}
-use Rattle.std.specs.Io.KnownBytes.{Appends}
+use Rattle.std.{proofs.Common.{◌≡◌, ◌∙◌, ap, arith, le_refl, length, rules, subst, take, take_all}, specs.Io.KnownBytes.Appends}
 use Rattle.npf_outside.proofs.PartLemmas.{one_more}
 use Rattle.npf_outside.proofs.parts.write_each.Goals as goal
 

@@ -1,7 +1,6 @@
 -- The page keeps its room, and what was written stands in front of what is still to be given.
 use Rattle.std.proofs.Common.{◌≤◌, length, vec_capacity}
-use Rattle.npf_outside.specs.declared.parts.TheConstants.{PART_ROOM}
-use Rattle.npf_outside.proofs.PartLemmas.{IsWrittenSoFar}
+use Rattle.npf_outside.{specs.declared.parts.TheConstants.PART_ROOM, proofs.PartLemmas.IsWrittenSoFar}
 use Rattle.npf_outside.proofs.parts.write_each.Given as goal
 
 abbrev pub invariant-loop-writer : goal.invariant-loop-writer

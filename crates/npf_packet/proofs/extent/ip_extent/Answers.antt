@@ -1,16 +1,8 @@
 use Rattle.std.proofs.Common.{◌≡◌, ◌+◌, ◌≤◌, ℕ, List, length, sym, ap, ◌∙◌, subst, arith}
-use Rattle.npf_types.specs.declared.address.Addr.{Addr}
-use Rattle.npf_types.specs.declared.address.Addr.TheVariants.{V4, V6}
-use Rattle.npf_types.specs.declared.facts.Facts.{Facts}
-use Rattle.npf_types.specs.declared.link.Link.{Link}
-use Rattle.npf_packet.specs.declared.decoded.Decoded.TheVariants.{Ip}
-use Rattle.npf_packet.specs.Decoding.{Decodes, packet_at}
-use Rattle.npf_packet.specs.Extent.{told_end}
-use Rattle.npf_packet.specs.Place.{least_ip_header}
-use Rattle.npf_packet.proofs.HeaderLemmas.{is_read}
-use Rattle.npf_packet.proofs.UpperLemmas.{is_carried}
+use Rattle.npf_types.specs.declared.{address.Addr.{Addr, TheVariants.{V4, V6}}, facts.Facts.Facts, link.Link.Link}
+use Rattle.npf_packet.specs.{declared.decoded.Decoded.TheVariants.Ip, Decoder.{Decodes, packet_at}, Extent.told_end, Place.least_ip_header}
+use Rattle.npf_packet.proofs.{HeaderLemmas.is_read, UpperLemmas.is_carried, extent.ip_extent.Goals.{then-size-at, else-size-at}}
 use Rattle.npf_packet.proofs.extent.ip_extent.Goals as goal
-use Rattle.npf_packet.proofs.extent.ip_extent.Goals.{then-size-at, else-size-at}
 
 -- an IP header has both lengths
 has_lengths : (src : Addr) → 6 ≤ least_ip_header src

@@ -1,6 +1,5 @@
 use Rattle.std.proofs.Common.{[], ◌∷◌, ◌++◌, sym, ◌∙◌, arith}
-use Rattle.npf_packet.specs.Ipv6.{first_header, next_header}
-use Rattle.npf_packet.proofs.ChainLemmas.{passes_one, ends_at}
+use Rattle.npf_packet.{specs.Ipv6.{first_header, next_header}, proofs.ChainLemmas.{passes_one, ends_at}}
 use Rattle.npf_packet.proofs.ipv6.last_header.Goals as goal
 
 pub headers-preserved : goal.headers-preserved

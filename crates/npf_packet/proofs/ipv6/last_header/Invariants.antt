@@ -1,8 +1,6 @@
 -- The headers that were passed are a chain as far as they go.
 use Rattle.std.proofs.Common.{◌+◌, ◌-◌, ◌≤◌, ◌<◌, List}
-use Rattle.npf_packet.specs.declared.ipv6.Header.{Header}
-use Rattle.npf_packet.specs.Ipv6.{first_header, next_header}
-use Rattle.npf_packet.proofs.ChainLemmas.{HasPassed}
+use Rattle.npf_packet.{specs.{declared.ipv6.Header.Header, Ipv6.{first_header, next_header}}, proofs.ChainLemmas.HasPassed}
 use Rattle.npf_packet.proofs.ipv6.last_header.Given as goal
 
 abbrev pub invariant-headers : goal.invariant-headers

@@ -1,6 +1,4 @@
-use Rattle.npf_parser.specs.Stmt.{file}
-use Rattle.npf_parser.proofs.LineLemmas.{file_advances}
-use Rattle.npf_parser.proofs.ParseLemmas.{one_thing}
+use Rattle.npf_parser.{specs.Stmt.file, proofs.{LineLemmas.file_advances, ParseLemmas.one_thing}}
 use Rattle.npf_parser.proofs.laws.one_tree.Goals as goal
 
 pub returns : goal.returns

@@ -1,6 +1,4 @@
-use Rattle.npf_parser.specs.Stmt.{file}
-use Rattle.npf_parser.proofs.LineLemmas.{file_advances}
-use Rattle.npf_parser.proofs.ParseLemmas.{one_or_other, not_both}
+use Rattle.npf_parser.{specs.Stmt.file, proofs.{LineLemmas.file_advances, ParseLemmas.{one_or_other, not_both}}}
 use Rattle.npf_parser.proofs.laws.tree_or_halt.Goals as goal
 
 pub returns : goal.returns

@@ -1,6 +1,5 @@
 use Rattle.std.proofs.Common.{◌≡◌, length}
-use Rattle.npf_phrase.specs.Grammar.{meaning}
-use Rattle.npf_phrase.proofs.ListLemmas.{extend}
+use Rattle.npf_phrase.{specs.Grammar.meaning, proofs.ListLemmas.extend}
 use Rattle.npf_parser.specs.Procedure.{calls}
 use Rattle.npf_parser.proofs.procedure.read_calls.Given as goal
 

@@ -1,15 +1,8 @@
 use Rattle.std.proofs.Common.{◌≡◌, Err, refl, sym, subst, rules, arith}
-use Rattle.npf_phrase.specs.Phrase.{Reading}
-use Rattle.npf_phrase.specs.Grammar.{meaning}
-use Rattle.npf_phrase.proofs.ListLemmas.{leaves}
-use Rattle.npf_lexer.specs.declared.token.Sign.TheVariants.{Comma}
-use Rattle.npf_lexer.specs.declared.token.Token.{Token}
-use Rattle.npf_parser_values.specs.declared.stop.Stop.{Stop}
-use Rattle.npf_parser_values.specs.declared.stop.Stop.TheVariants.{Before, NoMemory}
-use Rattle.npf_parser_values.specs.Answer.{Answers, AnswersAlone}
-use Rattle.npf_parser.specs.Procedure.{opt, options}
-use Rattle.npf_parser_values.specs.Token.{sign}
-use Rattle.npf_parser.proofs.LineLemmas.{next_opt_advances, opt_advances}
+use Rattle.npf_phrase.{specs.{Phrase.Reading, Grammar.meaning}, proofs.ListLemmas.leaves}
+use Rattle.npf_lexer.specs.declared.token.{Sign.TheVariants.Comma, Token.Token}
+use Rattle.npf_parser_values.specs.{declared.stop.Stop.{Stop, TheVariants.{Before, NoMemory}}, Answer.{Answers, AnswersAlone}, Token.sign}
+use Rattle.npf_parser.{specs.Procedure.{opt, options}, proofs.LineLemmas.{next_opt_advances, opt_advances}}
 use Rattle.npf_parser_values.proofs.LoopLemmas.{list_goes, list_ends, list_fails}
 use Rattle.npf_parser.proofs.procedure.read_options.Goals as goal
 
@@ -22,7 +15,9 @@ pub returns-in_err-option : goal.returns-in_err-option
 unfolding options
 returns-in_err-option c =
     let same : c.from_residual.result ≡ Err c.in_err-option.field-0.0 = search rules in
-    subst (Answers ((meaning options).read c.args.tokens.now)) (sym same) (list_fails (sign Comma) opt next_opt_advances refl ((meaning options).read c.args.tokens.now) c.options.options.items c.options.rest.now c.options.invariant c.in_err-option.field-0.0 (stops ((meaning opt).read c.options.rest.now) c.in_err-option.field-0.0 c.in_err-option.ensures))
+    subst (Answers ((meaning options).read c.args.tokens.now)) (sym same) (list_fails (sign Comma) opt next_opt_advances refl
+    ((meaning options).read c.args.tokens.now) c.options.options.items c.options.rest.now c.options.invariant c.in_err-option.field-0.0
+    (stops ((meaning opt).read c.options.rest.now) c.in_err-option.field-0.0 c.in_err-option.ensures))
 
 pub options-smaller : goal.options-smaller
 options-smaller c =
@@ -32,9 +27,12 @@ options-smaller c =
 pub options-preserved : goal.options-preserved
 unfolding options
 options-preserved c =
-    rw c.in_ok-push.ensures.items (list_goes (sign Comma) opt next_opt_advances refl ((meaning options).read c.args.tokens.now) c.options.options.items c.options.rest.now c.options.invariant c.in_ok-option.option c.in_ok-option.behind c.in-Some.next c.in_ok-option.ensures c.in-Some.ensures.begins)
+    rw c.in_ok-push.ensures.items (list_goes (sign Comma) opt next_opt_advances refl ((meaning options).read c.args.tokens.now) c.options.options.items
+    c.options.rest.now c.options.invariant c.in_ok-option.option c.in_ok-option.behind c.in-Some.next c.in_ok-option.ensures c.in-Some.ensures.begins)
 
 pub returns-in-None : goal.returns-in-None
 unfolding options
 returns-in-None c =
-    rw (c.of_vec.ensures, c.in_ok-push.ensures.items) (list_ends (sign Comma) opt next_opt_advances refl ((meaning options).read c.args.tokens.now) c.options.options.items c.options.rest.now c.options.invariant c.in_ok-option.option c.in_ok-option.behind c.in_ok-option.ensures c.in-None.ensures.begins)
+    rw (c.of_vec.ensures, c.in_ok-push.ensures.items) (list_ends (sign Comma) opt next_opt_advances refl
+    ((meaning options).read c.args.tokens.now) c.options.options.items c.options.rest.now c.options.invariant
+    c.in_ok-option.option c.in_ok-option.behind c.in_ok-option.ensures c.in-None.ensures.begins)

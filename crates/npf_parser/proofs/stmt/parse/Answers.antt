@@ -1,6 +1,4 @@
-use Rattle.npf_parser.specs.Stmt.{file}
-use Rattle.npf_parser.proofs.FineLemmas.{file_fine, file_ends}
-use Rattle.npf_parser.proofs.LineLemmas.{file_advances}
+use Rattle.npf_parser.{specs.Stmt.file, proofs.{FineLemmas.{file_fine, file_ends}, LineLemmas.file_advances}}
 use Rattle.npf_parser.proofs.ParseLemmas.{one_thing, not_both, means, halts, refused, complete, exactly, stops}
 use Rattle.npf_parser.proofs.stmt.parse.Goals as goal
 
@@ -8,10 +6,14 @@ pub returns-in-Ok-clause-tree : goal.returns-in-Ok-clause-tree
 returns-in-Ok-clause-tree c = means file file_advances c.args.tokens.now c.in-Ok.tree c.in-Ok.field-0-1.now c.in-Ok.ensures
 
 pub returns-in-Ok-clause-complete : goal.returns-in-Ok-clause-complete
-returns-in-Ok-clause-complete c = λ other is. one_thing file file_advances c.args.tokens.now c.in-Ok.tree other (means file file_advances c.args.tokens.now c.in-Ok.tree c.in-Ok.field-0-1.now c.in-Ok.ensures) is
+returns-in-Ok-clause-complete c = λ other is. one_thing file file_advances c.args.tokens.now c.in-Ok.tree other
+    (means file file_advances c.args.tokens.now c.in-Ok.tree c.in-Ok.field-0-1.now c.in-Ok.ensures) is
 
 pub returns-in-Ok-clause-exactly : goal.returns-in-Ok-clause-exactly
-returns-in-Ok-clause-exactly c = λ span there. not_both file file_advances c.args.tokens.now span (c.in-Ok.tree, means file file_advances c.args.tokens.now c.in-Ok.tree c.in-Ok.field-0-1.now c.in-Ok.ensures) there
+returns-in-Ok-clause-exactly c = λ span there. not_both file file_advances c.args.tokens.now span (
+  c.in-Ok.tree,
+  means file file_advances c.args.tokens.now c.in-Ok.tree c.in-Ok.field-0-1.now c.in-Ok.ensures,
+) there
 
 pub returns-in-Err-clause-refused : goal.returns-in-Err-clause-refused
 returns-in-Err-clause-refused c = rw c.refused_by.ensures (refused file file_advances c.args.tokens.now c.in-Err.stop c.in-Err.ensures)

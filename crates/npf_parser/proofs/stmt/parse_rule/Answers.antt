@@ -1,6 +1,4 @@
-use Rattle.npf_parser.specs.Stmt.{lone_rule}
-use Rattle.npf_parser.proofs.FineLemmas.{lone_rule_fine, lone_rule_ends}
-use Rattle.npf_parser.proofs.LineLemmas.{lone_rule_advances}
+use Rattle.npf_parser.{specs.Stmt.lone_rule, proofs.{FineLemmas.{lone_rule_fine, lone_rule_ends}, LineLemmas.lone_rule_advances}}
 use Rattle.npf_parser.proofs.ParseLemmas.{one_thing, not_both, means, halts, refused, complete, exactly, stops}
 use Rattle.npf_parser.proofs.stmt.parse_rule.Goals as goal
 
@@ -8,10 +6,14 @@ pub returns-in-Ok-clause-rule : goal.returns-in-Ok-clause-rule
 returns-in-Ok-clause-rule c = means lone_rule lone_rule_advances c.args.tokens.now c.in-Ok.rule c.in-Ok.field-0-1.now c.in-Ok.ensures
 
 pub returns-in-Ok-clause-complete : goal.returns-in-Ok-clause-complete
-returns-in-Ok-clause-complete c = λ other is. one_thing lone_rule lone_rule_advances c.args.tokens.now c.in-Ok.rule other (means lone_rule lone_rule_advances c.args.tokens.now c.in-Ok.rule c.in-Ok.field-0-1.now c.in-Ok.ensures) is
+returns-in-Ok-clause-complete c = λ other is. one_thing lone_rule lone_rule_advances c.args.tokens.now c.in-Ok.rule other
+    (means lone_rule lone_rule_advances c.args.tokens.now c.in-Ok.rule c.in-Ok.field-0-1.now c.in-Ok.ensures) is
 
 pub returns-in-Ok-clause-exactly : goal.returns-in-Ok-clause-exactly
-returns-in-Ok-clause-exactly c = λ span there. not_both lone_rule lone_rule_advances c.args.tokens.now span (c.in-Ok.rule, means lone_rule lone_rule_advances c.args.tokens.now c.in-Ok.rule c.in-Ok.field-0-1.now c.in-Ok.ensures) there
+returns-in-Ok-clause-exactly c = λ span there. not_both lone_rule lone_rule_advances c.args.tokens.now span (
+  c.in-Ok.rule,
+  means lone_rule lone_rule_advances c.args.tokens.now c.in-Ok.rule c.in-Ok.field-0-1.now c.in-Ok.ensures,
+) there
 
 pub returns-in-Err-clause-refused : goal.returns-in-Err-clause-refused
 returns-in-Err-clause-refused c = rw c.refused_by.ensures (refused lone_rule lone_rule_advances c.args.tokens.now c.in-Err.stop c.in-Err.ensures)

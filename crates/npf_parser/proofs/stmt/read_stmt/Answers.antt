@@ -1,11 +1,8 @@
-use Rattle.std.specs.Bool.{⊤}
-use Rattle.std.specs.Borrow.{Bor}
+use Rattle.std.specs.{Bool.⊤, Borrow.Bor}
 use Rattle.std.proofs.Common.{◌≡◌, Bool, true, false, ◌||◌, if◌then◌else◌, Option, Some, None, is_some, List, codes, sym, ap, subst, ◌∙◌}
 use Rattle.npf_lexer.specs.declared.token.Token.{Token}
-use Rattle.npf_phrase.specs.Phrase.{head}
-use Rattle.npf_phrase.specs.Grammar.{Grammar, meaning, ◌or◌}
-use Rattle.npf_parser_values.specs.Answer.{Answers, Begins}
-use Rattle.npf_parser_values.specs.Token.{quoted}
+use Rattle.npf_phrase.specs.{Phrase.head, Grammar.{Grammar, meaning, ◌or◌}}
+use Rattle.npf_parser_values.specs.{Answer.{Answers, Begins}, Token.quoted}
 use Rattle.npf_parser.specs.Stmt.{stmt, set, alg, table, map, group, procedure, define}
 use Rattle.npf_parser.proofs.stmt.read_stmt.Goals as goal
 
@@ -14,7 +11,8 @@ starts_by g ts None begins = begins.0
 starts_by g ts (Some rest) begins = begins.0
 
 -- what was asked of the tokens behind a word says whether it stands first
-starts_as : (g : Grammar Token ⊤) (ts : List Token) (found : Option (Bor (List Token))) (said b : Bool) → Begins g ts found → said ≡ is_some found → said ≡ b → ((meaning g).starts (head ts) || false) ≡ b || false
+starts_as : (g : Grammar Token ⊤) (ts : List Token) (found : Option (Bor (List Token))) (said b : Bool) → Begins g ts found →
+    said ≡ is_some found → said ≡ b → ((meaning g).starts (head ts) || false) ≡ b || false
 starts_as g ts found said b begins asked is = ap (λ b. b || false) (starts_by g ts found begins ∙ sym asked ∙ is)
 
 one : {A : Type 0} (g h : Grammar Token A) (ts : List Token) → (meaning g).starts (head ts) ≡ true → (meaning (g or h)).read ts ≡ (meaning g).read ts
@@ -44,7 +42,8 @@ module _ (ts : List Token) {b : Bool} where
   unfolding group
   group_starts found said begins asked is = starts_as (quoted (codes "group")) ts found said b begins asked is
 
-  procedure_starts : (found : Option (Bor (List Token))) (said : Bool) → Begins (quoted (codes "procedure")) ts found → said ≡ is_some found → said ≡ b → (meaning procedure).starts (head ts) ≡ (b || false)
+  procedure_starts : (found : Option (Bor (List Token))) (said : Bool) → Begins (quoted (codes "procedure")) ts found →
+      said ≡ is_some found → said ≡ b → (meaning procedure).starts (head ts) ≡ (b || false)
   unfolding procedure
   procedure_starts found said begins asked is = starts_as (quoted (codes "procedure")) ts found said b begins asked is
 
@@ -67,25 +66,32 @@ module _ (ts : List Token) where
   is_table : (meaning set).starts (head ts) ≡ false → (meaning alg).starts (head ts) ≡ false → (meaning table).starts (head ts) ≡ true → (meaning stmt).read ts ≡ (meaning table).read ts
   is_table no_set no_alg begins = is_past_alg no_set no_alg ∙ one table (map or group or procedure or define) ts begins
 
-  is_past_table : (meaning set).starts (head ts) ≡ false → (meaning alg).starts (head ts) ≡ false → (meaning table).starts (head ts) ≡ false → (meaning stmt).read ts ≡ (meaning (map or group or procedure or define)).read ts
+  is_past_table : (meaning set).starts (head ts) ≡ false → (meaning alg).starts (head ts) ≡ false → (meaning table).starts (head ts) ≡ false →
+      (meaning stmt).read ts ≡ (meaning (map or group or procedure or define)).read ts
   is_past_table no_set no_alg no_table = is_past_alg no_set no_alg ∙ other table (map or group or procedure or define) ts no_table
 
-  is_map : (meaning set).starts (head ts) ≡ false → (meaning alg).starts (head ts) ≡ false → (meaning table).starts (head ts) ≡ false → (meaning map).starts (head ts) ≡ true → (meaning stmt).read ts ≡ (meaning map).read ts
+  is_map : (meaning set).starts (head ts) ≡ false → (meaning alg).starts (head ts) ≡ false → (meaning table).starts (head ts) ≡ false →
+      (meaning map).starts (head ts) ≡ true → (meaning stmt).read ts ≡ (meaning map).read ts
   is_map no_set no_alg no_table begins = is_past_table no_set no_alg no_table ∙ one map (group or procedure or define) ts begins
 
-  is_past_map : (meaning set).starts (head ts) ≡ false → (meaning alg).starts (head ts) ≡ false → (meaning table).starts (head ts) ≡ false → (meaning map).starts (head ts) ≡ false → (meaning stmt).read ts ≡ (meaning (group or procedure or define)).read ts
+  is_past_map : (meaning set).starts (head ts) ≡ false → (meaning alg).starts (head ts) ≡ false → (meaning table).starts (head ts) ≡ false →
+      (meaning map).starts (head ts) ≡ false → (meaning stmt).read ts ≡ (meaning (group or procedure or define)).read ts
   is_past_map no_set no_alg no_table no_map = is_past_table no_set no_alg no_table ∙ other map (group or procedure or define) ts no_map
 
-  is_group : (meaning set).starts (head ts) ≡ false → (meaning alg).starts (head ts) ≡ false → (meaning table).starts (head ts) ≡ false → (meaning map).starts (head ts) ≡ false → (meaning group).starts (head ts) ≡ true → (meaning stmt).read ts ≡ (meaning group).read ts
+  is_group : (meaning set).starts (head ts) ≡ false → (meaning alg).starts (head ts) ≡ false → (meaning table).starts (head ts) ≡ false →
+      (meaning map).starts (head ts) ≡ false → (meaning group).starts (head ts) ≡ true → (meaning stmt).read ts ≡ (meaning group).read ts
   is_group no_set no_alg no_table no_map begins = is_past_map no_set no_alg no_table no_map ∙ one group (procedure or define) ts begins
 
-  is_past_group : (meaning set).starts (head ts) ≡ false → (meaning alg).starts (head ts) ≡ false → (meaning table).starts (head ts) ≡ false → (meaning map).starts (head ts) ≡ false → (meaning group).starts (head ts) ≡ false → (meaning stmt).read ts ≡ (meaning (procedure or define)).read ts
+  is_past_group : (meaning set).starts (head ts) ≡ false → (meaning alg).starts (head ts) ≡ false → (meaning table).starts (head ts) ≡ false →
+      (meaning map).starts (head ts) ≡ false → (meaning group).starts (head ts) ≡ false → (meaning stmt).read ts ≡ (meaning (procedure or define)).read ts
   is_past_group no_set no_alg no_table no_map no_group = is_past_map no_set no_alg no_table no_map ∙ other group (procedure or define) ts no_group
 
-  is_procedure : (meaning set).starts (head ts) ≡ false → (meaning alg).starts (head ts) ≡ false → (meaning table).starts (head ts) ≡ false → (meaning map).starts (head ts) ≡ false → (meaning group).starts (head ts) ≡ false → (meaning procedure).starts (head ts) ≡ true → (meaning stmt).read ts ≡ (meaning procedure).read ts
+  is_procedure : (meaning set).starts (head ts) ≡ false → (meaning alg).starts (head ts) ≡ false → (meaning table).starts (head ts) ≡ false →
+      (meaning map).starts (head ts) ≡ false → (meaning group).starts (head ts) ≡ false → (meaning procedure).starts (head ts) ≡ true → (meaning stmt).read ts ≡ (meaning procedure).read ts
   is_procedure no_set no_alg no_table no_map no_group begins = is_past_group no_set no_alg no_table no_map no_group ∙ one procedure (define) ts begins
 
-  is_past_procedure : (meaning set).starts (head ts) ≡ false → (meaning alg).starts (head ts) ≡ false → (meaning table).starts (head ts) ≡ false → (meaning map).starts (head ts) ≡ false → (meaning group).starts (head ts) ≡ false → (meaning procedure).starts (head ts) ≡ false → (meaning stmt).read ts ≡ (meaning define).read ts
+  is_past_procedure : (meaning set).starts (head ts) ≡ false → (meaning alg).starts (head ts) ≡ false → (meaning table).starts (head ts) ≡ false →
+      (meaning map).starts (head ts) ≡ false → (meaning group).starts (head ts) ≡ false → (meaning procedure).starts (head ts) ≡ false → (meaning stmt).read ts ≡ (meaning define).read ts
   is_past_procedure no_set no_alg no_table no_map no_group no_procedure = is_past_group no_set no_alg no_table no_map no_group ∙ other procedure define ts no_procedure
 
 pub returns-then-is_some : goal.returns-then-is_some

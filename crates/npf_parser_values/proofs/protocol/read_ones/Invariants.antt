@@ -1,6 +1,5 @@
 use Rattle.std.proofs.Common.{◌≡◌, length}
-use Rattle.npf_phrase.specs.Grammar.{meaning}
-use Rattle.npf_phrase.proofs.ListLemmas.{extend}
+use Rattle.npf_phrase.{specs.Grammar.meaning, proofs.ListLemmas.extend}
 use Rattle.npf_parser_values.specs.Value.{ones}
 use Rattle.npf_parser_values.proofs.protocol.read_ones.Given as goal
 

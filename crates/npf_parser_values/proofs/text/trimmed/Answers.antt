@@ -1,6 +1,5 @@
 use Rattle.std.proofs.Common.{sym, ap, ◌∙◌}
-use Rattle.npf_parser_values.specs.Token.{trimmed}
-use Rattle.npf_parser_values.proofs.TextLemmas.{trimmed_empty, trimmed_feed, trimmed_other}
+use Rattle.npf_parser_values.{specs.Token.trimmed, proofs.TextLemmas.{trimmed_empty, trimmed_feed, trimmed_other}}
 use Rattle.npf_parser_values.proofs.text.trimmed.Goals as goal
 
 pub returns-then-not-is_line_feed : goal.returns-then-not-is_line_feed

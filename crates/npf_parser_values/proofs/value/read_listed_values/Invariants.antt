@@ -1,6 +1,5 @@
 use Rattle.std.proofs.Common.{◌≡◌, length}
-use Rattle.npf_phrase.specs.Grammar.{meaning}
-use Rattle.npf_phrase.proofs.ListLemmas.{extend}
+use Rattle.npf_phrase.{specs.Grammar.meaning, proofs.ListLemmas.extend}
 use Rattle.npf_parser_values.specs.Value.{listed_values}
 use Rattle.npf_parser_values.proofs.value.read_listed_values.Given as goal
 

@@ -1,7 +1,5 @@
-use Rattle.std.proofs.Common.{◌%◌, ◌^◌, fold, sym, ap, ◌∙◌}
-use Rattle.std.specs.Int.{w32, to_be_bytes}
-use Rattle.npf_paths.specs.Hash.{fnv_round}
-use Rattle.npf_paths.proofs.HashLemmas.{by_halves}
+use Rattle.std.{proofs.Common.{◌%◌, ◌^◌, fold, sym, ap, ◌∙◌}, specs.Int.{w32, to_be_bytes}}
+use Rattle.npf_paths.{specs.Hash.fnv_round, proofs.HashLemmas.by_halves}
 use Rattle.npf_paths.proofs.hash.with_word.Goals as goal
 
 pub returns : goal.returns

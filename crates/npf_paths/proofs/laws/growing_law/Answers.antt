@@ -1,5 +1,4 @@
-use Rattle.npf_paths.proofs.BranchLemmas.{branch_long, branch_agrees, branch_parts, branch_same}
-use Rattle.npf_paths.proofs.GrowingLemmas.{growth_told}
+use Rattle.npf_paths.proofs.{BranchLemmas.{branch_long, branch_agrees, branch_parts, branch_same}, GrowingLemmas.growth_told}
 use Rattle.npf_paths.proofs.HomeLemmas.{mine_along, theirs_along, leaves_home}
 use Rattle.npf_paths.proofs.laws.growing_law.Goals as goal
 

@@ -1,5 +1,4 @@
-use Rattle.std.proofs.Common.{◌≡◌, ◌∙◌, ◌+◌, ℕ, ap, sym, subst, take, drop, arith}
-use Rattle.std.proofs.lemmas.List.{drop-drop}
+use Rattle.std.proofs.{Common.{◌≡◌, ◌∙◌, ◌+◌, ℕ, ap, sym, subst, take, drop, arith}, lemmas.List.drop-drop}
 use Rattle.npf_pcap.specs.Record.{HasRecord, stored_len, time_of}
 use Rattle.npf_pcap.proofs.read.extent_at.Goals as goal
 

@@ -1,10 +1,6 @@
-use Rattle.std.proofs.Common.{◌≡◌, ◌∙◌, ◌+◌, ◌<◌, ◌^◌, sym, ap, subst, [], ◌∷◌, length, drop, length-drop, arith, rules}
-use Rattle.std.proofs.lemmas.List.{drop-drop, map-append}
-use Rattle.std.proofs.lemmas.List.Elements.{All-push}
-use Rattle.std.proofs.lemmas.Result.{err_from_is_err_and}
-use Rattle.npf_pcap.specs.Extent.{record_at, records_at, EndsWithin, IsShort, IsTimely}
-use Rattle.npf_pcap.specs.Record.{record_len}
-use Rattle.npf_pcap.proofs.ExtentLemmas.{apart_push}
+use Rattle.std.proofs.{Common.{◌≡◌, ◌∙◌, ◌+◌, ◌<◌, ◌^◌, sym, ap, subst, [], ◌∷◌, length, drop, length-drop, arith, rules}, lemmas.List.{drop-drop, map-append}}
+use Rattle.std.proofs.lemmas.{List.Elements.All-push, Result.err_from_is_err_and}
+use Rattle.npf_pcap.{specs.{Extent.{record_at, records_at, EndsWithin, IsShort, IsTimely}, Record.record_len}, proofs.ExtentLemmas.apart_push}
 use Rattle.npf_pcap.proofs.RecordLemmas.{Progress, progress_more, progress_end, progress_fault}
 use Rattle.npf_pcap.proofs.read.extents_of.Goals as goal
 
@@ -17,7 +13,8 @@ pub returns-in_err-extent-clause-fault : goal.returns-in_err-extent-clause-fault
 returns-in_err-extent-clause-fault c =
     let bytes = c.args.bytes.now in
     let p = err_from_is_err_and c.from_residual.result c.from_residual.ensures.1 in
-    rw (p.1, p.2) (progress_fault c.args.format (drop 24 bytes) (drop c.loop-at.at bytes) c.loop-at.number (records_at bytes c.loop-at.extents.items) c.in_err-extent.field-0.0 c.loop-at.invariant.progress c.in_err-extent.ensures.fault)
+    rw (p.1, p.2) (progress_fault c.args.format (drop 24 bytes) (drop c.loop-at.at bytes) c.loop-at.number
+    (records_at bytes c.loop-at.extents.items) c.in_err-extent.field-0.0 c.loop-at.invariant.progress c.in_err-extent.ensures.fault)
 
 pub loop-at-preserved : goal.loop-at-preserved
 loop-at-preserved c =

@@ -1,6 +1,5 @@
 use Rattle.std.proofs.Common.{◌-◌, ◌≤◌, length, drop, All}
-use Rattle.npf_pcap.specs.Extent.{records_at, EndsWithin, IsShort, IsTimely, StandApart}
-use Rattle.npf_pcap.proofs.RecordLemmas.{Progress}
+use Rattle.npf_pcap.{specs.Extent.{records_at, EndsWithin, IsShort, IsTimely, StandApart}, proofs.RecordLemmas.Progress}
 use Rattle.npf_pcap.proofs.read.extents_of.Given as goal
 
 abbrev pub invariant-loop-at : goal.invariant-loop-at

@@ -1,9 +1,5 @@
-use Rattle.std.proofs.Common.{◌∙◌, ◌++◌, List, [], ◌∷◌, ℕ, ap, sym, take, arith}
-use Rattle.std.proofs.lemmas.List.{flat_map_more, take_all, take_more}
-use Rattle.std.specs.List.{flat_map}
-use Rattle.npf_pcap.specs.declared.capture.Record.{Record}
-use Rattle.npf_pcap.specs.Spelling.{header_bytes, record_bytes, record_with}
-use Rattle.npf_pcap.proofs.SpellingLemmas.{written_is_capture}
+use Rattle.std.{proofs.{Common.{◌∙◌, ◌++◌, List, [], ◌∷◌, ℕ, ap, sym, take, arith}, lemmas.List.{flat_map_more, take_all, take_more}}, specs.List.flat_map}
+use Rattle.npf_pcap.{specs.{declared.capture.Record.Record, Spelling.{header_bytes, record_bytes, record_with}}, proofs.SpellingLemmas.written_is_capture}
 use Rattle.npf_pcap.proofs.write.write_capture.Goals as goal
 
 pub loop-record-preserved : goal.loop-record-preserved

@@ -1,5 +1,4 @@
-use Rattle.std.proofs.Common.{◌≡◌, ◌++◌, take}
-use Rattle.std.specs.List.{flat_map}
+use Rattle.std.{proofs.Common.{◌≡◌, ◌++◌, take}, specs.List.flat_map}
 use Rattle.npf_pcap.specs.Spelling.{header_bytes, record_bytes}
 use Rattle.npf_pcap.proofs.write.write_capture.Given as goal
 

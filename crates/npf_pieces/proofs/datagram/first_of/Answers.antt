@@ -1,6 +1,5 @@
 use Rattle.std.proofs.Common.{ap, ◌∙◌, arith}
-use Rattle.npf_pieces.specs.declared.arrived.Arrived.{Arrived}
-use Rattle.npf_pieces.proofs.WholeSetLemmas.{begins_whole}
+use Rattle.npf_pieces.{specs.declared.arrived.Arrived.Arrived, proofs.WholeSetLemmas.begins_whole}
 use Rattle.npf_pieces.proofs.datagram.first_of.Goals as goal
 
 pub unreachable-requires : goal.unreachable-requires

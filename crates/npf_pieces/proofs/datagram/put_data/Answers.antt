@@ -1,5 +1,4 @@
-use Rattle.std.proofs.Common.{◌≡◌, ◌∙◌, take}
-use Rattle.std.proofs.lemmas.List.{take_all}
+use Rattle.std.proofs.{Common.{◌≡◌, ◌∙◌, take}, lemmas.List.take_all}
 use Rattle.npf_pieces.proofs.DataLemmas.{ends_within_reach, put_more}
 use Rattle.npf_pieces.proofs.datagram.put_data.Goals as goal
 

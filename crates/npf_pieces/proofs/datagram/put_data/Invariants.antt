@@ -1,5 +1,4 @@
-use Rattle.std.proofs.Common.{take}
-use Rattle.std.specs.Prelude.{All}
+use Rattle.std.{proofs.Common.take, specs.Prelude.All}
 use Rattle.npf_pieces.specs.Datagram.{HasDataAt}
 use Rattle.npf_pieces.proofs.datagram.put_data.Given as goal
 

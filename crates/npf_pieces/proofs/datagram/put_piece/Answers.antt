@@ -1,7 +1,5 @@
-use Rattle.std.proofs.Common.{◌-◌, ◌≤◌, ◌∙◌, ap, length, inl, inr, ⊎_elim, arith}
-use Rattle.std.proofs.lemmas.Slice.{between-put_mid}
-use Rattle.npf_pieces.specs.Piece.{end_of}
-use Rattle.npf_pieces.proofs.DataLemmas.{range_kept}
+use Rattle.std.proofs.{Common.{◌-◌, ◌≤◌, ◌∙◌, ap, length, inl, inr, ⊎_elim, arith}, lemmas.Slice.between-put_mid}
+use Rattle.npf_pieces.{specs.Piece.end_of, proofs.DataLemmas.range_kept}
 use Rattle.npf_pieces.proofs.datagram.put_piece.Goals as goal
 
 pub returns-clause-has : goal.returns-clause-has

@@ -1,6 +1,5 @@
 use Rattle.std.proofs.Common.{◌<◌, ◌∙◌, length, get_or, sym, arith}
-use Rattle.npf_pieces.specs.declared.datagram_at.DatagramAt.{DatagramAt}
-use Rattle.npf_pieces.proofs.DatagramsLemmas.{len_within, put_step}
+use Rattle.npf_pieces.{specs.declared.datagram_at.DatagramAt.DatagramAt, proofs.DatagramsLemmas.{len_within, put_step}}
 use Rattle.npf_pieces.proofs.datagram_at.put_at.Goals as goal
 
 pub loop-extent-preserved : goal.loop-extent-preserved

@@ -1,5 +1,4 @@
-use Rattle.std.proofs.Common.{◌≡◌, length, drop}
-use Rattle.std.specs.Prelude.{sum_by}
+use Rattle.std.{proofs.Common.{◌≡◌, length, drop}, specs.Prelude.sum_by}
 use Rattle.npf_pieces.specs.DatagramAt.{cut_at, with_datagrams}
 use Rattle.npf_pieces.proofs.datagram_at.put_at.Given as goal
 

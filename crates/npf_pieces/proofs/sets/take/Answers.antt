@@ -1,6 +1,5 @@
 use Rattle.std.proofs.Common.{◌∙◌, refl, sym}
-use Rattle.npf_pieces.proofs.JudgedLemmas.{judged_end, judged_more}
-use Rattle.npf_pieces.proofs.OpenSetLemmas.{covered_within}
+use Rattle.npf_pieces.proofs.{JudgedLemmas.{judged_end, judged_more}, OpenSetLemmas.covered_within}
 use Rattle.npf_pieces.proofs.sets.take.Goals as goal
 
 pub take-requires-clause-room : goal.take-requires-clause-room

@@ -1,9 +1,6 @@
-use Rattle.std.proofs.Common.{◌<◌, ◌-◌, sym, subst, rules, All, length, drop}
-use Rattle.std.specs.Prelude.{slice_range}
+use Rattle.std.{proofs.Common.{◌<◌, ◌-◌, sym, subst, rules, All, length, drop}, specs.Prelude.slice_range}
 use Rattle.std.proofs.lemmas.List.Elements.{All-drop, All-push, All-take}
-use Rattle.npf_pieces.specs.Datagram.{IsWholeSet, StandsAmong}
-use Rattle.npf_pieces.specs.DatagramAt.{PutTogether}
-use Rattle.npf_pieces.specs.Datagrams.{laid_out}
+use Rattle.npf_pieces.specs.{Datagram.{IsWholeSet, StandsAmong}, DatagramAt.PutTogether, Datagrams.laid_out}
 use Rattle.npf_pieces_tests.proofs.JoiningLemmas.{last_here}
 use Rattle.npf_pieces_tests.proofs.joining.add_if_complete.Goals as goal
 

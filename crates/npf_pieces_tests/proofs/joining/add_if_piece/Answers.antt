@@ -1,5 +1,4 @@
-use Rattle.std.proofs.Common.{sym, subst, All}
-use Rattle.std.proofs.lemmas.List.Elements.{All-push}
+use Rattle.std.proofs.{Common.{sym, subst, All}, lemmas.List.Elements.All-push}
 use Rattle.npf_pieces.specs.Datagram.{StandsAmong}
 use Rattle.npf_pieces_tests.proofs.joining.add_if_piece.Goals as goal
 

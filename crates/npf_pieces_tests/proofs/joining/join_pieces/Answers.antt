@@ -1,8 +1,5 @@
 use Rattle.std.proofs.Common.{◌≡◌, sym, subst, List, [], All, map}
-use Rattle.npf_pieces.specs.declared.arrived.Arrived.{Arrived}
-use Rattle.npf_pieces.specs.declared.arrived.SetAt.{SetAt}
-use Rattle.npf_pieces.specs.Datagram.{WholeIfComplete}
-use Rattle.npf_pieces.specs.Sets.{set_at, sets_from}
+use Rattle.npf_pieces.specs.{declared.arrived.{Arrived.Arrived, SetAt.SetAt}, Datagram.WholeIfComplete, Sets.{set_at, sets_from}}
 use Rattle.npf_pieces_tests.proofs.JoiningLemmas.{all_whole}
 use Rattle.npf_pieces_tests.proofs.joining.join_pieces.Goals as goal
 

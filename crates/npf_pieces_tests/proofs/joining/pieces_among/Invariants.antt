@@ -1,6 +1,5 @@
 use Rattle.std.proofs.Common.{All}
-use Rattle.npf_pieces.specs.Datagram.{StandsAmong}
-use Rattle.npf_pieces.specs.OpenSet.{IsTaken}
+use Rattle.npf_pieces.specs.{Datagram.StandsAmong, Overlap.IsTaken}
 use Rattle.npf_pieces_tests.proofs.joining.pieces_among.Given as goal
 
 abbrev pub invariant-loop-place : goal.invariant-loop-place

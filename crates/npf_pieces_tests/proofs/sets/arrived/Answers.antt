@@ -1,5 +1,4 @@
-use Rattle.std.proofs.Common.{rules, arith}
-use Rattle.std.proofs.lemmas.Grind.{common_steps}
+use Rattle.std.proofs.{Common.{rules, arith}, lemmas.Grind.common_steps}
 use Rattle.npf_pieces.proofs.OpenSetLemmas.{taken_of}
 use Rattle.npf_pieces_tests.proofs.sets.arrived.Goals as goal
 

@@ -1,6 +1,5 @@
-use Rattle.std.proofs.Common.{[], ◌∷◌}
-use Rattle.std.proofs.lemmas.List.Elements.{All-nil, All-push}
-use Rattle.npf_pieces.specs.OpenSet.{IsTaken}
+use Rattle.std.proofs.{Common.{[], ◌∷◌}, lemmas.List.Elements.{All-nil, All-push}}
+use Rattle.npf_pieces.specs.Overlap.{IsTaken}
 use Rattle.npf_pieces_tests.proofs.sets.check.Goals as goal
 
 pub sets_of-requires : goal.sets_of-requires

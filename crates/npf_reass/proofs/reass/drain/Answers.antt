@@ -1,5 +1,4 @@
-use Rattle.std.proofs.Common.{◌≡◌, ◌≢◌, ◌∙◌, sym, false, ⊎_elim, arith, get_or-set_other}
-use Rattle.std.proofs.lemmas.Bool.{cases_eq}
+use Rattle.std.proofs.{Common.{◌≡◌, ◌≢◌, ◌∙◌, sym, false, ⊎_elim, arith, get_or-set_other}, lemmas.Bool.cases_eq}
 use Rattle.core.specs.Mem.Slots.{slots_filled, slots_items}
 use Rattle.npf_reass.proofs.CloseLemmas.{offers_more, set_false}
 use Rattle.npf_reass.proofs.reass.drain.Goals as goal

@@ -1,6 +1,5 @@
 use Rattle.std.proofs.Common.{◌≡◌, ℕ, ◌<◌, false, get_or, map, take, vec_capacity}
-use Rattle.core.specs.Mem.Slots.{slots_filled, slots_items, slots_len}
-use Rattle.core.specs.Mem.Slots.Ownership.{Filled}
+use Rattle.core.specs.Mem.Slots.{slots_filled, slots_items, slots_len, Ownership.Filled}
 use Rattle.npf_reass.proofs.reass.drain.Given as goal
 
 abbrev pub invariant-loop-class : goal.invariant-loop-class

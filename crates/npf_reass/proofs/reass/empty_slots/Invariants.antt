@@ -1,5 +1,4 @@
-use Rattle.std.proofs.Common.{◌≡◌, ◌-◌, ◌≤◌, [], vec_len}
-use Rattle.std.specs.Prelude.{All}
+use Rattle.std.{proofs.Common.{◌≡◌, ◌-◌, ◌≤◌, [], vec_len}, specs.Prelude.All}
 use Rattle.npf_reass.proofs.reass.empty_slots.Given as goal
 
 abbrev pub invariant-loop-alloc : goal.invariant-loop-alloc

@@ -1,6 +1,4 @@
-use Rattle.std.proofs.Common.{◌≡◌, ℕ, get_or, arith, rules, Bor}
-use Rattle.std.proofs.lemmas.Fn.{always_returns_same}
-use Rattle.std.proofs.lemmas.List.{length-map, with_items_is}
+use Rattle.std.proofs.{Common.{◌≡◌, ℕ, get_or, arith, rules, Bor}, lemmas.{Fn.always_returns_same, List.{length-map, with_items_is}}}
 use Rattle.npf_pieces.specs.declared.piece.Piece.{Piece}
 use Rattle.npf_reass.proofs.SortLemmas.{items_of, sort_step}
 use Rattle.npf_reass.proofs.reass.sort_each.Goals as goal

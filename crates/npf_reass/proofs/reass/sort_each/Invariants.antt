@@ -1,5 +1,4 @@
-use Rattle.std.proofs.Common.{◌≡◌, ℕ, ◌<◌, ◌≤◌, List, get_or, map}
-use Rattle.std.specs.Prelude.{IsPermutation}
+use Rattle.std.{proofs.Common.{◌≡◌, ℕ, ◌<◌, ◌≤◌, List, get_or, map}, specs.Prelude.IsPermutation}
 use Rattle.npf_pieces.specs.declared.piece.Piece.{Piece}
 use Rattle.npf_reass.specs.Listing.{IsByNumber}
 use Rattle.npf_reass.proofs.reass.sort_each.Given as goal

@@ -1,9 +1,6 @@
 use Rattle.std.proofs.Common.{◌∙◌, subst, sym, arith}
 use Rattle.atomic_table.specs.Table.{Me}
-use Rattle.npf_reass.specs.declared.offer.Gathered.{Gathered}
-use Rattle.npf_reass.specs.declared.view.ReassView.{ReassView}
-use Rattle.npf_reass.specs.Passes.{IsRestingPass}
-use Rattle.npf_reass.specs.Turn.{HasTakenClass}
+use Rattle.npf_reass.specs.{declared.{offer.Gathered.Gathered, view.ReassView.ReassView}, Passes.IsRestingPass, Turn.HasTakenClass}
 use Rattle.npf_reass.proofs.TakeLemmas.{try_turn}
 use Rattle.npf_reass.proofs.turn.take.Goals as goal
 

@@ -1,11 +1,7 @@
-use Rattle.std.proofs.Common.{rules, ◌≡◌, ℕ, ◌∷◌, ◌++◌, [], List, All, Some, sym, subst, arith}
-use Rattle.std.specs.List.{AllZip}
-use Rattle.std.proofs.lemmas.List.{nil_from_length}
+use Rattle.std.{proofs.{Common.{rules, ◌≡◌, ℕ, ◌∷◌, ◌++◌, [], List, All, Some, sym, subst, arith}, lemmas.List.nil_from_length}, specs.List.AllZip}
 use Rattle.std.proofs.lemmas.List.Elements.{All-contains, All-pop, Contains-push}
-use Rattle.npf_pieces.specs.declared.arrived.Arrived.{Arrived}
-use Rattle.npf_pieces.specs.declared.piece.Piece.{Piece}
-use Rattle.npf_reass_run.specs.Gathering.{IsArrivedOffer, IsOfferAmong}
-use Rattle.npf_reass_run.proofs.ListLemmas.{HasTaken, all_taken, taken_more}
+use Rattle.npf_pieces.specs.declared.{arrived.Arrived.Arrived, piece.Piece.Piece}
+use Rattle.npf_reass_run.{specs.Gathering.{IsArrivedOffer, IsOfferAmong}, proofs.ListLemmas.{HasTaken, all_taken, taken_more}}
 use Rattle.npf_reass_run.proofs.gather.arrived_list.Goals as goal
 
 pub arrived_offer-requires : goal.arrived_offer-requires

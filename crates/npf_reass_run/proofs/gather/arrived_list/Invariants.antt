@@ -1,6 +1,5 @@
 use Rattle.std.proofs.Common.{◌+◌, ◌≤◌, All, vec_len, vec_capacity}
-use Rattle.npf_reass_run.specs.Gathering.{IsOfferAmong}
-use Rattle.npf_reass_run.proofs.ListLemmas.{HasTaken}
+use Rattle.npf_reass_run.{specs.Gathering.IsOfferAmong, proofs.ListLemmas.HasTaken}
 use Rattle.npf_reass_run.proofs.gather.arrived_list.Given as goal
 
 abbrev pub decreases-loop-offer : goal.decreases-loop-offer

@@ -1,9 +1,5 @@
-use Rattle.std.proofs.Common.{rules, ◌≡◌, ◌∷◌, [], All, ap, length}
-use Rattle.std.specs.Vec.Iter.{into_iter_items}
-use Rattle.std.proofs.lemmas.List.{nil_from_length}
-use Rattle.std.proofs.lemmas.List.Elements.{All-rest}
-use Rattle.npf_reass_run.specs.Gathering.{IsOfferAmong}
-use Rattle.npf_reass_run.proofs.ListLemmas.{OfferList, all_arrived, arrived_next}
+use Rattle.std.{proofs.{Common.{rules, ◌≡◌, ◌∷◌, [], All, ap, length}, lemmas.List.{nil_from_length, Elements.All-rest}}, specs.Vec.Iter.into_iter_items}
+use Rattle.npf_reass_run.{specs.Gathering.IsOfferAmong, proofs.ListLemmas.{OfferList, all_arrived, arrived_next}}
 use Rattle.npf_reass_run.proofs.gather.arrived_lists.Goals as goal
 
 pub loop-list-preserved : goal.loop-list-preserved

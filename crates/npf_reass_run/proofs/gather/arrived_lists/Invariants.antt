@@ -1,7 +1,5 @@
-use Rattle.std.proofs.Common.{◌+◌, ◌≤◌, All, length, vec_len, vec_capacity}
-use Rattle.std.specs.Vec.Iter.{into_iter_items}
-use Rattle.npf_reass_run.specs.Gathering.{IsOfferAmong}
-use Rattle.npf_reass_run.proofs.ListLemmas.{HasArrived}
+use Rattle.std.{proofs.Common.{◌+◌, ◌≤◌, All, length, vec_len, vec_capacity}, specs.Vec.Iter.into_iter_items}
+use Rattle.npf_reass_run.{specs.Gathering.IsOfferAmong, proofs.ListLemmas.HasArrived}
 use Rattle.npf_reass_run.proofs.gather.arrived_lists.Given as goal
 
 abbrev pub invariant-loop-list : goal.invariant-loop-list

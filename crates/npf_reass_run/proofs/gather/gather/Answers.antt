@@ -1,11 +1,7 @@
-use Rattle.std.proofs.Common.{rules, ◌≡◌, ◌∙◌, false, is_err, length, refl}
-use Rattle.std.specs.List.{AllZip}
-use Rattle.std.proofs.lemmas.Result.{IfOk-weaker}
+use Rattle.std.{proofs.{Common.{rules, ◌≡◌, ◌∙◌, false, is_err, length, refl}, lemmas.Result.IfOk-weaker}, specs.List.AllZip}
 use Rattle.npf_reass.specs.Passes.{classes_of, sight}
-use Rattle.npf_reass_run.specs.Gathering.{GathersPieces}
-use Rattle.npf_reass_run.proofs.GatherLemmas.{ClassVec, all_packets, lists_among, made_count, made_gathers}
-use Rattle.npf_reass_run.proofs.ListLemmas.{IsClassOf}
-use Rattle.npf_reass_run.proofs.OfferLemmas.{was_ok}
+use Rattle.npf_reass_run.{specs.Gathering.GathersPieces, proofs.GatherLemmas.{ClassVec, all_packets, lists_among, made_count, made_gathers}}
+use Rattle.npf_reass_run.proofs.{ListLemmas.IsClassOf, OfferLemmas.was_ok}
 use Rattle.npf_reass_run.proofs.gather.gather.Goals as goal
 
 pub arrived_lists-requires : goal.arrived_lists-requires

@@ -1,9 +1,6 @@
-use Rattle.std.proofs.Common.{sym, subst}
-use Rattle.std.proofs.lemmas.List.{take_all}
-use Rattle.std.proofs.lemmas.List.Elements.{All-more, All-same}
+use Rattle.std.proofs.{Common.{sym, subst}, lemmas.List.{take_all, Elements.{All-more, All-same}}}
 use Rattle.npf_traffic.specs.declared.packet.Packet.{Packet}
-use Rattle.npf_pieces.specs.declared.piece.Seen.{Seen}
-use Rattle.npf_pieces.specs.Piece.{SeenAs}
+use Rattle.npf_pieces.specs.{declared.piece.Seen.Seen, Piece.SeenAs}
 use Rattle.npf_reass_run.proofs.gather.has_fragment.Goals as goal
 
 pub loop-packet-preserved : goal.loop-packet-preserved

@@ -1,7 +1,5 @@
-use Rattle.std.proofs.Common.{take}
-use Rattle.std.specs.Prelude.{All}
-use Rattle.npf_pieces.specs.declared.piece.Seen.{Seen}
-use Rattle.npf_pieces.specs.Piece.{SeenAs}
+use Rattle.std.{proofs.Common.take, specs.Prelude.All}
+use Rattle.npf_pieces.specs.{declared.piece.Seen.Seen, Piece.SeenAs}
 use Rattle.npf_reass_run.proofs.gather.has_fragment.Given as goal
 
 abbrev pub invariant-loop-packet : goal.invariant-loop-packet

@@ -1,5 +1,4 @@
-use Rattle.std.proofs.Common.{◌≡◌, ◌<◌, ◌≤◌, ◌∙◌, true, ⊎_elim, sym, get_or, arith}
-use Rattle.std.proofs.lemmas.Bool.{cases_lt}
+use Rattle.std.proofs.{Common.{◌≡◌, ◌<◌, ◌≤◌, ◌∙◌, true, ⊎_elim, sym, get_or, arith}, lemmas.Bool.cases_lt}
 use Rattle.npf_reass_sets.specs.Class.{same_key}
 use Rattle.npf_reass_sets.proofs.class.key_end.Goals as goal
 

@@ -1,7 +1,6 @@
 use Rattle.std.proofs.Common.{◌≡◌, ℕ, subst, map, length, arith}
 use Rattle.npf_pieces.specs.Sets.{set_at}
-use Rattle.npf_reass_sets.specs.Found.{HasFound}
-use Rattle.npf_reass_sets.proofs.DecideLemmas.{found_more}
+use Rattle.npf_reass_sets.{specs.Found.HasFound, proofs.DecideLemmas.found_more}
 use Rattle.npf_reass_sets.proofs.class.sets_by_key.Goals as goal
 
 pub loop-from-preserved : goal.loop-from-preserved

@@ -1,10 +1,6 @@
-use Rattle.std.proofs.Common.{◌-◌, ◌≤◌, List, length, map}
-use Rattle.std.specs.Prelude.{All}
-use Rattle.npf_pieces.specs.declared.arrived.Arrived.{Arrived}
-use Rattle.npf_pieces.specs.Judged.{reached}
-use Rattle.npf_pieces.specs.Sets.{StandsIn, set_at}
-use Rattle.npf_reass_sets.specs.Found.{HasFound}
-use Rattle.npf_reass_sets.specs.Order.{SortsByKey}
+use Rattle.std.{proofs.Common.{◌-◌, ◌≤◌, List, length, map}, specs.Prelude.All}
+use Rattle.npf_pieces.specs.{declared.arrived.Arrived.Arrived, Judged.reached, Sets.{StandsIn, set_at}}
+use Rattle.npf_reass_sets.specs.{Found.HasFound, Order.SortsByKey}
 use Rattle.npf_reass_sets.proofs.class.sets_by_key.Given as goal
 
 abbrev pub invariant-loop-from : goal.invariant-loop-from

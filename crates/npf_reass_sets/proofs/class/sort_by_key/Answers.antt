@@ -1,5 +1,4 @@
-use Rattle.std.proofs.Common.{◌≡◌, rules}
-use Rattle.std.proofs.lemmas.Fn.{always_returns_same}
+use Rattle.std.proofs.{Common.{◌≡◌, rules}, lemmas.Fn.always_returns_same}
 use Rattle.npf_reass_sets.proofs.SortLemmas.{sort_numbers, sorted_in_place}
 use Rattle.npf_reass_sets.proofs.class.sort_by_key.Goals as goal
 

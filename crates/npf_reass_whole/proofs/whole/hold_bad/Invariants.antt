@@ -1,8 +1,6 @@
-use Rattle.std.proofs.Common.{◌≡◌, ℕ, ◌<◌, ◌≤◌}
-use Rattle.std.specs.Prelude.{slice_index_or}
+use Rattle.std.{proofs.Common.{◌≡◌, ℕ, ◌<◌, ◌≤◌}, specs.Prelude.slice_index_or}
 use Rattle.npf_traffic.specs.declared.packet.Packet.{Packet}
-use Rattle.npf_pieces.specs.declared.piece.Seen.{Seen}
-use Rattle.npf_pieces.specs.Piece.{SeenAs}
+use Rattle.npf_pieces.specs.{declared.piece.Seen.Seen, Piece.SeenAs}
 use Rattle.npf_reass_whole.specs.Run.{HeldIfBad}
 use Rattle.npf_reass_whole.proofs.whole.hold_bad.Given as goal
 

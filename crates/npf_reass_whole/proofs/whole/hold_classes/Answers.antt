@@ -1,6 +1,5 @@
 use Rattle.std.proofs.Common.{◌∙◌, ℕ, sym, subst, length, get_or}
-use Rattle.npf_reass_whole.specs.Run.{HasPlacesBelow}
-use Rattle.npf_reass_whole.proofs.HoldLemmas.{classes_step}
+use Rattle.npf_reass_whole.{specs.Run.HasPlacesBelow, proofs.HoldLemmas.classes_step}
 use Rattle.npf_reass_whole.proofs.whole.hold_classes.Goals as goal
 
 pub loop-class-preserved : goal.loop-class-preserved

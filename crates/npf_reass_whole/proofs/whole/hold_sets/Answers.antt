@@ -1,6 +1,5 @@
 use Rattle.std.proofs.Common.{◌∙◌, refl, sym, get_or}
-use Rattle.npf_pieces.specs.declared.arrived.Ending.TheVariants.{Unfinished}
-use Rattle.npf_pieces.specs.declared.arrived.SetAt.{SetAt}
+use Rattle.npf_pieces.specs.declared.arrived.{Ending.TheVariants.Unfinished, SetAt.SetAt}
 use Rattle.npf_reass_whole.proofs.HoldLemmas.{sets_step}
 use Rattle.npf_reass_whole.proofs.whole.hold_sets.Goals as goal
 

@@ -1,6 +1,5 @@
 use Rattle.std.proofs.Common.{sym, subst}
-use Rattle.npf_reass_whole.specs.Run.{CanLayOut}
-use Rattle.npf_reass_whole.proofs.LayLemmas.{lays_class, lays_none}
+use Rattle.npf_reass_whole.{specs.Run.CanLayOut, proofs.LayLemmas.{lays_class, lays_none}}
 use Rattle.npf_reass_whole.proofs.whole.lay_out.Goals as goal
 
 pub loop-class-init : goal.loop-class-init

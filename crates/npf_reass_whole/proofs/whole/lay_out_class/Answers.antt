@@ -1,7 +1,5 @@
 use Rattle.std.proofs.Common.{ap, get_or, List}
-use Rattle.npf_pieces.specs.declared.arrived.Ending.TheVariants.{Unfinished}
-use Rattle.npf_pieces.specs.declared.arrived.SetAt.{SetAt}
-use Rattle.npf_pieces.specs.Datagram.{WholeIfComplete}
+use Rattle.npf_pieces.specs.{declared.arrived.{Ending.TheVariants.Unfinished, SetAt.SetAt}, Datagram.WholeIfComplete}
 use Rattle.npf_reass_whole.proofs.LayLemmas.{adds_none, adds_set, set_at_place}
 use Rattle.npf_reass_whole.proofs.whole.lay_out_class.Goals as goal
 

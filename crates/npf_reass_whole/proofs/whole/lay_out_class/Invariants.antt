@@ -1,6 +1,5 @@
 use Rattle.std.proofs.Common.{take, map}
-use Rattle.npf_pieces.specs.Datagrams.{laid_out}
-use Rattle.npf_pieces.specs.Sets.{set_at}
+use Rattle.npf_pieces.specs.{Datagrams.laid_out, Sets.set_at}
 use Rattle.npf_reass_whole.specs.Run.{AddsDatagrams}
 use Rattle.npf_reass_whole.proofs.whole.lay_out_class.Given as goal
 

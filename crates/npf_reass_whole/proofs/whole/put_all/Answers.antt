@@ -1,9 +1,6 @@
-use Rattle.std.proofs.Common.{◌∙◌, ◌<◌, ℕ, refl, sym, subst, ap, length}
-use Rattle.std.specs.Prelude.{All}
-use Rattle.npf_pieces.specs.DatagramAt.{PutTogether}
-use Rattle.npf_pieces.specs.Datagrams.{laid_out}
-use Rattle.npf_reass_whole.specs.Run.{HasPlacesBelow, all_sets}
-use Rattle.npf_reass_whole.proofs.HoldLemmas.{length-sets_held}
+use Rattle.std.{proofs.Common.{◌∙◌, ◌<◌, ℕ, refl, sym, subst, ap, length}, specs.Prelude.All}
+use Rattle.npf_pieces.specs.{DatagramAt.PutTogether, Datagrams.laid_out}
+use Rattle.npf_reass_whole.{specs.Run.{HasPlacesBelow, all_sets}, proofs.HoldLemmas.length-sets_held}
 use Rattle.npf_reass_whole.proofs.whole.put_all.Goals as goal
 
 pub hold_classes-requires : goal.hold_classes-requires

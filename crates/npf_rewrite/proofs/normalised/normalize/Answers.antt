@@ -1,8 +1,5 @@
 use Rattle.std.proofs.Common.{◌++◌, ap, ◌∙◌}
-use Rattle.npf_rewrite.specs.Normalised.{raised_ttl, segment_sum}
-use Rattle.npf_rewrite.specs.Translated.{header_sum}
-use Rattle.npf_rewrite.specs.Word.{word_list}
-use Rattle.npf_rewrite.proofs.WordLemmas.{rewrites_as, rewrites_both}
+use Rattle.npf_rewrite.{specs.{Normalised.{raised_ttl, segment_sum}, Translated.header_sum, Word.word_list}, proofs.WordLemmas.{rewrites_as, rewrites_both}}
 use Rattle.npf_rewrite.proofs.normalised.normalize.Goals as goal
 
 pub returns : goal.returns

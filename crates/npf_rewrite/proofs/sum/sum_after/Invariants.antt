@@ -1,6 +1,5 @@
 use Rattle.std.proofs.Common.{◌≡◌, drop, length}
-use Rattle.npf_rewrite.specs.Sum.{sum_after}
-use Rattle.npf_rewrite.specs.Word.{AllWithin}
+use Rattle.npf_rewrite.specs.{Sum.sum_after, Word.AllWithin}
 use Rattle.npf_rewrite.proofs.sum.sum_after.Given as goal
 
 abbrev pub invariant-loop-word : goal.invariant-loop-word

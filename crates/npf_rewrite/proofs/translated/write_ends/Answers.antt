@@ -1,7 +1,5 @@
 use Rattle.std.proofs.Common.{ap}
-use Rattle.npf_rewrite.specs.Address.{end_words}
-use Rattle.npf_rewrite.specs.Word.{word_list}
-use Rattle.npf_rewrite.proofs.WordLemmas.{rewrites_as, rewrites_both}
+use Rattle.npf_rewrite.{specs.{Address.end_words, Word.word_list}, proofs.WordLemmas.{rewrites_as, rewrites_both}}
 use Rattle.npf_rewrite.proofs.translated.write_ends.Goals as goal
 
 pub returns : goal.returns

@@ -1,5 +1,4 @@
-use Rattle.npf_rewrite.specs.Word.{word}
-use Rattle.npf_rewrite.proofs.WordLemmas.{rewrites_next, within_next}
+use Rattle.npf_rewrite.{specs.Word.word, proofs.WordLemmas.{rewrites_next, within_next}}
 use Rattle.npf_rewrite.proofs.word.write_words.Goals as goal
 
 pub loop-word-preserved : goal.loop-word-preserved

@@ -1,9 +1,7 @@
-use Rattle.std.proofs.Common.{◌≡◌, ◌<◌, ℕ, Some, List, flat_map, length, slice_get, take, refl, subst, sym, ap, ◌∙◌, arith, get_or}
-use Rattle.std.proofs.Math.Seq.{take-length}
+use Rattle.std.proofs.{Common.{◌≡◌, ◌<◌, ℕ, Some, List, flat_map, length, slice_get, take, refl, subst, sym, ap, ◌∙◌, arith, get_or}, Math.Seq.take-length}
 use Rattle.std.proofs.lemmas.Option.{slice_get-get_or, slice_get_read}
 use Rattle.npf_model.specs.Verdict.{rules_at}
-use Rattle.npf_ruleset.specs.Layout.{AddsPlaces}
-use Rattle.npf_ruleset.proofs.LayoutLemmas.{adds_both, adds_item, adds_none, in_group, next_part, stands_there}
+use Rattle.npf_ruleset.{specs.Layout.AddsPlaces, proofs.LayoutLemmas.{adds_both, adds_item, adds_none, in_group, next_part, stands_there}}
 use Rattle.npf_ruleset.proofs.layout.add_group.Goals as goal
 
 -- what an index reads is there

@@ -1,7 +1,6 @@
 use Rattle.std.proofs.Common.{sym, ap, ◌∙◌}
 use Rattle.npf_model.specs.MapOf.{map_applies}
-use Rattle.npf_ruleset.specs.Tables.{entries}
-use Rattle.npf_ruleset.proofs.PlaceLemmas.{first_here, first_behind}
+use Rattle.npf_ruleset.{specs.Tables.entries, proofs.PlaceLemmas.{first_here, first_behind}}
 use Rattle.npf_ruleset.proofs.map_choice.map_for.Goals as goal
 
 pub returns-then-applies : goal.returns-then-applies

@@ -1,9 +1,6 @@
 use Rattle.std.proofs.Common.{◌≡◌, drop}
-use Rattle.npf_model.specs.Configuration.{map_place_of}
-use Rattle.npf_model.specs.MapOf.{map_applies}
-use Rattle.npf_model.specs.Verdict.{first_where}
-use Rattle.npf_ruleset.specs.Configuration.{configuration}
-use Rattle.npf_ruleset.specs.Tables.{entries}
+use Rattle.npf_model.specs.{Configuration.map_place_of, MapOf.map_applies, Verdict.first_where}
+use Rattle.npf_ruleset.specs.{Configuration.configuration, Tables.entries}
 use Rattle.npf_ruleset.proofs.map_choice.map_for.Given as goal
 
 abbrev pub invariant-loop-at : goal.invariant-loop-at

@@ -1,9 +1,6 @@
-use Rattle.std.proofs.Common.{◌≡◌, ◌<◌, Some, List, length, slice_get, refl, sym, subst, ap, ◌∙◌, arith, ℕ, map, get_or}
-use Rattle.std.specs.Option.{option_map}
-use Rattle.std.proofs.lemmas.List.{length-map}
-use Rattle.std.proofs.lemmas.Option.{slice_get_read, slice_get-map}
-use Rattle.npf_model.specs.declared.rule.Rule.{Rule}
-use Rattle.npf_model.specs.Verdict.{PlacedRule, rules_at}
+use Rattle.std.{proofs.Common.{◌≡◌, ◌<◌, Some, List, length, slice_get, refl, sym, subst, ap, ◌∙◌, arith, ℕ, map, get_or}, specs.Option.option_map}
+use Rattle.std.proofs.lemmas.{List.length-map, Option.{slice_get_read, slice_get-map}}
+use Rattle.npf_model.specs.{declared.rule.Rule.Rule, Verdict.{PlacedRule, rules_at}}
 use Rattle.npf_ruleset.proofs.place.placed_in.Goals as goal
 
 -- what a list gives at a place, changed, is what the list gives there, once it is changed

@@ -2,9 +2,8 @@ use Rattle.std.proofs.Common.{◌≡◌, ◌≤◌, ◌+◌, drop}
 use Rattle.npf_connections.specs.Stay.{IsOut}
 use Rattle.npf_flow.specs.Flows.{flow_law}
 use Rattle.npf_publish.specs.Publisher.{published_number, publisher_range}
-use Rattle.npf_runner.specs.Commands.{Runs}
-use Rattle.npf_runner.specs.Plays.{published_by}
-use Rattle.npf_runner.specs.Works.{IsRested}
+use Rattle.npf_runner.specs.{Commands.Runs, Works.IsRested}
+use Rattle.npf_traffic.specs.Phases.{published_by}
 use Rattle.npf_runner.proofs.control.control.Given as goal
 
 abbrev pub invariant-loop-command : goal.invariant-loop-command

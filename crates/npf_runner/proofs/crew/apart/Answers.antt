@@ -1,9 +1,6 @@
-use Rattle.std.proofs.Common.{rules, ◌≡◌, ◌+◌, [], ◌∷◌, ◌++◌, map, length, ap, sym, ◌∙◌, arith}
-use Rattle.std.specs.Vec.Iter.{into_iter_items}
-use Rattle.std.proofs.lemmas.List.{append_assoc}
+use Rattle.std.{proofs.{Common.{rules, ◌≡◌, ◌+◌, [], ◌∷◌, ◌++◌, map, length, ap, sym, ◌∙◌, arith}, lemmas.List.append_assoc}, specs.Vec.Iter.into_iter_items}
 use Rattle.npf_runner_dealing.specs.Lanes.{queue_items}
-use Rattle.npf_runner.specs.Crew.{pass_of_lane, outcomes_of_lane, packets_of_lane}
-use Rattle.npf_runner.proofs.JobLemmas.{mapped_more}
+use Rattle.npf_runner.{specs.Crew.{pass_of_lane, outcomes_of_lane, packets_of_lane}, proofs.JobLemmas.mapped_more}
 use Rattle.npf_runner.proofs.crew.apart.Goals as goal
 
 pub loop-lane-preserved : goal.loop-lane-preserved

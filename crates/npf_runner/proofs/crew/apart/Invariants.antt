@@ -1,5 +1,4 @@
-use Rattle.std.proofs.Common.{◌≡◌, ◌≤◌, ◌+◌, ◌++◌, map, length, vec_len, vec_capacity}
-use Rattle.std.specs.Vec.Iter.{into_iter_items}
+use Rattle.std.{proofs.Common.{◌≡◌, ◌≤◌, ◌+◌, ◌++◌, map, length, vec_len, vec_capacity}, specs.Vec.Iter.into_iter_items}
 use Rattle.npf_runner_dealing.specs.Lanes.{queue_items}
 use Rattle.npf_runner.specs.Crew.{pass_of_lane, outcomes_of_lane, packets_of_lane}
 use Rattle.npf_runner.proofs.crew.apart.Given as goal

@@ -1,12 +1,8 @@
-use Rattle.std.proofs.Common.{◌≡◌, ◌∷◌, [], List, ℕ, length, map, replicate, vec_len, rules, sym, subst}
-use Rattle.std.specs.List.{range_with_len}
+use Rattle.std.{proofs.Common.{◌≡◌, ◌∷◌, [], List, ℕ, length, map, replicate, vec_len, rules, sym, subst}, specs.List.range_with_len}
 use Rattle.std.proofs.lemmas.List.FromFn.{length-range_with_len}
 use Rattle.npf_runner_dealing.specs.Lanes.{IsDealt}
 use Rattle.npf_traffic.specs.declared.packet.Packet.{Packet}
-use Rattle.npf_runner.specs.declared.order.Order.{Order}
-use Rattle.npf_runner.specs.Crew.{numbers_of_worker, packets_of_worker}
-use Rattle.npf_runner.specs.Order.{workers_by}
-use Rattle.npf_runner.proofs.OrderLemmas.{dealt_to_only}
+use Rattle.npf_runner.{specs.{declared.order.Order.Order, Crew.{numbers_of_worker, packets_of_worker}, Order.workers_by}, proofs.OrderLemmas.dealt_to_only}
 use Rattle.npf_runner.proofs.crew.crew_of.Goals as goal
 
 pub returns-in_ok-crew-in-Only-clause-numbers : goal.returns-in_ok-crew-in-Only-clause-numbers

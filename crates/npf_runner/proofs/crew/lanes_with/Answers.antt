@@ -1,10 +1,6 @@
-use Rattle.std.proofs.Common.{rules, ◌≡◌, ◌+◌, [], ◌∷◌, ◌++◌, All, map, length, ap, sym, subst, ◌∙◌, arith, Some}
-use Rattle.std.specs.List.{Contains}
-use Rattle.std.specs.Vec.Iter.{into_iter_items}
-use Rattle.std.proofs.lemmas.List.{append_assoc, map-append}
-use Rattle.std.proofs.lemmas.List.Elements.{All-push, All-pop, All-contains_itself, All-nil}
-use Rattle.npf_runner.specs.declared.worker.Lane.{Lane}
-use Rattle.npf_runner.specs.Crew.{worker_of_lane}
+use Rattle.std.{proofs.Common.{rules, ◌≡◌, ◌+◌, [], ◌∷◌, ◌++◌, All, map, length, ap, sym, subst, ◌∙◌, arith, Some}, specs.List.Contains}
+use Rattle.std.{specs.Vec.Iter.into_iter_items, proofs.lemmas.List.{append_assoc, map-append, Elements.{All-push, All-pop, All-contains_itself, All-nil}}}
+use Rattle.npf_runner.specs.{declared.worker.Lane.Lane, Crew.worker_of_lane}
 use Rattle.npf_runner.proofs.crew.lanes_with.Goals as goal
 
 pub loop-worker-init : goal.loop-worker-init

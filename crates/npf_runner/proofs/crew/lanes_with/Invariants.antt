@@ -1,6 +1,4 @@
-use Rattle.std.proofs.Common.{◌≡◌, ◌≤◌, ◌+◌, ◌++◌, All, map, length, vec_len, vec_capacity}
-use Rattle.std.specs.List.{Contains}
-use Rattle.std.specs.Vec.Iter.{into_iter_items}
+use Rattle.std.{proofs.Common.{◌≡◌, ◌≤◌, ◌+◌, ◌++◌, All, map, length, vec_len, vec_capacity}, specs.{List.Contains, Vec.Iter.into_iter_items}}
 use Rattle.npf_runner.specs.Crew.{worker_of_lane}
 use Rattle.npf_runner.proofs.crew.lanes_with.Given as goal
 

@@ -1,12 +1,8 @@
-use Rattle.std.proofs.Common.{rules, ◌≡◌, ◌+◌, [], ◌∷◌, ◌++◌, All, map, length, refl, ap, sym, subst, ◌∙◌, arith, Some}
-use Rattle.std.specs.List.{Contains}
-use Rattle.std.specs.Vec.Iter.{into_iter_items}
-use Rattle.std.proofs.lemmas.List.Elements.{All-push, All-pop, All-contains_itself, All-nil}
+use Rattle.std.{proofs.Common.{rules, ◌≡◌, ◌+◌, [], ◌∷◌, ◌++◌, All, map, length, refl, ap, sym, subst, ◌∙◌, arith, Some}, specs.List.Contains}
+use Rattle.std.{specs.Vec.Iter.into_iter_items, proofs.lemmas.List.Elements.{All-push, All-pop, All-contains_itself, All-nil}}
 use Rattle.npf_runner_dealing.specs.Lanes.{vec_items}
 use Rattle.npf_publish.specs.declared.conf_reader.ConfReader.{ConfReader}
-use Rattle.npf_runner.specs.declared.worker.Worker.{Worker}
-use Rattle.npf_runner.specs.Crew.{IsEquipped, numbers_of_worker, packets_of_worker}
-use Rattle.npf_runner.specs.Numbers.{packet_numbers}
+use Rattle.npf_runner.specs.{declared.worker.Worker.Worker, Crew.{IsEquipped, numbers_of_worker, packets_of_worker}, Numbers.packet_numbers}
 use Rattle.npf_runner.proofs.JobLemmas.{mapped_more}
 use Rattle.npf_runner.proofs.crew.workers_with.Goals as goal
 
@@ -52,7 +48,8 @@ loop-packets-preserved c =
       search rules,
       search rules,
       search rules,
-      inv.6 ∙ mapped_more vec_items numbers_of_worker workers c.push_reserved.new.self.items c.loop-packets.left.items c.pop_front.new.self.items numbers worker first (ap (λ ns. packet_numbers ns (length worker.packets.items)) made.numbers) pushed,
+      inv.6 ∙ mapped_more vec_items numbers_of_worker workers c.push_reserved.new.self.items c.loop-packets.left.items c.pop_front.new.self.items numbers worker first
+          (ap (λ ns. packet_numbers ns (length worker.packets.items)) made.numbers) pushed,
       inv.7 ∙ mapped_more vec_items packets_of_worker workers c.push_reserved.new.self.items before after packets worker items (ap vec_items made.packets) pushed,
       both.0,
       subst (λ z. All IsEquipped z) (sym pushed) (All-push IsEquipped workers worker inv.9 made.ready),

@@ -1,6 +1,4 @@
-use Rattle.std.proofs.Common.{◌≡◌, ◌≤◌, ◌+◌, ◌++◌, All, map, length, vec_len, vec_capacity}
-use Rattle.std.specs.List.{Contains}
-use Rattle.std.specs.Vec.Iter.{into_iter_items}
+use Rattle.std.{proofs.Common.{◌≡◌, ◌≤◌, ◌+◌, ◌++◌, All, map, length, vec_len, vec_capacity}, specs.{List.Contains, Vec.Iter.into_iter_items}}
 use Rattle.npf_runner_dealing.specs.Lanes.{vec_items}
 use Rattle.npf_runner.specs.Crew.{IsEquipped, numbers_of_worker, packets_of_worker}
 use Rattle.npf_runner.proofs.crew.workers_with.Given as goal

@@ -1,5 +1,4 @@
-use Rattle.std.proofs.Common.{◌≡◌, ◌≤◌, vec_len, vec_capacity}
-use Rattle.std.specs.List.{range_with_len}
+use Rattle.std.{proofs.Common.{◌≡◌, ◌≤◌, vec_len, vec_capacity}, specs.List.range_with_len}
 use Rattle.npf_runner.proofs.numbers.numbers_from.Given as goal
 
 abbrev pub invariant-loop-place : goal.invariant-loop-place

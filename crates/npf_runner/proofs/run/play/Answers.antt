@@ -1,17 +1,11 @@
 use Rattle.std.proofs.Common.{rules, ◌≡◌, ◌<◌, ◌≤◌, ◌+◌, [], ◌∷◌, ◌++◌, All, take, drop, get_or, length, vec_len, refl, sym, ap, subst, ◌∙◌, arith}
-use Rattle.std.proofs.lemmas.List.{append_assoc, append-nil, length-drop, nil_from_length}
-use Rattle.std.proofs.lemmas.List.Elements.{All-drop}
+use Rattle.std.proofs.lemmas.List.{append_assoc, append-nil, length-drop, nil_from_length, Elements.All-drop}
+use Rattle.npf_traffic.{proofs.PhaseLemmas.packets_in-cons, specs.{Phases.{PhasesPublishFrom, packets_in, published_by}, Packet.IsShortPacket}}
 use Rattle.npf_engine.specs.Handles.{configurations}
-use Rattle.npf_runner.specs.Job.{Handled, numbered_from}
-use Rattle.npf_runner.specs.Played.{handled, outcomes_of, outputs_of}
-use Rattle.npf_runner.specs.Plays.{PhasesPublishFrom, PlaysPhases, packets_in, published_by}
-use Rattle.npf_traffic.specs.Packet.{IsShortPacket}
-use Rattle.npf_runner.specs.Task.{RunsPhase, RunsPhases}
-use Rattle.npf_runner.proofs.EngineLemmas.{says_own, tells_in_longer}
-use Rattle.npf_runner.proofs.JobLemmas.{phase_ordered, phases_from, numbered_length, packets_first, published_below}
-use Rattle.npf_runner.proofs.PlayedLemmas.{handled_more, more_length, outcomes_of-handled, outputs_of-handled}
+use Rattle.npf_runner.specs.{Job.{Handled, numbered_from}, Played.{handled, outcomes_of, outputs_of}, Plays.PlaysPhases, Phase.{RunsPhase, RunsPhases}}
+use Rattle.npf_runner.proofs.{EngineLemmas.{says_own, tells_in_longer}, JobLemmas.{phase_ordered, phases_from, numbered_length, published_below}}
+use Rattle.npf_runner.proofs.{PlayedLemmas.{handled_more, more_length, outcomes_of-handled, outputs_of-handled}, RunLemmas.{left_length, no_dead_more, plays}}
 use Rattle.npf_connections.proofs.SaidLemmas.{later_more}
-use Rattle.npf_runner.proofs.RunLemmas.{left_length, no_dead_more, plays}
 use Rattle.npf_runner.proofs.run.play.Goals as goal
 
 pub run_phase-requires-clause-numbers : goal.run_phase-requires-clause-numbers
@@ -55,7 +49,7 @@ loop-phase-preserved g c =
     let low : i < length phases = search rules in
     let at : phase ≡ get_or phases i phase = search rules in
     let dropped = phases_from phases i phase low at in
-    let sums : packets_in (drop i phases) ≡ phase.packets + packets_in after = ap packets_in dropped ∙ packets_first phase after in
+    let sums : packets_in (drop i phases) ≡ phase.packets + packets_in after = ap packets_in dropped ∙ packets_in-cons phase after in
     let left = inv.4 in
     let enough : phase.packets ≤ length rest = omega (arith, sums, left) in
     let commands = c.as_slice-commands.result.now in
@@ -124,7 +118,8 @@ returns-clause-plays g c =
     let left = inv.4 in
     let empty : c.loop-phase.left.items ≡ [] = nil_from_length c.loop-phase.left.items (sym left ∙ ap packets_in none) in
     let done : RunsPhases V configs c.args.workers c.args.spread (V c.loop-phase.pass) (V c.loop-phase.pass) c.loop-phase.first c.loop-phase.last (drop i phases) c.loop-phase.left.items [] =
-    subst (λ z. RunsPhases V configs c.args.workers c.args.spread (V c.loop-phase.pass) (V c.loop-phase.pass) c.loop-phase.first c.loop-phase.last z c.loop-phase.left.items []) (sym none) (refl, empty, refl) in
+    subst (λ z. RunsPhases V configs c.args.workers c.args.spread (V c.loop-phase.pass) (V c.loop-phase.pass) c.loop-phase.first c.loop-phase.last z c.loop-phase.left.items [])
+    (sym none) (refl, empty, refl) in
     let runs = subst (λ z. RunsPhases V configs c.args.workers c.args.spread (V c.args.pass.now) (V c.loop-phase.pass) 1 0 phases c.args.packets.items z) (append-nil dones)
     (inv.13 (V c.loop-phase.pass) [] done) in
     let whole = plays says_own tells_in_longer V configs c.args.workers c.args.spread (V c.args.pass.now) (V c.loop-phase.pass) phases c.args.packets.items dones runs

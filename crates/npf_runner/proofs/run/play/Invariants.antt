@@ -1,12 +1,9 @@
 use Rattle.std.proofs.Common.{◌≡◌, ◌≤◌, ◌<◌, ◌+◌, ◌++◌, All, List, drop, length, vec_len, vec_capacity}
-use Rattle.npf_connections.specs.Pass.{all_places}
-use Rattle.npf_connections.specs.Stay.{IsLater, IsOut}
+use Rattle.npf_connections.specs.{Pass.all_places, Stay.{IsLater, IsOut}}
 use Rattle.npf_flow.specs.Flows.{flow_law}
 use Rattle.npf_engine.specs.Handles.{configurations}
-use Rattle.npf_runner.specs.Played.{handled}
-use Rattle.npf_runner.specs.Plays.{PhasesPublishFrom, packets_in}
-use Rattle.npf_traffic.specs.Packet.{IsShortPacket}
-use Rattle.npf_runner.specs.Task.{LeavesNoDead, RunsPhases}
+use Rattle.npf_runner.specs.{Played.handled, Phase.{LeavesNoDead, RunsPhases}}
+use Rattle.npf_traffic.specs.{Phases.{PhasesPublishFrom, packets_in}, Packet.IsShortPacket}
 use Rattle.npf_runner.proofs.run.play.Given as goal
 
 abbrev pub invariant-loop-phase : goal.invariant-loop-phase
@@ -26,4 +23,5 @@ invariant-loop-phase g l =
     × (vec_len l.all.packets + length l.left.items ≤ vec_capacity l.all.packets)
     × ((new : _) (dones : List _) →
     RunsPhases g.C.Connections.view (configurations l.configs) l.workers l.spread (g.C.Connections.view l.pass) new l.first l.last (drop l.phase-index l.phases) l.left.items dones →
-    RunsPhases g.C.Connections.view (configurations l.configs) l.workers l.spread (g.C.Connections.view l.initial.pass) new 1 0 l.phases l.fn.packets.items (handled l.all.outcomes.items l.all.packets.items ++ dones))
+    RunsPhases g.C.Connections.view (configurations l.configs) l.workers l.spread (g.C.Connections.view l.initial.pass) new 1 0 l.phases l.fn.packets.items
+    (handled l.all.outcomes.items l.all.packets.items ++ dones))

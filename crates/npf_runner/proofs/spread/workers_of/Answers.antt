@@ -1,10 +1,6 @@
-use Rattle.std.proofs.Common.{rules, ◌≡◌, ◌<◌, ◌+◌, ◌++◌, ℕ, List, take, drop, length, le_refl, ap, sym, subst, ◌∙◌}
-use Rattle.std.proofs.lemmas.List.{take_all, take-append-le}
+use Rattle.std.proofs.{Common.{rules, ◌≡◌, ◌<◌, ◌+◌, ◌++◌, ℕ, List, take, drop, length, le_refl, ap, sym, subst, ◌∙◌}, lemmas.List.{take_all, take-append-le}}
 use Rattle.std.specs.List.{AllZip}
-use Rattle.npf_runner.specs.Spread.{IsWorkerOf}
-use Rattle.npf_runner.specs.Job.{Job, job_arrival, numbered_from}
-use Rattle.npf_runner.specs.Plays.{arriving}
-use Rattle.npf_runner.proofs.JobLemmas.{zip_numbered}
+use Rattle.npf_runner.{specs.{Spread.IsWorkerOf, Job.{Job, job_arrival, numbered_from}, Plays.arriving}, proofs.JobLemmas.zip_numbered}
 use Rattle.npf_runner.proofs.spread.workers_of.Goals as goal
 
 pub returns-clause-each : goal.returns-clause-each
@@ -16,7 +12,8 @@ returns-clause-each g c =
     let count : length told ≡ length packets = search rules in
     let rest = drop (length told) made.items in
     let len : made.len ≡ length told = search rules in
-    let whole : take made.len (told ++ rest) ≡ told = ap (λ n. take n (told ++ rest)) len ∙ (take-append-le (length told) told rest (le_refl (length told)) ∙ take_all (length told) told (le_refl (length told))) in
+    let whole : take made.len (told ++ rest) ≡ told = ap (λ n. take n (told ++ rest)) len
+    ∙ (take-append-le (length told) told rest (le_refl (length told)) ∙ take_all (length told) told (le_refl (length told))) in
     subst (λ (z : List ℕ). AllZip (λ (job : Job) worker. IsWorkerOf c.args.spread c.args.workers (job_arrival job) worker) (numbered_from first packets) z) (sym whole)
     (zip_numbered (λ job worker. IsWorkerOf c.args.spread c.args.workers (job_arrival job) worker) first packets told count
     (λ i packet low is.

@@ -1,15 +1,8 @@
 use Rattle.std.proofs.Common.{rules, ◌≡◌, ◌≤◌, ◌<◌, ◌+◌, [], ◌∷◌, ◌++◌, All, drop, set, length, refl, sym, ap, subst, ◌∙◌, arith}
-use Rattle.std.proofs.lemmas.List.{append_assoc, append-nil, drop_all, drop-set-lt}
-use Rattle.std.proofs.lemmas.List.Elements.{All-head, All-rest}
+use Rattle.std.proofs.lemmas.List.{append_assoc, append-nil, drop_all, drop-set-lt, Elements.{All-head, All-rest}}
 use Rattle.npf_engine.specs.Handles.{configurations}
-use Rattle.npf_runner.specs.Crew.{jobs_of}
-use Rattle.npf_runner.specs.Job.{Handled, Job, IsJob, with_numbers}
-use Rattle.npf_runner.specs.Numbers.{packet_numbers}
-use Rattle.npf_runner.specs.Played.{handled}
-use Rattle.npf_runner.specs.Works.{WorksThrough}
-use Rattle.npf_runner.proofs.JobLemmas.{asks_range, numbered_rest}
-use Rattle.npf_runner.proofs.NumbersLemmas.{number_at_place, numbered_at}
-use Rattle.npf_runner.proofs.PlayedLemmas.{handled_at}
+use Rattle.npf_runner.specs.{Crew.jobs_of, Job.{Handled, Job, IsJob, with_numbers}, Numbers.packet_numbers, Played.handled, Works.WorksThrough}
+use Rattle.npf_runner.proofs.{JobLemmas.{asks_range, numbered_rest}, NumbersLemmas.{number_at_place, numbered_at}, PlayedLemmas.handled_at}
 use Rattle.npf_runner.proofs.RestLemmas.{rested_more}
 use Rattle.npf_runner.proofs.worker.work.Goals as goal
 

@@ -1,8 +1,6 @@
 use Rattle.std.proofs.Common.{rules, ◌≡◌, ◌<◌, ◌+◌, [], ◌∷◌, ◌++◌, All, map, drop, set, get_or, length, ap, sym, ◌∙◌, arith}
-use Rattle.std.proofs.lemmas.List.{drop_more, length-map, map-set}
-use Rattle.std.proofs.lemmas.List.Elements.{All-map}
-use Rattle.npf_runner_dealing.specs.Lanes.{of_lane, vec_items}
-use Rattle.npf_runner_dealing.proofs.LaneLemmas.{dealt_more, get_or-map}
+use Rattle.std.proofs.lemmas.List.{drop_more, length-map, map-set, Elements.All-map}
+use Rattle.npf_runner_dealing.{specs.Lanes.{of_lane, vec_items}, proofs.LaneLemmas.{dealt_more, get_or-map}}
 use Rattle.npf_runner_dealing.proofs.lanes.deal.Goals as goal
 
 pub loop-lane-init : goal.loop-lane-init

@@ -1,7 +1,6 @@
 use Rattle.std.proofs.Common.{rules, ◌≡◌, ◌<◌, ◌+◌, [], ◌∷◌, ◌++◌, List, map, drop, set, get_or, length, ap, sym, subst, ◌∙◌, arith}
 use Rattle.std.proofs.lemmas.List.{drop_more, append_assoc, map-set, length-map}
-use Rattle.npf_runner_dealing.specs.Lanes.{IsDealt, queue_items}
-use Rattle.npf_runner_dealing.proofs.LaneLemmas.{dealt_low, dealt_first, dealt_rest, get_or-map}
+use Rattle.npf_runner_dealing.{specs.Lanes.{IsDealt, queue_items}, proofs.LaneLemmas.{dealt_low, dealt_first, dealt_rest, get_or-map}}
 use Rattle.npf_runner_dealing.proofs.lanes.gather.Goals as goal
 
 pub unwrap-item-requires : goal.unwrap-item-requires

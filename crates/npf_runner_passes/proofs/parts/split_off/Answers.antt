@@ -1,9 +1,6 @@
-use Rattle.std.proofs.Common.{rules, ◌≡◌, ◌∷◌, ◌++◌, [], map, sym, subst, All, ◌<◌, length, vec_len}
-use Rattle.std.proofs.lemmas.List.{map-append, length-map}
-use Rattle.std.proofs.lemmas.List.Elements.{All-push}
+use Rattle.std.proofs.{Common.{rules, ◌≡◌, ◌∷◌, ◌++◌, [], map, sym, subst, All, ◌<◌, length, vec_len}, lemmas.List.{map-append, length-map, Elements.All-push}}
 use Rattle.npf_connections.specs.Stay.{IsOut}
-use Rattle.npf_runner_passes.specs.Parts.{Spreads}
-use Rattle.npf_runner_passes.proofs.PartsLemmas.{spreads_more}
+use Rattle.npf_runner_passes.{specs.Parts.Spreads, proofs.PartsLemmas.spreads_more}
 use Rattle.npf_runner_passes.proofs.parts.split_off.Goals as goal
 
 pub loop-preserved : goal.loop-preserved

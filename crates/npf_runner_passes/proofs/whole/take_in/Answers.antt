@@ -1,9 +1,6 @@
-use Rattle.std.proofs.Common.{rules, ◌≡◌, ◌∷◌, [], map, sym, subst, refl}
-use Rattle.std.specs.Vec.Iter.{into_iter_items}
-use Rattle.std.proofs.lemmas.List.{nil_from_length}
+use Rattle.std.{proofs.{Common.{rules, ◌≡◌, ◌∷◌, [], map, sym, subst, refl}, lemmas.List.nil_from_length}, specs.Vec.Iter.into_iter_items}
 use Rattle.std.proofs.lemmas.List.Elements.{All-rest, All-map}
-use Rattle.npf_connections.specs.Pass.{Pass}
-use Rattle.npf_connections.specs.Stay.{IsOut}
+use Rattle.npf_connections.specs.{Pass.Pass, Stay.IsOut}
 use Rattle.npf_runner_passes.proofs.WholeLemmas.{TakesIn, gathers}
 use Rattle.npf_runner_passes.proofs.whole.take_in.Goals as goal
 

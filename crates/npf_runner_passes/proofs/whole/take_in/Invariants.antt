@@ -1,5 +1,4 @@
-use Rattle.std.proofs.Common.{All, map}
-use Rattle.std.specs.Vec.Iter.{into_iter_items}
+use Rattle.std.{proofs.Common.{All, map}, specs.Vec.Iter.into_iter_items}
 use Rattle.npf_connections.specs.Stay.{IsOut}
 use Rattle.npf_runner_passes.proofs.WholeLemmas.{TakesIn}
 use Rattle.npf_runner_passes.proofs.whole.take_in.Given as goal

@@ -1,11 +1,7 @@
-use Rattle.std.proofs.Common.{◌≡◌, ◌<◌, ◌^◌, ◌++◌, ◌∷◌, ◌∙◌, ℕ, refl, lit≤}
-use Rattle.std.specs.Fmt.{decimal}
+use Rattle.std.{proofs.Common.{◌≡◌, ◌<◌, ◌^◌, ◌++◌, ◌∷◌, ◌∙◌, ℕ, refl, lit≤}, specs.Fmt.decimal}
 use Rattle.npf_types.specs.Name.{name_bytes}
-use Rattle.npf_saved.specs.Spelling.{bit_text, or_dash}
-use Rattle.npf_saved.proofs.CutLemmas.{rest_behind, word_before}
-use Rattle.npf_saved.proofs.FieldLemmas.{byte_lacks, size_lacks}
-use Rattle.npf_saved.proofs.NameLemmas.{name_guessed}
-use Rattle.npf_saved.proofs.WordLemmas.{bit_lacks}
+use Rattle.npf_saved.{specs.Spelling.{bit_text, or_dash}, proofs.{CutLemmas.{rest_behind, word_before}, FieldLemmas.{byte_lacks, size_lacks}}}
+use Rattle.npf_saved.proofs.{NameLemmas.name_guessed, WordLemmas.bit_lacks}
 use Rattle.npf_saved.proofs.guess.guess_action.Goals as goal
 
 pub returns-clause-value : goal.returns-clause-value

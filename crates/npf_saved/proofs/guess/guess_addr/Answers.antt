@@ -1,13 +1,8 @@
 use Rattle.std.proofs.Common.{◌≡◌, ◌<◌, ◌+◌, ◌*◌, ◌/◌, ◌%◌, ◌^◌, ◌++◌, ℕ, List, length, take, drop, refl, ap, sym, ◌∙◌, arith}
-use Rattle.std.specs.Int.{w32, w64, to_be_bytes}
-use Rattle.std.proofs.Math.Seq.{take-append_seam, drop-append_seam}
-use Rattle.std.proofs.lemmas.List.{length-append}
-use Rattle.hex.specs.Hex.{lower_digits}
-use Rattle.hex.proofs.HexLemmas.{length-encode_with}
-use Rattle.npf_types.specs.declared.address.Addr.{Addr}
-use Rattle.npf_types.specs.declared.address.Addr.TheVariants.{V4, V6}
-use Rattle.npf_saved.specs.Fields.{FitsAddrText}
-use Rattle.npf_saved.specs.Spelling.{addr_text, hex_text}
+use Rattle.std.{specs.Int.{w32, w64, to_be_bytes}, proofs.{Math.Seq.{take-append_seam, drop-append_seam}, lemmas.List.length-append}}
+use Rattle.hex.{specs.Hex.lower_digits, proofs.HexLemmas.length-encode_with}
+use Rattle.npf_types.specs.declared.address.Addr.{Addr, TheVariants.{V4, V6}}
+use Rattle.npf_saved.specs.{Fields.FitsAddrText, Spelling.{addr_text, hex_text}}
 use Rattle.npf_saved.proofs.guess.guess_addr.Goals as goal
 
 half_long : (n : ℕ) → length (hex_text w64 n) ≡ 16

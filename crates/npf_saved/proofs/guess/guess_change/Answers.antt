@@ -1,7 +1,5 @@
 use Rattle.std.proofs.Common.{◌≡◌, ◌++◌, ◌∷◌, ◌∙◌, refl}
-use Rattle.npf_saved.specs.Spelling.{bit_text, end_text, or_dash}
-use Rattle.npf_saved.proofs.CutLemmas.{rest_behind, word_before}
-use Rattle.npf_saved.proofs.FieldLemmas.{end_lacks}
+use Rattle.npf_saved.{specs.Spelling.{bit_text, end_text, or_dash}, proofs.{CutLemmas.{rest_behind, word_before}, FieldLemmas.end_lacks}}
 use Rattle.npf_saved.proofs.guess.guess_change.Goals as goal
 
 pub returns-clause-value : goal.returns-clause-value

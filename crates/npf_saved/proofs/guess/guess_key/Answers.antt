@@ -1,10 +1,6 @@
-use Rattle.std.proofs.Common.{◌≡◌, ◌++◌, ◌∷◌, ℕ, List, slice_index, refl, ap, ◌∙◌}
-use Rattle.std.specs.Int.{w64}
+use Rattle.std.{proofs.Common.{◌≡◌, ◌++◌, ◌∷◌, ℕ, List, slice_index, refl, ap, ◌∙◌}, specs.Int.w64}
 use Rattle.npf_types.specs.declared.key.Key.{Key}
-use Rattle.npf_saved.specs.Spelling.{hex_text}
-use Rattle.npf_saved.proofs.CutLemmas.{rest_behind, word_before}
-use Rattle.npf_saved.proofs.GuessLemmas.{key_of_five}
-use Rattle.npf_saved.proofs.WordLemmas.{number_lacks}
+use Rattle.npf_saved.{specs.Spelling.hex_text, proofs.{CutLemmas.{rest_behind, word_before}, GuessLemmas.key_of_five, WordLemmas.number_lacks}}
 use Rattle.npf_saved.proofs.guess.guess_key.Goals as goal
 
 pub returns-clause-value : goal.returns-clause-value

@@ -1,11 +1,7 @@
-use Rattle.std.proofs.Common.{◌≡◌, ◌∙◌, List, ℕ, ap, refl}
-use Rattle.std.specs.Int.{w16}
+use Rattle.std.{proofs.Common.{◌≡◌, ◌∙◌, List, ℕ, ap, refl}, specs.Int.w16}
 use Rattle.npf_types.specs.declared.change.End.{End}
-use Rattle.npf_saved.specs.Fields.{FitsEnd}
-use Rattle.npf_saved.specs.Spelling.{addr_text, end_text, hex_text, or_dash}
-use Rattle.npf_saved.proofs.CutLemmas.{rest_behind, word_before}
-use Rattle.npf_saved.proofs.FieldLemmas.{addr_lacks}
-use Rattle.npf_saved.proofs.GuessLemmas.{dash_is_none, end_differs, not_dash, word_is_some}
+use Rattle.npf_saved.{specs.{Fields.FitsEnd, Spelling.{addr_text, end_text, hex_text, or_dash}}, proofs.CutLemmas.{rest_behind, word_before}}
+use Rattle.npf_saved.proofs.{FieldLemmas.addr_lacks, GuessLemmas.{dash_is_none, end_differs, not_dash, word_is_some}}
 use Rattle.npf_saved.proofs.guess.guess_optional_end.Goals as goal
 
 pub returns-then-is_dash-clause-value : goal.returns-then-is_dash-clause-value

@@ -1,7 +1,5 @@
 use Rattle.std.proofs.Common.{refl}
-use Rattle.npf_saved.specs.Fields.{FitsKeyText}
-use Rattle.npf_saved.specs.Spelling.{key_text}
-use Rattle.npf_saved.proofs.FieldLemmas.{key_lacks}
+use Rattle.npf_saved.{specs.{Fields.FitsKeyText, Spelling.key_text}, proofs.FieldLemmas.key_lacks}
 use Rattle.npf_saved.proofs.GuessLemmas.{dash_is_none, no_dash, not_dash, word_is_some}
 use Rattle.npf_saved.proofs.guess.guess_optional_key.Goals as goal
 

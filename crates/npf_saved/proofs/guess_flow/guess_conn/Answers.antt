@@ -1,9 +1,6 @@
-use Rattle.std.proofs.Common.{◌≡◌, ◌++◌, ◌∷◌, ◌∙◌, codes, refl, sym, lit≤}
-use Rattle.std.specs.Fmt.{decimal}
-use Rattle.npf_saved.specs.Spelling.{action_text, change_text, key_text, kind_text, or_dash}
-use Rattle.npf_saved.proofs.CutLemmas.{rest_behind, word_before}
-use Rattle.npf_saved.proofs.FieldLemmas.{change_is_word, key_lacks, kind_is_word, optional_key_lacks}
-use Rattle.npf_saved.proofs.WordLemmas.{decimal_lacks}
+use Rattle.std.{proofs.Common.{◌≡◌, ◌++◌, ◌∷◌, ◌∙◌, codes, refl, sym, lit≤}, specs.Fmt.decimal}
+use Rattle.npf_saved.{specs.Spelling.{action_text, change_text, key_text, kind_text, or_dash}, proofs.CutLemmas.{rest_behind, word_before}}
+use Rattle.npf_saved.proofs.{FieldLemmas.{change_is_word, key_lacks, kind_is_word, optional_key_lacks}, WordLemmas.decimal_lacks}
 use Rattle.npf_saved.proofs.guess_flow.guess_conn.Goals as goal
 
 pub returns-clause-value : goal.returns-clause-value

@@ -1,8 +1,5 @@
-use Rattle.std.proofs.Common.{◌≡◌, ◌<◌, ◌^◌, ◌++◌, ◌∷◌, ◌∙◌, ℕ, refl, lit≤}
-use Rattle.std.specs.Fmt.{decimal}
-use Rattle.npf_saved.specs.Spelling.{known_number, or_dash}
-use Rattle.npf_saved.proofs.CutLemmas.{rest_behind, word_before}
-use Rattle.npf_saved.proofs.FieldLemmas.{known_small, wider}
+use Rattle.std.{proofs.Common.{◌≡◌, ◌<◌, ◌^◌, ◌++◌, ◌∷◌, ◌∙◌, ℕ, refl, lit≤}, specs.Fmt.decimal}
+use Rattle.npf_saved.{specs.Spelling.{known_number, or_dash}, proofs.{CutLemmas.{rest_behind, word_before}, FieldLemmas.{known_small, wider}}}
 use Rattle.npf_saved.proofs.WordLemmas.{decimal_lacks}
 use Rattle.npf_saved.proofs.guess_flow.guess_side.Goals as goal
 

@@ -1,8 +1,5 @@
-use Rattle.std.proofs.Common.{◌≡◌, ◌++◌, ◌∷◌, [], ◌∙◌, refl, lit≤}
-use Rattle.std.specs.Fmt.{decimal}
-use Rattle.npf_saved.specs.Spelling.{bit_text, phase_number, side_text}
-use Rattle.npf_saved.proofs.CutLemmas.{rest_behind, word_before}
-use Rattle.npf_saved.proofs.FieldLemmas.{phase_small, side_lacks}
+use Rattle.std.{proofs.Common.{◌≡◌, ◌++◌, ◌∷◌, [], ◌∙◌, refl, lit≤}, specs.Fmt.decimal}
+use Rattle.npf_saved.{specs.Spelling.{bit_text, phase_number, side_text}, proofs.{CutLemmas.{rest_behind, word_before}, FieldLemmas.{phase_small, side_lacks}}}
 use Rattle.npf_saved.proofs.WordLemmas.{bit_lacks, decimal_lacks}
 use Rattle.npf_saved.proofs.guess_flow.guess_state.Goals as goal
 

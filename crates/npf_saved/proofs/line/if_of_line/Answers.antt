@@ -1,9 +1,6 @@
 use Rattle.std.proofs.Common.{◌≡◌, codes, refl, sym, ap, ◌∙◌, rules}
-use Rattle.npf_types.specs.Name.{name_bytes}
-use Rattle.npf_types.specs.Named.{named}
-use Rattle.npf_types.specs.NameText.{is_name}
-use Rattle.npf_saved.proofs.CutLemmas.{rest_behind}
-use Rattle.npf_saved.proofs.NameLemmas.{named_of_bytes}
+use Rattle.npf_types.specs.{Name.name_bytes, Named.named, NameText.is_name}
+use Rattle.npf_saved.proofs.{CutLemmas.rest_behind, NameLemmas.named_of_bytes}
 use Rattle.npf_saved.proofs.line.if_of_line.Goals as goal
 
 pub returns-in_default : goal.returns-in_default

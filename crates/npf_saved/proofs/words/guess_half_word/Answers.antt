@@ -1,6 +1,4 @@
-use Rattle.std.proofs.Common.{refl, ap, ◌∙◌}
-use Rattle.std.specs.Int.{w32, from_be_bytes, to_be_bytes}
-use Rattle.std.proofs.lemmas.Nat.{from_be_bytes-to_be_bytes_4}
+use Rattle.std.{proofs.{Common.{refl, ap, ◌∙◌}, lemmas.Nat.from_be_bytes-to_be_bytes_4}, specs.Int.{w32, from_be_bytes, to_be_bytes}}
 use Rattle.npf_saved.proofs.WordLemmas.{are_bytes, hex_read}
 use Rattle.npf_saved.proofs.words.guess_half_word.Goals as goal
 

@@ -1,9 +1,5 @@
-use Rattle.std.proofs.Common.{◌≡◌, List, ℕ, rules, refl, sym, ap, subst, ◌∙◌}
-use Rattle.std.specs.Fmt.{decimal}
-use Rattle.std.specs.Result.{result_unwrap_or}
-use Rattle.std.specs.Str.{IsAscii, IsUtf8}
-use Rattle.std.proofs.lemmas.Fmt.{IsAscii-decimal, parse-decimal}
-use Rattle.std.proofs.lemmas.Str.{IsUtf8-from_ascii}
+use Rattle.std.{proofs.Common.{◌≡◌, List, ℕ, rules, refl, sym, ap, subst, ◌∙◌}, specs.{Fmt.decimal, Result.result_unwrap_or, Str.{IsAscii, IsUtf8}}}
+use Rattle.std.proofs.lemmas.{Fmt.{IsAscii-decimal, parse-decimal}, Str.IsUtf8-from_ascii}
 use Rattle.npf_saved.proofs.words.guess_number.Goals as goal
 
 pub returns-in_default : goal.returns-in_default

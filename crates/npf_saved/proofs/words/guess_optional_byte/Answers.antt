@@ -1,7 +1,5 @@
-use Rattle.std.proofs.Common.{◌<◌, ◌^◌, ℕ, lit≤, arith}
-use Rattle.std.specs.Fmt.{decimal}
-use Rattle.npf_saved.proofs.GuessLemmas.{dash_is_none, no_dash}
-use Rattle.npf_saved.proofs.WordLemmas.{decimal_lacks}
+use Rattle.std.{proofs.Common.{◌<◌, ◌^◌, ℕ, lit≤, arith}, specs.Fmt.decimal}
+use Rattle.npf_saved.proofs.{GuessLemmas.{dash_is_none, no_dash}, WordLemmas.decimal_lacks}
 use Rattle.npf_saved.proofs.words.guess_optional_byte.Goals as goal
 
 pub returns-then-is_dash-clause-value : goal.returns-then-is_dash-clause-value

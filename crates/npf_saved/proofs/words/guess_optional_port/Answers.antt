@@ -1,8 +1,5 @@
-use Rattle.std.proofs.Common.{◌<◌, ◌^◌, ℕ, refl, ap, ◌∙◌}
-use Rattle.std.specs.Int.{w16, from_be_bytes, to_be_bytes}
-use Rattle.std.proofs.lemmas.Nat.{from_be_bytes-to_be_bytes_2}
-use Rattle.npf_saved.specs.Spelling.{hex_text}
-use Rattle.npf_saved.proofs.GuessLemmas.{dash_is_none, no_dash, not_dash, word_is_some}
+use Rattle.std.{proofs.{Common.{◌<◌, ◌^◌, ℕ, refl, ap, ◌∙◌}, lemmas.Nat.from_be_bytes-to_be_bytes_2}, specs.Int.{w16, from_be_bytes, to_be_bytes}}
+use Rattle.npf_saved.{specs.Spelling.hex_text, proofs.GuessLemmas.{dash_is_none, no_dash, not_dash, word_is_some}}
 use Rattle.npf_saved.proofs.WordLemmas.{are_bytes, hex_read, number_lacks}
 use Rattle.npf_saved.proofs.words.guess_optional_port.Goals as goal
 

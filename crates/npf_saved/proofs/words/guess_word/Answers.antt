@@ -1,6 +1,4 @@
-use Rattle.std.proofs.Common.{refl, ap, ◌∙◌}
-use Rattle.std.specs.Int.{w64, from_be_bytes, to_be_bytes}
-use Rattle.std.proofs.lemmas.Nat.{from_be_bytes-to_be_bytes_8}
+use Rattle.std.{proofs.{Common.{refl, ap, ◌∙◌}, lemmas.Nat.from_be_bytes-to_be_bytes_8}, specs.Int.{w64, from_be_bytes, to_be_bytes}}
 use Rattle.npf_saved.proofs.WordLemmas.{are_bytes, hex_read}
 use Rattle.npf_saved.proofs.words.guess_word.Goals as goal
 

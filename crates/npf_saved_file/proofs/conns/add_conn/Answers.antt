@@ -1,8 +1,6 @@
-use Rattle.std.proofs.Common.{false, true, List, [], ◌∷◌, ◌++◌, refl, sym, subst}
-use Rattle.std.specs.List.{flat_map}
+use Rattle.std.{proofs.Common.{false, true, List, [], ◌∷◌, ◌++◌, refl, sym, subst}, specs.List.flat_map}
 use Rattle.npf_saved.specs.declared.saved.Saved.{Saved}
-use Rattle.npf_saved_file.specs.Conns.{AreRising, AreSavedConns, HasKeys, TakesKeys, saved_keys}
-use Rattle.npf_saved_file.proofs.ConnLemmas.{added, not_distinct}
+use Rattle.npf_saved_file.{specs.Conns.{AreRising, AreSavedConns, HasKeys, TakesKeys, saved_keys}, proofs.ConnLemmas.{added, not_distinct}}
 use Rattle.npf_saved_file.proofs.conns.add_conn.Goals as goal
 
 pub returns-then-not-branch : goal.returns-then-not-branch

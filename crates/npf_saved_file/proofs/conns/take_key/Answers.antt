@@ -1,7 +1,6 @@
 use Rattle.std.proofs.Common.{Option, true, sym, subst}
 use Rattle.npf_types.specs.declared.key.Key.{Key}
-use Rattle.npf_saved_file.specs.Conns.{TakesKeys, key_list}
-use Rattle.npf_saved_file.proofs.KeyLemmas.{key_taken, no_key_taken}
+use Rattle.npf_saved_file.{specs.Conns.{TakesKeys, key_list}, proofs.KeyLemmas.{key_taken, no_key_taken}}
 use Rattle.npf_saved_file.proofs.conns.take_key.Goals as goal
 
 pub returns-in-None : goal.returns-in-None

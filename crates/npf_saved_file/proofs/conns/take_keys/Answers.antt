@@ -1,8 +1,6 @@
-use Rattle.std.proofs.Common.{Bool, false, true, List, [], ◌∷◌, ◌++◌, subst}
-use Rattle.std.proofs.lemmas.Result.{IfOk-weaker}
+use Rattle.std.proofs.{Common.{Bool, false, true, List, [], ◌∷◌, ◌++◌, subst}, lemmas.Result.IfOk-weaker}
 use Rattle.npf_types.specs.declared.key.Key.{Key}
-use Rattle.npf_saved_file.specs.Conns.{AreDistinct, HasKeys, TakesKeys, key_list, saved_keys}
-use Rattle.npf_saved_file.proofs.KeyLemmas.{more_taken, not_taken}
+use Rattle.npf_saved_file.{specs.Conns.{AreDistinct, HasKeys, TakesKeys, key_list, saved_keys}, proofs.KeyLemmas.{more_taken, not_taken}}
 use Rattle.npf_saved_file.proofs.conns.take_keys.Goals as goal
 
 pub returns-then-not-branch : goal.returns-then-not-branch

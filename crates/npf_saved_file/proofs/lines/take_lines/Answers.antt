@@ -1,6 +1,5 @@
 use Rattle.std.proofs.Common.{inl, refl, subst}
-use Rattle.npf_saved_file.specs.Lines.{TakesLine}
-use Rattle.npf_saved_file.proofs.OnlyLemmas.{no_file_without_head}
+use Rattle.npf_saved_file.{specs.Lines.TakesLine, proofs.OnlyLemmas.no_file_without_head}
 use Rattle.npf_saved_file.proofs.TakenLemmas.{all_taken, bad_line, counted_on, no_line_feed, none_left, only_on, room_on, some_left, spelled_on}
 use Rattle.npf_saved_file.proofs.lines.take_lines.Goals as goal
 

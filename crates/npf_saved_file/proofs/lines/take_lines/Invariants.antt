@@ -1,7 +1,6 @@
 use Rattle.std.proofs.Common.{◌≡◌, ◌≤◌, ◌+◌, ◌++◌, length}
 use Rattle.npf_saved.specs.File.{saved_text}
-use Rattle.npf_saved_file.specs.Lines.{AreTaken}
-use Rattle.npf_saved_file.proofs.OnlyLemmas.{IsSoFar}
+use Rattle.npf_saved_file.{specs.Lines.AreTaken, proofs.OnlyLemmas.IsSoFar}
 use Rattle.npf_saved_file.proofs.lines.take_lines.Given as goal
 
 abbrev pub invariant-loop-rest : goal.invariant-loop-rest

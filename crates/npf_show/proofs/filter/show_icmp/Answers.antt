@@ -1,7 +1,5 @@
 use Rattle.std.proofs.Common.{◌∙◌, ◌++◌, ℕ, ap, codes}
-use Rattle.npf_show.specs.Filter.{code_pieces}
-use Rattle.npf_show.specs.Piece.{Word, Number, spelled, spaced, optional_pieces}
-use Rattle.npf_show.proofs.PageLemmas.{also}
+use Rattle.npf_show.{specs.{Filter.code_pieces, Piece.{Word, Number, spelled, spaced, optional_pieces}}, proofs.PageLemmas.also}
 use Rattle.npf_show.proofs.filter.show_icmp.Goals as goal
 
 pub returns : goal.returns

@@ -1,6 +1,5 @@
 use Rattle.std.proofs.Common.{◌++◌, codes}
-use Rattle.npf_show.specs.Piece.{Word, spaced}
-use Rattle.npf_show.proofs.PageLemmas.{also}
+use Rattle.npf_show.{specs.Piece.{Word, spaced}, proofs.PageLemmas.also}
 use Rattle.npf_show.proofs.map.show_static.Goals as goal
 
 pub returns : goal.returns

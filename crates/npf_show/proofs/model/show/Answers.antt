@@ -1,13 +1,6 @@
-use Rattle.std.proofs.Common.{◌∙◌, ◌++◌, ap, List, ℕ}
-use Rattle.std.specs.List.{flat_map}
-use Rattle.npf_show.specs.Group.{group_lines}
-use Rattle.npf_show.specs.Map.{map_line}
-use Rattle.npf_show.specs.Model.{declared_lines, model_pieces}
-use Rattle.npf_show.specs.Piece.{spelled}
-use Rattle.npf_show.specs.Procedure.{procedure_lines}
-use Rattle.npf_show.specs.Setting.{alg_line, set_line, shown_settings}
-use Rattle.npf_show.specs.Table.{table_line}
-use Rattle.npf_show.proofs.PageLemmas.{also}
+use Rattle.std.{proofs.Common.{◌∙◌, ◌++◌, ap, List, ℕ}, specs.List.flat_map}
+use Rattle.npf_show.specs.{Group.group_lines, Map.map_line, Model.{declared_lines, model_pieces}, Piece.spelled, Procedure.procedure_lines}
+use Rattle.npf_show.{specs.{Setting.{alg_line, set_line, shown_settings}, Table.table_line}, proofs.PageLemmas.also}
 use Rattle.npf_show.proofs.model.show.Goals as goal
 
 pub returns : goal.returns

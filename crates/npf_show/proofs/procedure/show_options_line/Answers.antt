@@ -1,7 +1,5 @@
 use Rattle.std.proofs.Common.{◌++◌, codes}
-use Rattle.npf_show.specs.Piece.{Word, Sign, glued, indent, line_end, comma_list}
-use Rattle.npf_show.specs.Procedure.{normal_option}
-use Rattle.npf_show.proofs.PageLemmas.{also}
+use Rattle.npf_show.{specs.{Piece.{Word, Sign, glued, indent, line_end, comma_list}, Procedure.normal_option}, proofs.PageLemmas.also}
 use Rattle.npf_show.proofs.procedure.show_options_line.Goals as goal
 
 pub returns : goal.returns

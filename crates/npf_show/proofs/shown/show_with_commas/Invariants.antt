@@ -1,5 +1,4 @@
-use Rattle.std.proofs.Common.{◌≡◌, ◌++◌, take, codes}
-use Rattle.std.specs.List.{flat_map}
+use Rattle.std.{proofs.Common.{◌≡◌, ◌++◌, take, codes}, specs.List.flat_map}
 use Rattle.npf_show.specs.Piece.{Sign, glued, spelled}
 use Rattle.npf_show.proofs.shown.show_with_commas.Given as goal
 

@@ -1,7 +1,6 @@
 use Rattle.std.proofs.Common.{sym, ◌∙◌, arith}
-use Rattle.npf_table.proofs.LineLemmas.{blanks_cut}
+use Rattle.npf_table.proofs.{LineLemmas.blanks_cut, line.trim_end.Goals.{then-loop-end-test+else-is_space, else-loop-end-test}}
 use Rattle.npf_table.proofs.line.trim_end.Goals as goal
-use Rattle.npf_table.proofs.line.trim_end.Goals.{then-loop-end-test+else-is_space, else-loop-end-test}
 
 pub returns : goal.returns
 returns c = blanks_cut c.args.text.now c.loop-end.end c.loop-end.invariant.within c.loop-end.invariant.blank

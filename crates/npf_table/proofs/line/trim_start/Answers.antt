@@ -1,7 +1,6 @@
 use Rattle.std.proofs.Common.{sym, ◌∙◌, arith}
-use Rattle.npf_table.proofs.LineLemmas.{blanks_skipped}
+use Rattle.npf_table.proofs.{LineLemmas.blanks_skipped, line.trim_start.Goals.{then-loop-start-test+else-is_space, else-loop-start-test}}
 use Rattle.npf_table.proofs.line.trim_start.Goals as goal
-use Rattle.npf_table.proofs.line.trim_start.Goals.{then-loop-start-test+else-is_space, else-loop-start-test}
 
 pub returns : goal.returns
 returns c = blanks_skipped c.args.text.now c.loop-start.start c.loop-start.invariant.within c.loop-start.invariant.blank

@@ -1,7 +1,6 @@
 use Rattle.std.proofs.Common.{◌≡◌, ◌+◌, ℕ, List, Option, sym, subst, take, drop, MatchOption, ◌-◌, length, take_all, length-drop, arith}
-use Rattle.npf_types.specs.declared.prefix.Prefix.{Prefix}
+use Rattle.npf_types.{specs.declared.prefix.Prefix.Prefix, proofs.ReadingLemmas.reads_alike}
 use Rattle.npf_table.specs.PrefixText.{IsPrefixText, IsHostText, IsBlockText}
-use Rattle.npf_types.proofs.ReadingLemmas.{reads_alike}
 use Rattle.npf_table.proofs.prefix_text.written_prefix.Goals as goal
 
 -- how the text writes a prefix, by where its first slash stands

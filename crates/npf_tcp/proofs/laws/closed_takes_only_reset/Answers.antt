@@ -1,10 +1,6 @@
 use Rattle.std.proofs.Common.{◌≡◌, ◌∙◌, true, sym, ap}
-use Rattle.npf_tcp.specs.declared.class.SegmentClass.TheVariants.{Rst}
-use Rattle.npf_tcp.specs.declared.state.TcpPhase.{TcpPhase}
-use Rattle.npf_tcp.specs.Cell.{cell}
-use Rattle.npf_tcp.specs.Class.{segment_class}
-use Rattle.npf_tcp.proofs.CellLemmas.{closed_cell}
-use Rattle.npf_tcp.proofs.SegmentLemmas.{step_cases}
+use Rattle.npf_tcp.specs.{declared.{class.SegmentClass.TheVariants.Rst, state.TcpPhase.TcpPhase}, Cell.cell, Class.segment_class}
+use Rattle.npf_tcp.proofs.{CellLemmas.closed_cell, SegmentLemmas.step_cases}
 use Rattle.npf_tcp.proofs.laws.closed_takes_only_reset.Goals as goal
 
 pub returns : goal.returns

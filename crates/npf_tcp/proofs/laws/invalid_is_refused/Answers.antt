@@ -1,7 +1,5 @@
 use Rattle.std.proofs.Common.{◌≡◌, ◌∙◌, false, refl, ap}
-use Rattle.npf_tcp.specs.Cell.{cell}
-use Rattle.npf_tcp.proofs.CellLemmas.{cell-invalid}
-use Rattle.npf_tcp.proofs.SegmentLemmas.{step_cases}
+use Rattle.npf_tcp.{specs.Cell.cell, proofs.{CellLemmas.cell-invalid, SegmentLemmas.step_cases}}
 use Rattle.npf_tcp.proofs.laws.invalid_is_refused.Goals as goal
 
 pub returns : goal.returns

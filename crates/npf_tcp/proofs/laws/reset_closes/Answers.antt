@@ -1,11 +1,6 @@
 use Rattle.std.proofs.Common.{◌≡◌, ◌≤◌, ◌∙◌, true, ap}
-use Rattle.npf_tcp.specs.declared.state.TcpPhase.TheVariants.{Closed}
-use Rattle.npf_tcp.specs.Cell.{cell}
-use Rattle.npf_tcp.specs.Segment.{sender_of, receiver_of}
-use Rattle.npf_tcp.specs.Sequence.{minus}
-use Rattle.npf_tcp.proofs.BoundLemmas.{reset_in_order}
-use Rattle.npf_tcp.proofs.CellLemmas.{cell-rst}
-use Rattle.npf_tcp.proofs.SegmentLemmas.{step_cases, step-accepted, state_after-phase}
+use Rattle.npf_tcp.specs.{declared.state.TcpPhase.TheVariants.Closed, Cell.cell, Segment.{sender_of, receiver_of}, Sequence.minus}
+use Rattle.npf_tcp.proofs.{BoundLemmas.reset_in_order, CellLemmas.cell-rst, SegmentLemmas.{step_cases, step-accepted, state_after-phase}}
 use Rattle.npf_tcp.proofs.laws.reset_closes.Goals as goal
 
 pub returns-clause-closes : goal.returns-clause-closes

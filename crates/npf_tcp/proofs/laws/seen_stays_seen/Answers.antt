@@ -1,6 +1,4 @@
-use Rattle.npf_tcp.specs.Laws.{StaysSeen}
-use Rattle.npf_tcp.proofs.SideLemmas.{sender_after-known, receiver_after-is_acked}
-use Rattle.npf_tcp.proofs.SegmentLemmas.{step_each}
+use Rattle.npf_tcp.{specs.Laws.StaysSeen, proofs.{SideLemmas.{sender_after-known, receiver_after-is_acked}, SegmentLemmas.step_each}}
 use Rattle.npf_tcp.proofs.laws.seen_stays_seen.Goals as goal
 
 pub returns : goal.returns

@@ -1,6 +1,4 @@
-use Rattle.npf_tcp.specs.Class.{segment_class}
-use Rattle.npf_tcp.proofs.CellLemmas.{symmetric_class}
-use Rattle.npf_tcp.proofs.MirrorLemmas.{step-mirrored}
+use Rattle.npf_tcp.{specs.Class.segment_class, proofs.{CellLemmas.symmetric_class, MirrorLemmas.step-mirrored}}
 use Rattle.npf_tcp.proofs.laws.sides_exchange.Goals as goal
 
 pub returns-clause-phases : goal.returns-clause-phases

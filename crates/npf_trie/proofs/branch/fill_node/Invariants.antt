@@ -1,6 +1,5 @@
 use Rattle.npf_cells.specs.Cells.{IsPassIn}
-use Rattle.npf_trie.specs.Stores.{forked_cell}
-use Rattle.npf_trie.proofs.StoreLemmas.{NodeFilledBelow}
+use Rattle.npf_trie.{specs.Stores.forked_cell, proofs.StoreLemmas.NodeFilledBelow}
 use Rattle.npf_trie.proofs.branch.fill_node.Given as goal
 
 abbrev pub invariant-loop-digit : goal.invariant-loop-digit

@@ -8,26 +8,33 @@ meet-requires-clause-leaf g c = leaf_known _ _ _ _ _ _ _ _ _ _ _ (holds_at _ _ _
 
 pub put_branch-requires-clause-protected : goal.put_branch-requires-clause-protected
 put_branch-requires-clause-protected g c =
-    let sees = sees_other g.L.Law.meaning g.H.KeyHash.digest _ _ _ _ _ _ _ _ _ (holds_at _ _ _ _ _ _ _ _ _ _ _ c.aim.ensures c.in-Leaf.ensures.tells) _ _ c.meet.ensures.compares c.in-Other.ensures.met in
+    let sees = sees_other g.L.Law.meaning g.H.KeyHash.digest _ _ _ _ _ _ _ _ _
+    (holds_at _ _ _ _ _ _ _ _ _ _ _ c.aim.ensures c.in-Leaf.ensures.tells) _ _ c.meet.ensures.compares c.in-Other.ensures.met in
     sees_protected _ _ _ _ _ _ _ sees c.requires.protected
 
 pub put_branch-requires-clause-turn : goal.put_branch-requires-clause-turn
 put_branch-requires-clause-turn g c =
-    let sees = sees_other g.L.Law.meaning g.H.KeyHash.digest _ _ _ _ _ _ _ _ _ (holds_at _ _ _ _ _ _ _ _ _ _ _ c.aim.ensures c.in-Leaf.ensures.tells) _ _ c.meet.ensures.compares c.in-Other.ensures.met in
+    let sees = sees_other g.L.Law.meaning g.H.KeyHash.digest _ _ _ _ _ _ _ _ _
+    (holds_at _ _ _ _ _ _ _ _ _ _ _ c.aim.ensures c.in-Leaf.ensures.tells) _ _ c.meet.ensures.compares c.in-Other.ensures.met in
     let same = same_leaf c.args.branch.now.other.slot c.in-Leaf.slot c.args.branch.now.other.way c.in-Leaf.way c.args.branch.now.other.key c.in-Other.key c.eq.result c.eq.ensures c.if-eq.true in
-    turn_still g.L.Law.meaning g.H.KeyHash.digest c.args.cells.now.table.shared.key c.args.wanted.now c.args.point c.args.branch.now _ _ (sees_again _ _ c.args.branch.now.other _ _ _ _ _ same sees) c.requires.turn
+    turn_still g.L.Law.meaning g.H.KeyHash.digest c.args.cells.now.table.shared.key c.args.wanted.now c.args.point c.args.branch.now _ _
+    (sees_again _ _ c.args.branch.now.other _ _ _ _ _ same sees) c.requires.turn
 
 pub put_branch-requires-clause-grown : goal.put_branch-requires-clause-grown
 put_branch-requires-clause-grown g c =
-    let sees = sees_other g.L.Law.meaning g.H.KeyHash.digest _ _ _ _ _ _ _ _ _ (holds_at _ _ _ _ _ _ _ _ _ _ _ c.aim.ensures c.in-Leaf.ensures.tells) _ _ c.meet.ensures.compares c.in-Other.ensures.met in
+    let sees = sees_other g.L.Law.meaning g.H.KeyHash.digest _ _ _ _ _ _ _ _ _
+    (holds_at _ _ _ _ _ _ _ _ _ _ _ c.aim.ensures c.in-Leaf.ensures.tells) _ _ c.meet.ensures.compares c.in-Other.ensures.met in
     let same = same_leaf c.args.branch.now.other.slot c.in-Leaf.slot c.args.branch.now.other.way c.in-Leaf.way c.args.branch.now.other.key c.in-Other.key c.eq.result c.eq.ensures c.if-eq.true in
-    grown_still g.L.Law.meaning g.H.KeyHash.digest c.args.cells.now.table.shared.key c.args.wanted.now c.args.point c.args.branch.now _ _ (sees_again _ _ c.args.branch.now.other _ _ _ _ _ same sees) c.requires.grown
+    grown_still g.L.Law.meaning g.H.KeyHash.digest c.args.cells.now.table.shared.key c.args.wanted.now c.args.point c.args.branch.now _ _
+    (sees_again _ _ c.args.branch.now.other _ _ _ _ _ same sees) c.requires.grown
 
 pub put_branch-requires-clause-sees : goal.put_branch-requires-clause-sees
 put_branch-requires-clause-sees g c =
-    let sees = sees_other g.L.Law.meaning g.H.KeyHash.digest _ _ _ _ _ _ _ _ _ (holds_at _ _ _ _ _ _ _ _ _ _ _ c.aim.ensures c.in-Leaf.ensures.tells) _ _ c.meet.ensures.compares c.in-Other.ensures.met in
+    let sees = sees_other g.L.Law.meaning g.H.KeyHash.digest _ _ _ _ _ _ _ _ _
+    (holds_at _ _ _ _ _ _ _ _ _ _ _ c.aim.ensures c.in-Leaf.ensures.tells) _ _ c.meet.ensures.compares c.in-Other.ensures.met in
     let same = same_leaf c.args.branch.now.other.slot c.in-Leaf.slot c.args.branch.now.other.way c.in-Leaf.way c.args.branch.now.other.key c.in-Other.key c.eq.result c.eq.ensures c.if-eq.true in
-    sees_leaf g.L.Law.meaning g.H.KeyHash.digest c.args.cells.now.table.shared.key c.args.wanted.now c.args.point c.args.branch.now _ _ (sees_again _ _ c.args.branch.now.other _ _ _ _ _ same sees) c.requires.locked
+    sees_leaf g.L.Law.meaning g.H.KeyHash.digest c.args.cells.now.table.shared.key c.args.wanted.now c.args.point c.args.branch.now _ _
+    (sees_again _ _ c.args.branch.now.other _ _ _ _ _ same sees) c.requires.locked
 
 pub returns-in-Holder-clause-hangs : goal.returns-in-Holder-clause-hangs
 returns-in-Holder-clause-hangs g c =
@@ -35,9 +42,11 @@ returns-in-Holder-clause-hangs g c =
 
 pub returns-in-Other-clause-hangs : goal.returns-in-Other-clause-hangs
 returns-in-Other-clause-hangs g c =
-    let sees = sees_other g.L.Law.meaning g.H.KeyHash.digest _ _ _ _ _ _ _ _ _ (holds_at _ _ _ _ _ _ _ _ _ _ _ c.aim.ensures c.in-Leaf.ensures.tells) _ _ c.meet.ensures.compares c.in-Other.ensures.met in
+    let sees = sees_other g.L.Law.meaning g.H.KeyHash.digest _ _ _ _ _ _ _ _ _
+    (holds_at _ _ _ _ _ _ _ _ _ _ _ c.aim.ensures c.in-Leaf.ensures.tells) _ _ c.meet.ensures.compares c.in-Other.ensures.met in
     let same = same_leaf c.args.branch.now.other.slot c.in-Leaf.slot c.args.branch.now.other.way c.in-Leaf.way c.args.branch.now.other.key c.in-Other.key c.eq.result c.eq.ensures c.if-eq.true in
-    hung_then g.L.Law.meaning g.H.KeyHash.digest c.args.cells.now.table.shared.key c.args.wanted.now c.args.point c.args.branch.now _ _ (sees_again _ _ c.args.branch.now.other _ _ _ _ _ same sees) _ c.put_branch.ensures.hung
+    hung_then g.L.Law.meaning g.H.KeyHash.digest c.args.cells.now.table.shared.key c.args.wanted.now c.args.point c.args.branch.now _ _
+    (sees_again _ _ c.args.branch.now.other _ _ _ _ _ same sees) _ c.put_branch.ensures.hung
 
 pub returns-in-Other-2-clause-hangs : goal.returns-in-Other-2-clause-hangs
 returns-in-Other-2-clause-hangs g c =
@@ -45,7 +54,8 @@ returns-in-Other-2-clause-hangs g c =
     (sees_other g.L.Law.meaning g.H.KeyHash.digest _ _ _ _ _ _ _ _ _ (holds_at _ _ _ _ _ _ _ _ _ _ _ c.aim.ensures c.in-Leaf.ensures.tells) _ _ c.meet.ensures.compares c.in-Other.ensures.met)
 
 pub returns-in-Node-clause-loads : goal.returns-in-Node-clause-loads
-returns-in-Node-clause-loads g c = let load = by_load g.L.Law.meaning g.H.KeyHash.digest c.args.cells.now.table.shared.key c.args.wanted.now c.args.point _ c.aim.ensures _ _ _ c.in-Node.ensures.tells in omega (arith, load)
+returns-in-Node-clause-loads g c = let load =
+    by_load g.L.Law.meaning g.H.KeyHash.digest c.args.cells.now.table.shared.key c.args.wanted.now c.args.point _ c.aim.ensures _ _ _ c.in-Node.ensures.tells in omega (arith, load)
 
 pub returns-in-Holder-clause-loads : goal.returns-in-Holder-clause-loads
 returns-in-Holder-clause-loads g c =

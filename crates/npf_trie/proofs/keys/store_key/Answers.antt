@@ -13,5 +13,6 @@ loop-word-preserved g c =
     record {
       own = c.store_private.ensures.own;
       first_is = so.first_is;
-      below = one_word_more g.L.Law.meaning c.args.cells.now.table.shared.key c.args.slot c.args.way (λ i. slice_index c.args.key.now.0 i) _ _ _ (c.first_key_field-first.result + c.loop-word.word) c.loop-word.word low (omega arith) so.below c.store_private.ensures.next;
+      below = one_word_more g.L.Law.meaning c.args.cells.now.table.shared.key c.args.slot c.args.way (λ i. slice_index c.args.key.now.0 i) _ _ _
+          (c.first_key_field-first.result + c.loop-word.word) c.loop-word.word low (omega arith) so.below c.store_private.ensures.next;
     }

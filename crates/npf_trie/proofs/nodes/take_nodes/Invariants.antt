@@ -11,5 +11,9 @@ invariant-loop g l = record {
   counted : length l.nodes.items ≡ l.counter;
   within : (node : ℕ) → Contains l.nodes.items node → node < l.cells.table.shared.key.nodes;
   apart : AreApart l.nodes.items;
-  taken : l.pass.seat.me ≡ with_pools l.initial.pass.seat.me (record l.initial.pass.seat.me.0.pools { found = l.pass.seat.me.0.pools.found; row = l.pass.seat.me.0.pools.row; nodes = reverse l.nodes.items });
+  taken : l.pass.seat.me ≡ with_pools l.initial.pass.seat.me (record l.initial.pass.seat.me.0.pools {
+    found = l.pass.seat.me.0.pools.found;
+    row = l.pass.seat.me.0.pools.row;
+    nodes = reverse l.nodes.items;
+  });
 }

@@ -1,8 +1,7 @@
 use Rattle.std.proofs.Common.{◌≡◌, ◌+◌, ◌<◌}
 use Rattle.npf_cells_holds.specs.LookKinds.{StandsOnPath, level_at}
-use Rattle.npf_cells_rule.specs.Views.{with_trie}
+use Rattle.npf_cells_rule.specs.{Views.with_trie, Passes.IsProtected}
 use Rattle.npf_cells.specs.Cells.{IsPassIn}
-use Rattle.npf_cells_rule.specs.Passes.{IsProtected}
 use Rattle.npf_cells_words.specs.Places.{IsInTrie}
 use Rattle.npf_trie.proofs.walk.end_of.Given as goal
 
@@ -16,5 +15,10 @@ invariant-loop-level g l = record {
   there : IsInTrie l.cells.table.shared.key l.place;
   stands : StandsOnPath g.H.KeyHash.digest l.pass.seat.me.0.trie l.key l.place;
   level_is : level_at l.pass.seat.me.0.trie l.place ≡ l.level;
-  walked : l.pass.seat.me ≡ with_trie l.initial.pass.seat.me (record l.initial.pass.seat.me.0.trie { stands = l.pass.seat.me.0.trie.stands; seen = l.pass.seat.me.0.trie.seen; meets = l.pass.seat.me.0.trie.meets; places = l.initial.pass.seat.me.0.trie.places + l.level });
+  walked : l.pass.seat.me ≡ with_trie l.initial.pass.seat.me (record l.initial.pass.seat.me.0.trie {
+    stands = l.pass.seat.me.0.trie.stands;
+    seen = l.pass.seat.me.0.trie.seen;
+    meets = l.pass.seat.me.0.trie.meets;
+    places = l.initial.pass.seat.me.0.trie.places + l.level;
+  });
 }

@@ -2,8 +2,7 @@ use Rattle.std.proofs.Common.{ap, ◌∙◌}
 use Rattle.npf_types.specs.declared.key.Way.TheVariants.{Port}
 use Rattle.npf_cells_rule.specs.Views.{DeadHand}
 use Rattle.npf_cells_leaves.specs.declared.trie.TrieSide.{TrieSide}
-use Rattle.npf_trie_tests.proofs.BuildLemmas.{can_hold_forward, can_hold_backward, is_built, protected_on}
-use Rattle.npf_trie_tests.proofs.OpenLemmas.{port_bared, may_bare, begun_on}
+use Rattle.npf_trie_tests.proofs.{BuildLemmas.{can_hold_forward, can_hold_backward, is_built, protected_on}, OpenLemmas.{port_bared, may_bare, begun_on}}
 use Rattle.npf_trie_tests.proofs.building.build.Goals as goal
 
 pub store_private-requires-clause-may : goal.store_private-requires-clause-may

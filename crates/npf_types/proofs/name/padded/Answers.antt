@@ -1,5 +1,4 @@
-use Rattle.std.proofs.Common.{◌≡◌, ℕ, ◌-◌, List, ◌++◌, length, take, drop, replicate}
-use Rattle.std.proofs.Math.Seq.{take-append_seam, drop-append_seam}
+use Rattle.std.proofs.{Common.{◌≡◌, ℕ, ◌-◌, List, ◌++◌, length, take, drop, replicate}, Math.Seq.{take-append_seam, drop-append_seam}}
 use Rattle.std.proofs.lemmas.List.{drop-replicate}
 use Rattle.npf_types.proofs.name.padded.Goals as goal
 

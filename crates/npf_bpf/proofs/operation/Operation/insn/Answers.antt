@@ -1,6 +1,5 @@
 use Rattle.std.proofs.Common.{◌≡◌, ℕ, Some, sym, ap, ◌∙◌}
-use Rattle.npf_bpf.specs.declared.operation.Operation.TheVariants.{Calculate, JumpIf}
-use Rattle.npf_bpf.specs.Table.{decoded, insn_of, insn_with_operand}
+use Rattle.npf_bpf.specs.{declared.operation.Operation.TheVariants.{Calculate, JumpIf}, Table.{decoded, insn_of, insn_with_operand}}
 use Rattle.npf_bpf.proofs.TableLemmas.{insn_decodes}
 use Rattle.npf_bpf.proofs.operation.Operation.insn.Goals as goal
 

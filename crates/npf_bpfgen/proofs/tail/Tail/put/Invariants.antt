@@ -1,5 +1,4 @@
-use Rattle.std.proofs.Common.{◌≡◌, ◌≤◌, ◌++◌, length, drop}
-use Rattle.std.specs.Prelude.{map, reverse}
+use Rattle.std.{proofs.Common.{◌≡◌, ◌≤◌, ◌++◌, length, drop}, specs.Prelude.{map, reverse}}
 use Rattle.npf_bpf.specs.Table.{insn_of}
 use Rattle.npf_bpfgen.proofs.tail.Tail.put.Given as goal
 

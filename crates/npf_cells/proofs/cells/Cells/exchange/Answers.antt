@@ -13,7 +13,9 @@ returns-clause-gives g c = (given_out c.args.self.now.table.shared.key _ _ _ c.a
 
 pub returns-clause-next : goal.returns-clause-next
 returns-clause-next g c =
-    c.exchange.ensures.3 ∙ ap (λ xs. (c.args.pass.now.seat.me.0, (c.args.slot, c.args.flow) ∷ xs)) (given_out c.args.self.now.table.shared.key _ _ _ c.args.pass.now.seat.me c.args.slot c.requires.own c.requires.turn _ c.exchange.ensures.2).1
+    c.exchange.ensures.3 ∙ ap (λ xs. (c.args.pass.now.seat.me.0, (c.args.slot, c.args.flow) ∷ xs))
+    (given_out c.args.self.now.table.shared.key _ _ _ c.args.pass.now.seat.me c.args.slot c.requires.own c.requires.turn _ c.exchange.ensures.2).1
 
 pub returns-clause-own : goal.returns-clause-own
-returns-clause-own g c = exchanged_on c.args.self.now.table.shared.key _ _ _ c.args.pass.now.seat.me _ _ c.args.slot c.args.flow c.requires.own c.exchange.ensures.0 c.requires.turn (returns-clause-next g c)
+returns-clause-own g c =
+    exchanged_on c.args.self.now.table.shared.key _ _ _ c.args.pass.now.seat.me _ _ c.args.slot c.args.flow c.requires.own c.exchange.ensures.0 c.requires.turn (returns-clause-next g c)

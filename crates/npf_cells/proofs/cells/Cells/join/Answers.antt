@@ -12,7 +12,9 @@ join_seat-requires g c =
       other.same,
       turnless_free c.requires.other_turn other.carries,
       omega (arith, own.words),
-      joins g.L.Law.meaning g.H.KeyHash.digest c.args.self.now.table.shared.key _ c.args.pass.now.seat.me.0 _ c.args.other.seat.me.0 own.lives own.theirs c.requires.out own.place other.lives other.theirs c.requires.other_out c.requires.other_nodes c.requires.other_done c.requires.other_kills c.requires.other_reclaims c.requires.other_cleared (other.unlocked c.requires.other_out) c.requires.other_turn,
+      joins g.L.Law.meaning g.H.KeyHash.digest c.args.self.now.table.shared.key _ c.args.pass.now.seat.me.0 _ c.args.other.seat.me.0 own.lives own.theirs
+          c.requires.out own.place other.lives other.theirs c.requires.other_out c.requires.other_nodes c.requires.other_done c.requires.other_kills c.requires.other_reclaims c.requires.other_cleared
+          (other.unlocked c.requires.other_out) c.requires.other_turn,
     )
 
 pub load-pass-requires : goal.load-pass-requires

@@ -8,7 +8,8 @@ load-requires g c =
     (own.same, omega (arith, own.words), may_load g.L.Law.meaning g.H.KeyHash.digest c.args.self.now.table.shared.key _ _ _ c.args.pass.now.seat.me own.place)
 
 pub returns-clause-own : goal.returns-clause-own
-returns-clause-own g c = pass_on c.args.self.now.table.shared.key _ _ _ _ _ _ _ c.requires.own c.load.ensures.0 c.load.ensures.2.is c.load.ensures.2.met.most c.requires.own.unanswered c.requires.own.unlocked
+returns-clause-own g c =
+    pass_on c.args.self.now.table.shared.key _ _ _ _ _ _ _ c.requires.own c.load.ensures.0 c.load.ensures.2.is c.load.ensures.2.met.most c.requires.own.unanswered c.requires.own.unlocked
 
 pub returns-clause-met : goal.returns-clause-met
 returns-clause-met g c = c.load.ensures.2.met

@@ -1,7 +1,5 @@
 use Rattle.std.proofs.Common.{◌≡◌, ◌∙◌, sym, ap, arith}
-use Rattle.npf_cells_words.specs.declared.layout.Pool.TheVariants.{Slots}
-use Rattle.npf_cells_words.specs.Layout.{inc_field, field_at}
-use Rattle.npf_cells_words.proofs.WordLemmas.{field_reach}
+use Rattle.npf_cells_words.{specs.{declared.layout.Pool.TheVariants.Slots, Layout.{inc_field, field_at}}, proofs.WordLemmas.field_reach}
 use Rattle.npf_cells_takes.proofs.PrivateKeepLemmas.{may_load_inc}
 use Rattle.npf_cells.proofs.cells.Cells.load_inc_as.Goals as goal
 

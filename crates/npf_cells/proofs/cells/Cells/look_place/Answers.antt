@@ -1,8 +1,6 @@
 use Rattle.std.proofs.Common.{◌≡◌, ◌∙◌, ◌<◌, ◌^◌, sym, ap, subst, arith}
-use Rattle.npf_cells_words.specs.declared.layout.Layout.{Layout}
-use Rattle.npf_cells_words.specs.Places.{place_at}
+use Rattle.npf_cells_words.{specs.{declared.layout.Layout.Layout, Places.place_at}, proofs.WordLemmas.place_reach}
 use Rattle.npf_cells_holds.proofs.LookKeepLemmas.{may_look, fits_word}
-use Rattle.npf_cells_words.proofs.WordLemmas.{place_reach}
 use Rattle.npf_cells.proofs.OwnLemmas.{looked_on}
 use Rattle.npf_cells.proofs.cells.Cells.look_place.Goals as goal
 
@@ -11,8 +9,12 @@ load-found-requires g c =
     let own = c.requires.own in
     let place : c.trie_place-word.result ≡ place_at c.args.self.now.table.shared.key c.args.place
     = c.trie_place-word.ensures ∙ ap (λ l. place_at l c.args.place) (sym c.args.self.now.laid) in
-    rw (c.requires.aim.0, c.requires.aim.1, c.requires.aim.2, c.requires.aim.3, place)
-    (own.same, omega (arith, own.words, place_reach c.args.self.now.table.shared.key c.args.place c.requires.place), may_look g.L.Law.meaning g.H.KeyHash.digest c.args.self.now.table.shared.key _ _ _ c.args.n c.args.key.now c.args.place c.args.pass.now.seat.me c.requires.place own.lives own.theirs own.place c.requires.protected c.requires.stands)
+    rw (c.requires.aim.0, c.requires.aim.1, c.requires.aim.2, c.requires.aim.3, place) (
+      own.same,
+      omega (arith, own.words, place_reach c.args.self.now.table.shared.key c.args.place c.requires.place),
+      may_look g.L.Law.meaning g.H.KeyHash.digest c.args.self.now.table.shared.key _ _ _ c.args.n c.args.key.now c.args.place
+          c.args.pass.now.seat.me c.requires.place own.lives own.theirs own.place c.requires.protected c.requires.stands,
+    )
 
 pub of_word-requires : goal.of_word-requires
 of_word-requires g c =
@@ -21,4 +23,5 @@ of_word-requires g c =
     fits_word table.table.shared.key _ narrow.0 narrow.1 (rw c.requires.aim.0 at c.load-found.ensures.2.looks.fits)
 
 pub returns-clause-own : goal.returns-clause-own
-returns-clause-own g c = looked_on c.args.self.now.table.shared.key _ _ _ _ c.args.pass.now.seat.me _ c.requires.own c.load-found.ensures.0 g.L.Law.meaning g.H.KeyHash.digest g.W.Told.told.layout g.W.Told.told.packet g.W.Told.told.key g.W.Told.told.place _ c.load-found.ensures.2.looks c.requires.protected
+returns-clause-own g c = looked_on c.args.self.now.table.shared.key _ _ _ _ c.args.pass.now.seat.me _ c.requires.own c.load-found.ensures.0 g.L.Law.meaning
+    g.H.KeyHash.digest g.W.StepTold.told.layout g.W.StepTold.told.packet g.W.StepTold.told.key g.W.StepTold.told.place _ c.load-found.ensures.2.looks c.requires.protected

@@ -1,9 +1,6 @@
 use Rattle.std.proofs.Common.{◌≡◌, ℕ, ◌∙◌, sym, ap, arith}
-use Rattle.npf_cells_words.specs.Places.{place_at}
-use Rattle.npf_cells_words.proofs.WordLemmas.{place_reach}
-use Rattle.npf_cells_returns.specs.MarkKinds.{placing}
-use Rattle.npf_cells_returns.proofs.PlacingKeepLemmas.{may_mark_place}
-use Rattle.npf_cells_returns.proofs.PassOnLemmas.{placing_on}
+use Rattle.npf_cells_words.{specs.Places.place_at, proofs.WordLemmas.place_reach}
+use Rattle.npf_cells_returns.{specs.MarkKinds.placing, proofs.{PlacingKeepLemmas.may_mark_place, PassOnLemmas.placing_on}}
 use Rattle.npf_cells.proofs.cells.Cells.mark_place_as.Goals as goal
 
 pub store-requires : goal.store-requires
@@ -11,8 +8,11 @@ store-requires g c =
     let own = c.requires.own in
     let place : c.trie_place-word.result ≡ place_at c.args.self.now.table.shared.key c.args.place
     = c.trie_place-word.ensures ∙ ap (λ l. place_at l c.args.place) (sym c.args.self.now.laid) in
-    rw (c.requires.aim, place, c.mark_word.ensures)
-    (own.same, omega (arith, own.words, place_reach c.args.self.now.table.shared.key c.args.place c.requires.place), may_mark_place g.L.Law.meaning g.H.KeyHash.digest c.args.self.now.table.shared.key _ _ _ c.args.node c.args.place c.args.pass.now.seat.me own.place c.requires.place c.requires.may)
+    rw (c.requires.aim, place, c.mark_word.ensures) (
+      own.same,
+      omega (arith, own.words, place_reach c.args.self.now.table.shared.key c.args.place c.requires.place),
+      may_mark_place g.L.Law.meaning g.H.KeyHash.digest c.args.self.now.table.shared.key _ _ _ c.args.node c.args.place c.args.pass.now.seat.me own.place c.requires.place c.requires.may,
+    )
 
 pub returns-clause-own : goal.returns-clause-own
 returns-clause-own g c = placing_on c.args.self.now.table.shared.key _ _ _ _ _ _ _ c.requires.own c.store.ensures.0 c.store.ensures.2.is

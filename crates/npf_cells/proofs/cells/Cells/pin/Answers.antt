@@ -7,8 +7,11 @@ use Rattle.npf_cells.proofs.cells.Cells.pin.Goals as goal
 pub store-requires : goal.store-requires
 store-requires g c =
     let own = c.requires.own in
-    rw (c.reader_place-place.ensures, c.deref.ensures.0, own.owns)
-    (own.same, omega (arith, own.words, own.reader), may_pin g.L.Law.meaning g.H.KeyHash.digest c.args.self.now.table.shared.key _ _ _ _ c.args.epoch c.args.pass.now.seat.me refl own.place c.requires.loaded.last c.requires.idle)
+    rw (c.reader_place-place.ensures, c.deref.ensures.0, own.owns) (
+      own.same,
+      omega (arith, own.words, own.reader),
+      may_pin g.L.Law.meaning g.H.KeyHash.digest c.args.self.now.table.shared.key _ _ _ _ c.args.epoch c.args.pass.now.seat.me refl own.place c.requires.loaded.last c.requires.idle,
+    )
 
 pub returns-clause-own : goal.returns-clause-own
 returns-clause-own g c = pass_on c.args.self.now.table.shared.key _ _ _ _ _ _ _ c.requires.own c.store.ensures.0 c.store.ensures.2.is c.requires.own.epoch (λ e. absurd cc) (λ e. absurd cc)

@@ -4,8 +4,11 @@ use Rattle.npf_cells.proofs.cells.Cells.protect.Goals as goal
 
 pub load-requires : goal.load-requires
 load-requires g c =
-    let own = c.requires.own in
-    (own.same, omega (arith, own.words), may_protect g.L.Law.meaning g.H.KeyHash.digest c.args.self.now.table.shared.key _ _ _ c.requires.pinned.0 c.args.pass.now.seat.me c.requires.pinned.1 own.place)
+    let own = c.requires.own in (
+      own.same,
+      omega (arith, own.words),
+      may_protect g.L.Law.meaning g.H.KeyHash.digest c.args.self.now.table.shared.key _ _ _ c.requires.pinned.0 c.args.pass.now.seat.me c.requires.pinned.1 own.place,
+    )
 
 pub returns-clause-own : goal.returns-clause-own
 returns-clause-own g c = pass_on c.args.self.now.table.shared.key _ _ _ _ _ _ _ c.requires.own c.load.ensures.0 c.load.ensures.2.is c.requires.own.epoch (λ e. absurd cc) (λ e. absurd cc)

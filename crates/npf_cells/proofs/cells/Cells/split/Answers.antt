@@ -1,12 +1,14 @@
-use Rattle.std.proofs.Common.{ap, ◌∙◌, ◌-◌, length, arith}
-use Rattle.std.proofs.lemmas.List.{length-drop}
+use Rattle.std.proofs.{Common.{ap, ◌∙◌, ◌-◌, length, arith}, lemmas.List.length-drop}
 use Rattle.npf_cells_moves.proofs.MoveLemmas.{splits, gets_born, split_so, giver_on, given_on, given_pass}
 use Rattle.npf_cells.proofs.cells.Cells.split.Goals as goal
 
 pub split_seat-seat-requires : goal.split_seat-seat-requires
 split_seat-seat-requires g c =
-    let own = c.requires.own in
-    (own.same, omega (arith, own.words), splits g.L.Law.meaning g.H.KeyHash.digest c.args.self.now.table.shared.key c.args.pass.now.seat.id c.args.pass.now.seat.me.0 own.lives c.requires.out c.requires.places)
+    let own = c.requires.own in (
+      own.same,
+      omega (arith, own.words),
+      splits g.L.Law.meaning g.H.KeyHash.digest c.args.self.now.table.shared.key c.args.pass.now.seat.id c.args.pass.now.seat.me.0 own.lives c.requires.out c.requires.places,
+    )
 
 pub load-requires : goal.load-requires
 load-requires g c =
@@ -27,7 +29,8 @@ returns-clause-own g c =
 pub returns-clause-given : goal.returns-clause-given
 returns-clause-given g c =
     let e = c.split_seat-seat.ensures in
-    given_on g.L.Law.meaning c.args.self.now.table.shared.key _ _ _ c.args.pass.now.seat.me c.requires.own _ _ _ _ _ c.requires.places (c.load.ensures.0 ∙ e.3) (rw e.4 at c.load.ensures.2) c.give_last-readers.ensures.given
+    given_on g.L.Law.meaning c.args.self.now.table.shared.key _ _ _ c.args.pass.now.seat.me c.requires.own _ _ _ _ _ c.requires.places
+    (c.load.ensures.0 ∙ e.3) (rw e.4 at c.load.ensures.2) c.give_last-readers.ensures.given
 
 pub returns-clause-splits : goal.returns-clause-splits
 returns-clause-splits g c =

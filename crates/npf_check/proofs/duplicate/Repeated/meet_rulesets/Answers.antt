@@ -1,6 +1,4 @@
-use Rattle.std.proofs.Common.{◌+◌, ◌++◌, drop, append_assoc, ap, sym, ◌∙◌}
-use Rattle.std.proofs.lemmas.List.{drop_more, drop_all}
-use Rattle.std.specs.List.{flat_map}
+use Rattle.std.{proofs.{Common.{◌+◌, ◌++◌, drop, append_assoc, ap, sym, ◌∙◌}, lemmas.List.{drop_more, drop_all}}, specs.List.flat_map}
 use Rattle.npf_check.specs.Duplicate.{first_again, ruleset_given}
 use Rattle.npf_check.proofs.duplicate.Repeated.meet_rulesets.Goals as goal
 

@@ -1,7 +1,5 @@
-use Rattle.std.proofs.Common.{◌≡◌, ◌++◌, List, drop}
-use Rattle.std.specs.List.{flat_map}
-use Rattle.npf_check.specs.Duplicate.{first_again, ruleset_given}
-use Rattle.npf_check.specs.Name.{NameAt}
+use Rattle.std.{proofs.Common.{◌≡◌, ◌++◌, List, drop}, specs.List.flat_map}
+use Rattle.npf_check.specs.{Duplicate.{first_again, ruleset_given}, Name.NameAt}
 use Rattle.npf_check.proofs.duplicate.Repeated.meet_rulesets.Given as goal
 
 abbrev pub invariant-loop-item : goal.invariant-loop-item

@@ -1,7 +1,6 @@
 use Rattle.std.proofs.Common.{length, ap, ◌∙◌}
 use Rattle.npf_faults.specs.First.{earlier}
-use Rattle.npf_check.specs.LoneRule.{table_numbers, table_place, unknown_table}
-use Rattle.npf_check.proofs.PairLemmas.{pairs_step, pairs_past}
+use Rattle.npf_check.{specs.LoneRule.{table_numbers, table_place, unknown_table}, proofs.PairLemmas.{pairs_step, pairs_past}}
 use Rattle.npf_check.proofs.lone_rule.TablesLeft.pass.Goals as goal
 
 pub returns-in-Some-next_table : goal.returns-in-Some-next_table

@@ -1,9 +1,6 @@
 use Rattle.std.proofs.Common.{◌∷◌, [], refl, ap, ◌∙◌}
-use Rattle.npf_faults.specs.declared.fault.Fault.TheVariants.{BadMap}
-use Rattle.npf_faults.specs.First.{earlier, fault_if, first_fault}
-use Rattle.npf_check.specs.Map.{bad_map}
-use Rattle.npf_check.specs.WrittenMap.{WrittenMap}
-use Rattle.npf_check.proofs.PairLemmas.{pairs_step, pairs_past}
+use Rattle.npf_faults.specs.{declared.fault.Fault.TheVariants.BadMap, First.{earlier, fault_if, first_fault}}
+use Rattle.npf_check.{specs.{Map.bad_map, WrittenMap.WrittenMap}, proofs.PairLemmas.{pairs_step, pairs_past}}
 use Rattle.npf_check.proofs.map.MapsLeft.pass_map.Goals as goal
 
 pub returns-in-Some-clause-first : goal.returns-in-Some-clause-first

@@ -1,7 +1,5 @@
-use Rattle.std.proofs.Common.{◌∙◌}
-use Rattle.std.specs.Str.{bytes_eq}
-use Rattle.npf_check.specs.Name.{holds}
-use Rattle.npf_check.proofs.NameLemmas.{or_from_cond}
+use Rattle.std.{proofs.Common.◌∙◌, specs.Str.bytes_eq}
+use Rattle.npf_check.{specs.Name.holds, proofs.NameLemmas.or_from_cond}
 use Rattle.npf_check.proofs.name.Names.add.Goals as goal
 
 pub returns : goal.returns

@@ -1,7 +1,6 @@
 use Rattle.std.proofs.Common.{ap, ◌∙◌}
 use Rattle.npf_faults.specs.First.{earlier}
-use Rattle.npf_check.specs.WrittenRule.{faults_of_pass, pass_of_map}
-use Rattle.npf_check.proofs.PairLemmas.{pairs_step, pairs_past}
+use Rattle.npf_check.{specs.WrittenRule.{faults_of_pass, pass_of_map}, proofs.PairLemmas.{pairs_step, pairs_past}}
 use Rattle.npf_check.proofs.written_rule.FiltersLeft.pass.Goals as goal
 
 pub returns-in-Some-split_first : goal.returns-in-Some-split_first

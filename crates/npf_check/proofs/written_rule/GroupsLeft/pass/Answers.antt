@@ -1,8 +1,6 @@
-use Rattle.std.proofs.Common.{zip, ap, ◌∙◌}
-use Rattle.std.specs.List.{flat_map}
+use Rattle.std.{proofs.Common.{zip, ap, ◌∙◌}, specs.List.flat_map}
 use Rattle.npf_faults.specs.First.{earlier, first_fault}
-use Rattle.npf_check.specs.WrittenRule.{faults_of_group, faults_of_item, items_in}
-use Rattle.npf_check.proofs.PairLemmas.{pairs_step, pairs_past}
+use Rattle.npf_check.{specs.WrittenRule.{faults_of_group, faults_of_item, items_in}, proofs.PairLemmas.{pairs_step, pairs_past}}
 use Rattle.npf_check.proofs.written_rule.GroupsLeft.pass.Goals as goal
 
 pub returns-in-Some-split_first : goal.returns-in-Some-split_first

@@ -1,8 +1,7 @@
 use Rattle.std.proofs.Common.{List, ◌++◌, append-nil, append_assoc, flat_map, sym, ap, take, ◌∙◌}
 use Rattle.npf_types.specs.declared.name.Name.{Name}
 use Rattle.npf_config_changes.specs.Rulesets.{Ruleset, rulesets_at}
-use Rattle.npf_config_reload.specs.Taken.{first_of}
-use Rattle.npf_config_reload.proofs.EachLemmas.{parts_more}
+use Rattle.npf_config_reload.{specs.Taken.first_of, proofs.EachLemmas.parts_more}
 use Rattle.npf_config_reload.proofs.rulesets.Rulesets.add_all.Goals as goal
 
 pub loop-item-init : goal.loop-item-init

@@ -2,8 +2,7 @@ use Rattle.std.proofs.Common.{List, ◌++◌, flat_map, sym, ap, take, ◌∙◌
 use Rattle.npf_types.specs.declared.name.Name.{Name}
 use Rattle.npf_model.specs.declared.group.Item.{Item}
 use Rattle.npf_config_changes.specs.Rulesets.{Ruleset, rulesets_at, rulesets_in}
-use Rattle.npf_config_reload.specs.Taken.{first_of}
-use Rattle.npf_config_reload.proofs.EachLemmas.{parts_more}
+use Rattle.npf_config_reload.{specs.Taken.first_of, proofs.EachLemmas.parts_more}
 use Rattle.npf_config_reload.proofs.rulesets.Rulesets.of.Goals as goal
 
 pub loop-group-preserved : goal.loop-group-preserved

@@ -1,10 +1,6 @@
-use Rattle.std.proofs.Common.{ℕ, List, Option, Some, option_map, sym, ap, ◌∙◌}
-use Rattle.std.specs.HashMap.{get_by}
-use Rattle.std.specs.Str.{bytes_eq}
-use Rattle.std.proofs.lemmas.Map.Text.{hash_map_updates_str}
+use Rattle.std.{proofs.{Common.{ℕ, List, Option, Some, option_map, sym, ap, ◌∙◌}, lemmas.Map.Text.hash_map_updates_str}, specs.{HashMap.get_by, Str.bytes_eq}}
 use Rattle.npf_config_changes.specs.Rulesets.{Ruleset}
-use Rattle.npf_config_reload.specs.declared.rulesets.Rulesets.{Rulesets}
-use Rattle.npf_config_reload.specs.Before.{ruleset_before}
+use Rattle.npf_config_reload.specs.{declared.rulesets.Rulesets.Rulesets, Before.ruleset_before}
 use Rattle.npf_config_reload.proofs.RulesetLemmas.{chosen_mapped, first_kept, first_put, some_mapped}
 use Rattle.npf_config_reload.proofs.rulesets.Rulesets.put.Goals as goal
 

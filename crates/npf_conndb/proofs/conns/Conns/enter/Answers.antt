@@ -1,6 +1,5 @@
 use Rattle.std.proofs.Common.{ap}
-use Rattle.npf_conndb.proofs.PassLemmas.{idle_pin, goes_on, adds_nothing}
-use Rattle.npf_conndb.proofs.StayLemmas.{entered_shows, entered_later, entered_pass, entered_between}
+use Rattle.npf_conndb.proofs.{PassLemmas.{idle_pin, goes_on, adds_nothing}, StayLemmas.{entered_shows, entered_later, entered_pass, entered_between}}
 use Rattle.npf_cells_rule.proofs.PassLemmas.{pinned_in}
 use Rattle.npf_conndb.proofs.conns.Conns.enter.Goals as goal
 

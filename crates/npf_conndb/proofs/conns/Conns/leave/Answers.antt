@@ -1,7 +1,6 @@
 use Rattle.std.proofs.Common.{ap, arith}
 use Rattle.npf_cells_rule.specs.Passes.{is_pinned}
-use Rattle.npf_conndb.proofs.PassLemmas.{stays_pinned, goes_on, adds_nothing}
-use Rattle.npf_conndb.proofs.StayLemmas.{left_shows, left_pass, left_between}
+use Rattle.npf_conndb.proofs.{PassLemmas.{stays_pinned, goes_on, adds_nothing}, StayLemmas.{left_shows, left_pass, left_between}}
 use Rattle.npf_conndb.proofs.conns.Conns.leave.Goals as goal
 
 pub leave-requires-clause-pinned : goal.leave-requires-clause-pinned

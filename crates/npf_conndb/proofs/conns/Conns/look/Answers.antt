@@ -7,7 +7,11 @@ pub returns-clause-inside : goal.returns-clause-inside
 returns-clause-inside g c =
     let so = c.look.ensures.looks in
     record {
-      own = record { own = c.look.ensures.own; between = goes_between g.L.Law.meaning _ _ (ap (λ y. hands y.0) so.is) (ap (λ y. y.0.pools.builds) so.is) (ap (λ y. y.0.pools.notes) so.is) c.requires.inside.legal so.legal (begins _ _ _ so.adds.adds) c.requires.inside.own.between };
+      own = record {
+        own = c.look.ensures.own;
+        between = goes_between g.L.Law.meaning _ _ (ap (λ y. hands y.0) so.is) (ap (λ y. y.0.pools.builds) so.is)
+            (ap (λ y. y.0.pools.notes) so.is) c.requires.inside.legal so.legal (begins _ _ _ so.adds.adds) c.requires.inside.own.between;
+      };
       legal = so.legal;
       entered = ap (λ y. is_pinned y.0.epochs.pin) so.is ∙ c.requires.inside.entered;
     }

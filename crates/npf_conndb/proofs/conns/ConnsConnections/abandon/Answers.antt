@@ -2,8 +2,7 @@ use Rattle.std.proofs.Common.{refl, ap, ◌∙◌, inr}
 use Rattle.npf_core.specs.declared.act.Why.TheVariants.{Abandoned}
 use Rattle.npf_cells_rule.specs.Passes.{is_pinned}
 use Rattle.npf_seats.proofs.PrefixLemmas.{none_listed}
-use Rattle.npf_conndb.proofs.EndingLemmas.{killed_one, is_dead, abandons, abandoned_between, abandoned_pin, abandoned_goes}
-use Rattle.npf_conndb.proofs.TurnLemmas.{known_exists}
+use Rattle.npf_conndb.proofs.{EndingLemmas.{killed_one, is_dead, abandons, abandoned_between, abandoned_pin, abandoned_goes}, TurnLemmas.known_exists}
 use Rattle.npf_conndb.proofs.conns.ConnsConnections.abandon.Goals as goal
 
 pub kill-requires-clause-exists : goal.kill-requires-clause-exists

@@ -1,7 +1,6 @@
 use Rattle.std.proofs.Common.{ap, ◌∙◌, arith}
 use Rattle.npf_cells_rule.specs.Passes.{is_pinned}
-use Rattle.npf_conndb.proofs.BeginLemmas.{asked}
-use Rattle.npf_conndb.proofs.PassLemmas.{goes_on}
+use Rattle.npf_conndb.proofs.{BeginLemmas.asked, PassLemmas.goes_on}
 use Rattle.npf_conndb.proofs.conns.ConnsConnections.begin.Goals as goal
 
 pub begin-requires-clause-protected : goal.begin-requires-clause-protected

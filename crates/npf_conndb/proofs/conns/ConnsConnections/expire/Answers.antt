@@ -1,5 +1,4 @@
-use Rattle.npf_conndb.proofs.PassLemmas.{idle_pin}
-use Rattle.npf_conndb.proofs.StayLemmas.{entered_pass, entered_between}
+use Rattle.npf_conndb.proofs.{PassLemmas.idle_pin, StayLemmas.{entered_pass, entered_between}}
 use Rattle.npf_conndb.proofs.VisitLemmas.{visit_between, visit_pass, visit_out, visit_expires, visit_goes}
 use Rattle.npf_conndb.proofs.conns.ConnsConnections.expire.Goals as goal
 
@@ -33,9 +32,11 @@ pub returns-clause-adds : goal.returns-clause-adds
 returns-clause-adds g c =
     let e = c.enter.ensures in
     let x = c.expire_all-count.ensures in
-    visit_expires g.L.Law.meaning c.args.pass.now.cells.seat.me _ c.expire_all-count.new.pass.seat.me _ c.requires.out.legal c.requires.out.out e.same e.protected e.enters x.stays c.leave.ensures.next c.args.now _ c.expire_all-count.result c.requires.out.own.own.sized x.expires
+    visit_expires g.L.Law.meaning c.args.pass.now.cells.seat.me _ c.expire_all-count.new.pass.seat.me _ c.requires.out.legal c.requires.out.out e.same
+    e.protected e.enters x.stays c.leave.ensures.next c.args.now _ c.expire_all-count.result c.requires.out.own.own.sized x.expires
 
 pub returns-clause-view : goal.returns-clause-view
 returns-clause-view g c =
     let e = c.enter.ensures in
-    visit_goes g.L.Law.meaning c.args.pass.now.cells.seat.me _ c.expire_all-count.new.pass.seat.me _ c.requires.out.legal c.requires.out.out e.same e.protected e.enters c.expire_all-count.ensures.stays c.leave.ensures.next
+    visit_goes g.L.Law.meaning c.args.pass.now.cells.seat.me _ c.expire_all-count.new.pass.seat.me _ c.requires.out.legal
+    c.requires.out.out e.same e.protected e.enters c.expire_all-count.ensures.stays c.leave.ensures.next

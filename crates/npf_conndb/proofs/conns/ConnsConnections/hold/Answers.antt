@@ -1,8 +1,7 @@
 use Rattle.std.proofs.Common.{ap, ◌∙◌, inr, arith}
 use Rattle.npf_connections.proofs.StayLemmas.{holding_keeps_ways, holding_keeps_bare}
 use Rattle.npf_seats.proofs.PrefixLemmas.{none_listed}
-use Rattle.npf_conndb.proofs.HoldLemmas.{held_shows, held_pass, held_between, held_adds, held_sweeps, held_swept, holding}
-use Rattle.npf_conndb.proofs.PassLemmas.{goes_on}
+use Rattle.npf_conndb.proofs.{HoldLemmas.{held_shows, held_pass, held_between, held_adds, held_sweeps, held_swept, holding}, PassLemmas.goes_on}
 use Rattle.npf_conndb.proofs.TurnLemmas.{known_exists}
 use Rattle.npf_conndb.proofs.conns.ConnsConnections.hold.Goals as goal
 
@@ -26,7 +25,10 @@ pub returns-clause-inside : goal.returns-clause-inside
 returns-clause-inside g c =
     let so = c.hold.ensures.answers in
     record {
-      own = record { own = c.hold.ensures.own; between = held_between g.L.Law.meaning _ _ _ _ _ _ _ _ so.anew so.settles c.requires.inside.entered c.requires.inside.legal c.requires.builds c.requires.inside.own.between };
+      own = record {
+        own = c.hold.ensures.own;
+        between = held_between g.L.Law.meaning _ _ _ _ _ _ _ _ so.anew so.settles c.requires.inside.entered c.requires.inside.legal c.requires.builds c.requires.inside.own.between;
+      };
       legal = held_pass g.L.Law.meaning _ _ _ _ _ _ _ _ so.anew so.settles c.requires.inside.entered c.requires.inside.legal;
       entered = ap (λ p. p.entered) (held_shows g.L.Law.meaning _ _ _ _ _ _ _ _ so.anew so.settles c.requires.inside.entered) ∙ c.requires.inside.entered;
     }
@@ -39,12 +41,14 @@ returns-clause-adds g c =
 pub returns-clause-ways : goal.returns-clause-ways
 returns-clause-ways g c =
     let so = c.hold.ensures.answers in
-    holding_keeps_ways g.L.Law.meaning _ _ c.args.id c.args.key c.args.way _ (holding g.L.Law.meaning _ _ _ _ _ _ _ _ so.anew so.settles c.requires.inside.entered c.requires.inside.legal c.requires.builds c.requires.none)
+    holding_keeps_ways g.L.Law.meaning _ _ c.args.id c.args.key c.args.way _
+    (holding g.L.Law.meaning _ _ _ _ _ _ _ _ so.anew so.settles c.requires.inside.entered c.requires.inside.legal c.requires.builds c.requires.none)
 
 pub returns-clause-bare : goal.returns-clause-bare
 returns-clause-bare g c =
     let so = c.hold.ensures.answers in
-    holding_keeps_bare g.L.Law.meaning _ _ c.args.id c.args.key c.args.way _ (holding g.L.Law.meaning _ _ _ _ _ _ _ _ so.anew so.settles c.requires.inside.entered c.requires.inside.legal c.requires.builds c.requires.none)
+    holding_keeps_bare g.L.Law.meaning _ _ c.args.id c.args.key c.args.way _
+    (holding g.L.Law.meaning _ _ _ _ _ _ _ _ so.anew so.settles c.requires.inside.entered c.requires.inside.legal c.requires.builds c.requires.none)
 
 pub returns-clause-sweep : goal.returns-clause-sweep
 returns-clause-sweep g c = λ none.

@@ -23,7 +23,18 @@ returns-clause-out g c =
       own = record {
         own = e.own;
         between = rests_between g.L.Law.meaning _
-            (λ i. (e.idle i, (ap (λ t. t.locks) e.trie ∙ between.unlocked) i, (e.turn ∙ between.turnless) i, (ap (λ p. p.nodes) e.pools ∙ between.nodeless) i, (ap (λ p. p.unstored) e.pools ∙ between.stored) i, (ap (λ p. p.kills) e.pools ∙ between.let_go) i, (ap (λ p. p.gave_up) e.pools ∙ between.given_up) i, (ap (λ p. p.reclaims) e.pools ∙ between.reclaimed) i, (ap (λ p. p.cleared) e.pools ∙ between.freed) i, (ap (λ p. p.unfreed) e.pools ∙ (λ j. between.returned j ++ c.requires.other.own.between.returned j)) i))
+            (λ i. (
+              e.idle i,
+              (ap (λ t. t.locks) e.trie ∙ between.unlocked) i,
+              (e.turn ∙ between.turnless) i,
+              (ap (λ p. p.nodes) e.pools ∙ between.nodeless) i,
+              (ap (λ p. p.unstored) e.pools ∙ between.stored) i,
+              (ap (λ p. p.kills) e.pools ∙ between.let_go) i,
+              (ap (λ p. p.gave_up) e.pools ∙ between.given_up) i,
+              (ap (λ p. p.reclaims) e.pools ∙ between.reclaimed) i,
+              (ap (λ p. p.cleared) e.pools ∙ between.freed) i,
+              (ap (λ p. p.unfreed) e.pools ∙ (λ j. between.returned j ++ c.requires.other.own.between.returned j)) i,
+            ))
             (ap (λ p. p.builds) e.pools ∙ c.requires.out.legal.idle c.requires.out.out);
       };
       legal = e.legal;

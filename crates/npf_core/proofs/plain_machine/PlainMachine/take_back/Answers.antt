@@ -1,8 +1,5 @@
 use Rattle.std.proofs.Common.{ap, ◌∙◌}
-use Rattle.npf_core.specs.Holding.{holder_in}
-use Rattle.npf_core.specs.Slot.{slot_in}
-use Rattle.npf_core.proofs.HoldingLemmas.{each_once-filter, is_other}
-use Rattle.npf_core.proofs.PlainMachineLemmas.{taken_state}
+use Rattle.npf_core.{specs.{Hold.holder_in, Slot.slot_in}, proofs.{HoldingLemmas.{each_once-filter, is_other}, PlainMachineLemmas.taken_state}}
 use Rattle.npf_core.proofs.plain_machine.PlainMachine.take_back.Goals as goal
 
 pub invariant_of-self : goal.invariant_of-self

@@ -1,12 +1,7 @@
-use Rattle.std.proofs.Common.{◌≡◌, ℕ, Vec, Global, length, rules, ap}
-use Rattle.std.proofs.lemmas.List.Elements.{All-push}
-use Rattle.std.proofs.lemmas.Result.{err_from_is_err_and}
-use Rattle.npf_types.specs.declared.direction.Dir.{Dir}
-use Rattle.npf_types.specs.declared.interface.IfId.{IfId}
-use Rattle.npf_types.specs.Stages.{stops}
+use Rattle.std.proofs.{Common.{◌≡◌, ℕ, Vec, Global, length, rules, ap}, lemmas.{List.Elements.All-push, Result.err_from_is_err_and}}
+use Rattle.npf_types.specs.{declared.{direction.Dir.Dir, interface.IfId.IfId}, Stages.stops}
 use Rattle.npf_pcap.specs.declared.extent.Extents.{Extents}
-use Rattle.npf_ctl_arrivals.specs.declared.trace.Trace.{Trace}
-use Rattle.npf_ctl_arrivals.specs.Traces.{IsApart}
+use Rattle.npf_ctl_arrivals.specs.{declared.trace.Trace.Trace, Traces.IsApart}
 use Rattle.npf_ctl_arrivals.proofs.GatherLemmas.{all_gathered, counted_with, crossing_still, packets_of_pushed, too_many, within_still}
 use Rattle.npf_ctl_arrivals.proofs.arrivals.Arrivals.add.Goals as goal
 

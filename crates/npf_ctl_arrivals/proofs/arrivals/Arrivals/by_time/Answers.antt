@@ -1,12 +1,8 @@
-use Rattle.std.proofs.Common.{◌≡◌, ◌≤◌, List, Result, IfOk, Vec, Global, All, length}
-use Rattle.std.proofs.lemmas.List.Sorted.{All-permutation, length_permutation}
+use Rattle.std.proofs.{Common.{◌≡◌, ◌≤◌, List, Result, IfOk, Vec, Global, All, length}, lemmas.List.Sorted.{All-permutation, length_permutation}}
 use Rattle.std.proofs.lemmas.Result.{IfOk-weaker}
-use Rattle.npf_types.specs.declared.limits.TheConstants.{MAX_PACKETS}
-use Rattle.npf_types.specs.declared.memory.NoMemory.{NoMemory}
-use Rattle.npf_traffic.specs.declared.packet.Packet.{Packet}
-use Rattle.npf_traffic.specs.Packet.{IsShortPacket}
-use Rattle.npf_ctl_arrivals.specs.Arrivals.{AreByTime}
-use Rattle.npf_ctl_arrivals.specs.Within.{CrossesOneOf, HasCaptureTime}
+use Rattle.npf_types.specs.declared.{limits.TheConstants.MAX_PACKETS, memory.NoMemory.NoMemory}
+use Rattle.npf_traffic.specs.{declared.packet.Packet.Packet, Packet.IsShortPacket}
+use Rattle.npf_ctl_arrivals.specs.{Arrivals.AreByTime, Within.{CrossesOneOf, HasCaptureTime}}
 use Rattle.npf_ctl_arrivals.proofs.arrivals.Arrivals.by_time.Goals as goal
 
 -- what all gathered packets are, those by time are

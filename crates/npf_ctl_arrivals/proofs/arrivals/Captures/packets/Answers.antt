@@ -1,7 +1,5 @@
-use Rattle.std.proofs.Common.{sym, arith}
-use Rattle.std.proofs.lemmas.List.Folds.{length-flat_map-take}
-use Rattle.npf_ctl_arrivals.specs.Traces.{packets_of_trace}
-use Rattle.npf_ctl_arrivals.proofs.PacketLemmas.{length-packets_at}
+use Rattle.std.proofs.{Common.{sym, arith}, lemmas.List.Folds.length-flat_map-take}
+use Rattle.npf_ctl_arrivals.{specs.Traces.packets_of_trace, proofs.PacketLemmas.length-packets_at}
 use Rattle.npf_ctl_arrivals.proofs.arrivals.Captures.packets.Goals as goal
 
 pub append_packets-requires-clause-room : goal.append_packets-requires-clause-room

@@ -1,16 +1,11 @@
 use Rattle.std.proofs.Common.{◌++◌, ◌∷◌, [], append-nil, refl, sym, ap, ◌∙◌}
-use Rattle.npf_expand_values.specs.Kept.{env_in}
-use Rattle.npf_expand_values.specs.Source.{declared_by}
-use Rattle.npf_expand.specs.Elaborates.{filter_elements}
-use Rattle.npf_expand.specs.Map.{map_faults}
-use Rattle.npf_expand.specs.Rule.{passing_faults}
+use Rattle.npf_expand_values.{specs.{Scope.env_in, Source.declared_by}, proofs.FaultLemmas.some_or_none}
+use Rattle.npf_expand.{specs.{Elaborates.filter_elements, Map.map_faults, Rule.passing_faults}, proofs.StepLemmas.few_gathered}
 use Rattle.npf_model.specs.declared.map.Map.{Map}
-use Rattle.npf_expand_values.proofs.FaultLemmas.{some_or_none}
-use Rattle.npf_expand.proofs.StepLemmas.{few_gathered}
 use Rattle.npf_expand.proofs.elaborate.State.add_map.Goals as goal
 
-pub map_of-requires-clause-few : goal.map_of-requires-clause-few
-map_of-requires-clause-few c =
+pub map_of-requires : goal.map_of-requires
+map_of-requires c =
     let ifaces = c.args.interfaces.now.list.now in
     let env = env_in c.args.self.now.variables in
     let line = c.args.line.now in
@@ -27,7 +22,6 @@ returns-then-is_some c =
     let meets = c.meet_rule.ensures (map_faults ifaces env line.iface.now line.proto.now line.left.now line.right.now line.pass.now)
     (filter_elements ifaces (declared_by c.args.declarations.now.source) env line.pass.now) c.map_fault.ensures c.in_ok-more.ensures in
     record {
-      sound = c.requires;
       env = λ text. refl;
       met = record { first = meets.first; count = meets.count };
       adds = λ none. absurd (some_or_none c.meet_rule.new.self.first (sym c.is_some.ensures ∙ c.if-is_some.true) none);
@@ -42,7 +36,6 @@ returns c =
     let meets = c.meet_rule.ensures (map_faults ifaces env line.iface.now line.proto.now line.left.now line.right.now line.pass.now)
     (filter_elements ifaces (declared_by c.args.declarations.now.source) env line.pass.now) c.map_fault.ensures c.in_ok-more.ensures in
     record {
-      sound = c.requires;
       env = λ text. refl;
       met = record { first = meets.first; count = meets.count };
       adds = λ none. record {

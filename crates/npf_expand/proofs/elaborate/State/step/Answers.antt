@@ -1,9 +1,9 @@
 use Rattle.std.proofs.Common.{subst, sym}
 use Rattle.npf_types.specs.declared.span.Span.{Span}
+use Rattle.npf_shelf.proofs.OptionLemmas.{OnOk-weaker}
 use Rattle.npf_syntax.specs.declared.stmt.Stmt.{Stmt}
 use Rattle.npf_expand_values.specs.Source.{declared_by}
 use Rattle.npf_expand.specs.Step.{IsStmtRead}
-use Rattle.npf_expand_values.proofs.FaultLemmas.{on_ok}
 use Rattle.npf_expand.proofs.elaborate.State.step.Goals as goal
 
 pub returns-in-Define : goal.returns-in-Define
@@ -11,5 +11,5 @@ returns-in-Define c =
     let ifaces = c.args.interfaces.now.list.now in
     let declared = declared_by c.args.declarations.now.source in
     let Does : Stmt → Type 0 = λ stmt. IsStmtRead ifaces declared c.args.self.now c.define.new.self stmt in
-    on_ok ((span : Span) → Does (Stmt.Define c.in-Define.var c.in-Define.values span)) (Does c.args.stmt.now) c.define.result
+    OnOk-weaker ((span : Span) → Does (Stmt.Define c.in-Define.var c.in-Define.values span)) (Does c.args.stmt.now) c.define.result
     (λ steps. subst Does (sym c.in-Define.is) (steps c.in-Define.span)) c.define.ensures

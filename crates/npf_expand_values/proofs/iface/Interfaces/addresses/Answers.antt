@@ -1,9 +1,7 @@
-use Rattle.std.proofs.Common.{ℕ, [], ap, sym, get_or, ◌∙◌, arith}
-use Rattle.std.specs.List.{filter}
+use Rattle.std.{proofs.Common.{ℕ, [], ap, sym, get_or, ◌∙◌, arith}, specs.List.filter}
 use Rattle.npf_types.specs.Named.{named}
 use Rattle.npf_model.specs.declared.iface.Iface.{Iface}
-use Rattle.npf_expand_values.specs.Iface.{is_of}
-use Rattle.npf_expand_values.proofs.IfaceLemmas.{first_named, none_named}
+use Rattle.npf_expand_values.{specs.Iface.is_of, proofs.IfaceLemmas.{first_named, none_named}}
 use Rattle.npf_expand_values.proofs.iface.Interfaces.addresses.Goals as goal
 
 pub addresses_at-requires : goal.addresses_at-requires

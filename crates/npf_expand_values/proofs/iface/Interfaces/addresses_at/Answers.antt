@@ -11,7 +11,8 @@ returns-in-Inet4 c = λ d.
 pub returns-in-Inet6 : goal.returns-in-Inet6
 returns-in-Inet6 c = λ d.
     let self = c.args.self.now in
-    c.as_slice-in-Inet6.ensures.value ∙ v6_at self.families.items self.list.now self.parted c.args.function _ c.args.place c.index-in-Inet6.result.now d c.requires c.index-in-Inet6.ensures c.in-Inet6.is
+    c.as_slice-in-Inet6.ensures.value
+    ∙ v6_at self.families.items self.list.now self.parted c.args.function _ c.args.place c.index-in-Inet6.result.now d c.requires c.index-in-Inet6.ensures c.in-Inet6.is
 
 pub returns-in-IfAddrs : goal.returns-in-IfAddrs
 returns-in-IfAddrs c = λ d.

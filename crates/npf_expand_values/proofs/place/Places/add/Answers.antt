@@ -1,6 +1,4 @@
-use Rattle.std.proofs.Common.{Some, is_some, if◌then◌else◌, sym, ap, ◌∙◌, arith}
-use Rattle.std.proofs.lemmas.List.{length_push}
-use Rattle.std.proofs.lemmas.Map.Text.{hash_map_updates_str}
+use Rattle.std.proofs.{Common.{Some, is_some, if◌then◌else◌, sym, ap, ◌∙◌, arith}, lemmas.{List.length_push, Map.Text.hash_map_updates_str}}
 use Rattle.std.specs.Str.{bytes_eq}
 use Rattle.npf_expand_values.proofs.PlaceLemmas.{none_there, place_added, place_kept}
 use Rattle.npf_expand_values.proofs.place.Places.add.Goals as goal

@@ -1,8 +1,7 @@
 use Rattle.std.proofs.Common.{ap, ◌∙◌}
 use Rattle.npf_types.specs.declared.name.Name.{Name}
 use Rattle.npf_model.specs.declared.rule.OnIf.{OnIf}
-use Rattle.npf_expand_values.specs.Iface.{on_text}
-use Rattle.npf_expand_values.specs.Scope.{ifaces_of_scope}
+use Rattle.npf_expand_values.specs.{Iface.on_text, Scope.ifaces_of_scope}
 use Rattle.npf_expand_values.proofs.scope.Scope.on_iface.Goals as goal
 
 unnumbered : Name → OnIf

@@ -1,8 +1,6 @@
 use Rattle.std.proofs.Common.{ap, sym, ◌∙◌}
-use Rattle.npf_faults.specs.First.{earlier, first_fault}
-use Rattle.npf_faults.proofs.FirstLemmas.{each_end, each_step}
-use Rattle.npf_expand_values.specs.Scope.{env_of_scope, ifaces_of_scope}
-use Rattle.npf_expand_values.specs.Variable.{own_faults}
+use Rattle.npf_faults.{specs.First.{earlier, first_fault}, proofs.FirstLemmas.{each_end, each_step}}
+use Rattle.npf_expand_values.specs.{Scope.{env_of_scope, ifaces_of_scope}, Variable.own_faults}
 use Rattle.npf_expand_values.proofs.scope.Scope.own_fault_of_each.Goals as goal
 
 pub loop-value-preserved : goal.loop-value-preserved

@@ -1,8 +1,5 @@
 use Rattle.std.proofs.Common.{subst, sym}
-use Rattle.npf_expand_values.specs.Kept.{AreSpliced}
-use Rattle.npf_expand_values.specs.Scope.{env_of_scope, ifaces_of_scope, known_of_scope}
-use Rattle.npf_expand_values.specs.Use.{atoms_of}
-use Rattle.npf_expand_values.specs.Variable.{binding_of}
+use Rattle.npf_expand_values.specs.{Kept.AreSpliced, Scope.{env_of_scope, ifaces_of_scope, known_of_scope}, Use.atoms_of, Variable.binding_of}
 use Rattle.npf_expand_values.proofs.KeptLemmas.{flat_map-more}
 use Rattle.npf_expand_values.proofs.scope.Scope.splice.Goals as goal
 

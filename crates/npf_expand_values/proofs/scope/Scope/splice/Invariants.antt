@@ -1,7 +1,5 @@
 use Rattle.std.proofs.Common.{take}
-use Rattle.npf_expand_values.specs.Kept.{AreSpliced}
-use Rattle.npf_expand_values.specs.Scope.{env_of_scope, ifaces_of_scope, known_of_scope}
-use Rattle.npf_expand_values.specs.Variable.{spliced}
+use Rattle.npf_expand_values.specs.{Kept.AreSpliced, Scope.{env_of_scope, ifaces_of_scope, known_of_scope}, Variable.spliced}
 use Rattle.npf_expand_values.proofs.scope.Scope.splice.Given as goal
 
 abbrev pub invariant-loop-value : goal.invariant-loop-value

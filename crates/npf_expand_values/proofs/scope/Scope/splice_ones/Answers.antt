@@ -1,11 +1,6 @@
-use Rattle.std.proofs.Common.{List, subst, sym}
-use Rattle.std.specs.List.{flat_map}
-use Rattle.std.proofs.lemmas.List.{take_all}
+use Rattle.std.{proofs.{Common.{List, subst, sym}, lemmas.List.take_all}, specs.List.flat_map}
 use Rattle.npf_syntax.specs.declared.value.One.{One}
-use Rattle.npf_expand_values.specs.Kept.{AreSpliced}
-use Rattle.npf_expand_values.specs.Scope.{env_of_scope, known_of_scope}
-use Rattle.npf_expand_values.specs.Use.{atoms_of}
-use Rattle.npf_expand_values.specs.Protocol.{one_binding}
+use Rattle.npf_expand_values.specs.{Kept.AreSpliced, Scope.{env_of_scope, known_of_scope}, Use.atoms_of, Protocol.one_binding}
 use Rattle.npf_expand_values.proofs.KeptLemmas.{flat_map-more}
 use Rattle.npf_expand_values.proofs.scope.Scope.splice_ones.Goals as goal
 

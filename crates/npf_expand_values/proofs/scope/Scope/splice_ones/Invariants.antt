@@ -1,9 +1,5 @@
-use Rattle.std.proofs.Common.{take}
-use Rattle.std.specs.List.{flat_map}
-use Rattle.npf_expand_values.specs.Kept.{AreSpliced}
-use Rattle.npf_expand_values.specs.Protocol.{one_binding}
-use Rattle.npf_expand_values.specs.Scope.{env_of_scope, known_of_scope}
-use Rattle.npf_expand_values.specs.Use.{atoms_of}
+use Rattle.std.{proofs.Common.take, specs.List.flat_map}
+use Rattle.npf_expand_values.specs.{Kept.AreSpliced, Protocol.one_binding, Scope.{env_of_scope, known_of_scope}, Use.atoms_of}
 use Rattle.npf_expand_values.proofs.scope.Scope.splice_ones.Given as goal
 
 abbrev pub invariant-loop-one : goal.invariant-loop-one

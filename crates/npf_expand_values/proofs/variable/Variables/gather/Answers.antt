@@ -1,14 +1,10 @@
-use Rattle.std.proofs.Common.{◌≡◌, ◌<◌, ◌++◌, ◌∷◌, [], All, List, length, map, reverse, refl, sym, ap, subst, ◌∙◌, arith}
-use Rattle.std.proofs.lemmas.List.{nil_from_length}
+use Rattle.std.proofs.{Common.{◌≡◌, ◌<◌, ◌++◌, ◌∷◌, [], All, List, length, map, reverse, refl, sym, ap, subst, ◌∙◌, arith}, lemmas.List.nil_from_length}
 use Rattle.std.proofs.lemmas.Option.{slice_get_read}
-use Rattle.npf_expand_values.specs.declared.variable.Part.{Part}
-use Rattle.npf_expand_values.specs.declared.variable.Part.TheVariants.{Defined}
-use Rattle.npf_expand_values.specs.Atom.{Atom, kept_atom}
-use Rattle.npf_expand_values.specs.Kept.{IsOfFirst, kept_parts, known, parts_atoms}
+use Rattle.npf_expand_values.specs.{declared.variable.Part.{Part, TheVariants.Defined}, Atom.{Atom, kept_atom}, Kept.{IsOfFirst, kept_parts, parts_atoms}}
+use Rattle.npf_expand_values.specs.Scope.{known}
 use Rattle.npf_expand_values.proofs.KeptLemmas.{IsDefAt, known_at, last_of_first, length-known, map-reversed, replaced_means, replaced_older}
-use Rattle.npf_expand_values.proofs.PartSize.{parts_size, replaced_smaller}
+use Rattle.npf_expand_values.proofs.{PartSize.{parts_size, replaced_smaller}, variable.Variables.gather.Goals.In_ok-put_on-in-Defined}
 use Rattle.npf_expand_values.proofs.variable.Variables.gather.Goals as goal
-use Rattle.npf_expand_values.proofs.variable.Variables.gather.Goals.{In_ok-put_on-in-Defined}
 
 pub index-requires : goal.index-requires
 index-requires c =
@@ -32,7 +28,7 @@ within c =
 def_is : (c : In_ok-put_on-in-Defined) → IsDefAt (known c.args.self.now) c.in-Defined.place c.index.result.now
 def_is c =
     let defs = c.args.self.now.defs in
-    known_at c.args.self.now c.in-Defined.place c.index.result.now c.requires.sound
+    known_at c.args.self.now c.in-Defined.place c.index.result.now
     (slice_get_read defs.items _ c.in-Defined.place c.index.result.now refl (within c) c.index.ensures)
 
 pub loop-part-smaller : goal.loop-part-smaller

@@ -1,7 +1,5 @@
 use Rattle.std.proofs.Common.{◌≡◌, ◌++◌, All, length, map, reverse}
-use Rattle.npf_expand_values.specs.Atom.{kept_atom}
-use Rattle.npf_expand_values.specs.Kept.{IsOfFirst, known, parts_atoms}
-use Rattle.npf_expand_values.proofs.PartSize.{parts_size}
+use Rattle.npf_expand_values.{specs.{Atom.kept_atom, Kept.{IsOfFirst, parts_atoms}, Scope.known}, proofs.PartSize.parts_size}
 use Rattle.npf_expand_values.proofs.variable.Variables.gather.Given as goal
 
 abbrev pub invariant-loop-part : goal.invariant-loop-part

@@ -1,23 +1,28 @@
-use Rattle.std.proofs.Common.{◌≡◌, ℕ, List, Some, if◌then◌else◌, length, ap, ◌∙◌, arith}
-use Rattle.std.specs.HashMap.{get_by}
-use Rattle.std.specs.Str.{bytes_eq}
+use Rattle.std.{proofs.Common.{◌≡◌, ◌<◌, ℕ, List, Some, if◌then◌else◌, length, ap, ◌∙◌, sym, arith}, specs.{HashMap.get_by, Map.lookup, Str.bytes_eq}}
 use Rattle.std.proofs.lemmas.Map.Text.{hash_map_updates_str}
-use Rattle.npf_expand_values.proofs.KeptLemmas.{put_bound, put_sound}
+use Rattle.npf_expand_values.proofs.{FaultLemmas.either_way, KeptLemmas.{pushed_behind, pushed_within, put_bound, put_within}}
 use Rattle.npf_expand_values.proofs.variable.Variables.put.Goals as goal
-use Rattle.npf_expand_values.proofs.variable.Variables.put.Goals.{In_ok-push}
 
-latest : (c : In_ok-push) → (text : List ℕ) → get_by (λ key. bytes_eq text key.now) c.insert.new.self
-    ≡ (if bytes_eq c.args.name.now text then Some (length c.args.self.now.defs.items) else get_by (λ key. bytes_eq text key.now) c.args.self.now.latest)
-latest c text =
+pub invariant_of-self-2 : goal.invariant_of-self-2
+invariant_of-self-2 c =
     let was = c.args.self.now in
-    hash_map_updates_str c.args.name.now was.latest c.insert.new.self (Some c.len.result) c.in_ok-insert.ensures.updates text
-    ∙ ap (λ count. if bytes_eq c.args.name.now text then Some count else get_by (λ key. bytes_eq text key.now) was.latest) (let counted : c.len.result ≡ length was.defs.items = omega (arith, c.len.ensures, was.defs.ok.0) in counted)
+    let counted : c.len-place.result ≡ length was.defs.items = omega (arith, c.len-place.ensures, was.defs.ok.0) in
+    record {
+      behind = pushed_behind was c.args.def c.push.new.self.items c.in_ok-push.ensures.items c.requires;
+      within = λ text place there. either_way _ _ (place < length c.push.new.self.items) c.insert.result
+          (λ updates. put_within was c.args.def c.push.new.self.items c.in_ok-push.ensures.items c.args.name.now
+          (λ text. get_by (λ key. bytes_eq text key.now) c.insert.new.self)
+          (λ text. hash_map_updates_str c.args.name.now was.latest c.insert.new.self (Some c.len-place.result) updates text
+          ∙ ap (λ count. if bytes_eq c.args.name.now text then Some count else get_by (λ key. bytes_eq text key.now) was.latest) counted) text place there)
+          (λ same. pushed_within was c.args.def c.push.new.self.items c.in_ok-push.ensures.items place
+          (let below = was.within text place (ap (lookup (λ key. bytes_eq text key.now)) (sym same) ∙ there) in omega (arith, below)))
+          c.insert.ensures.updates c.insert.ensures.err;
+    }
 
-pub returns-clause-sound : goal.returns-clause-sound
-returns-clause-sound c =
-    put_sound c.args.self.now (record { defs = c.push.new.self; latest = c.insert.new.self }) c.args.name.now c.args.def c.requires.sound c.in_ok-push.ensures.items
-    (latest c) c.requires.behind
-
-pub returns-clause-bound : goal.returns-clause-bound
-returns-clause-bound c =
-    put_bound c.args.self.now (record { defs = c.push.new.self; latest = c.insert.new.self }) c.args.name.now c.args.def c.requires.sound c.in_ok-push.ensures.items (latest c)
+pub returns : goal.returns
+returns c =
+    let was = c.args.self.now in
+    let counted : c.len-place.result ≡ length was.defs.items = omega (arith, c.len-place.ensures, was.defs.ok.0) in
+    put_bound was c.args.def c.push.new.self.items c.in_ok-push.ensures.items c.args.name.now (λ text. get_by (λ key. bytes_eq text key.now) c.insert.new.self)
+    (λ text. hash_map_updates_str c.args.name.now was.latest c.insert.new.self (Some c.len-place.result) c.in_ok-insert.ensures.updates text
+    ∙ ap (λ count. if bytes_eq c.args.name.now text then Some count else get_by (λ key. bytes_eq text key.now) was.latest) counted)

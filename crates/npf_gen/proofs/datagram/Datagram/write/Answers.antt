@@ -1,5 +1,4 @@
-use Rattle.std.proofs.Common.{◌≡◌, ◌∙◌, ap, List, ◌++◌, ℕ, append_assoc}
-use Rattle.std.proofs.lemmas.Result.{on_ok_weaker}
+use Rattle.std.proofs.{Common.{◌≡◌, ◌∙◌, ap, List, ◌++◌, ℕ, append_assoc}, lemmas.Result.on_ok_weaker}
 use Rattle.npf_gen.specs.Datagram.{ipv4_words, ipv4_sum, udp_words, udp_sum, word_bytes}
 use Rattle.npf_gen.proofs.datagram.Datagram.write.Goals as goal
 

@@ -1,7 +1,5 @@
-use Rattle.std.proofs.Common.{◌<◌, ◌-◌, ◌+◌, length, arith, true≢false, sym, ◌∙◌}
-use Rattle.std.proofs.lemmas.List.{get_or_default}
-use Rattle.npf_lpm.specs.Cut.{IsCut}
-use Rattle.npf_lpm.proofs.TopLemmas.{none_below, last_decides}
+use Rattle.std.proofs.{Common.{◌<◌, ◌-◌, ◌+◌, length, arith, true≢false, sym, ◌∙◌}, lemmas.List.get_or_default}
+use Rattle.npf_lpm.{specs.Cut.IsCut, proofs.TopLemmas.{none_below, last_decides}}
 use Rattle.npf_lpm.proofs.blocks.Blocks.contains.Goals as goal
 
 pub returns-then-count-eq0 : goal.returns-then-count-eq0

@@ -1,8 +1,5 @@
-use Rattle.std.proofs.Common.{◌≡◌, List, Contains, sym, ◌∙◌, subst}
-use Rattle.std.proofs.lemmas.Result.{IfOk-weaker}
-use Rattle.npf_lpm.specs.declared.aligned.Aligned.{Aligned}
-use Rattle.npf_lpm.specs.Agree.{IsAligned}
-use Rattle.npf_lpm.proofs.ChangeLemmas.{All-members}
+use Rattle.std.proofs.{Common.{◌≡◌, List, Contains, sym, ◌∙◌, subst}, lemmas.Result.IfOk-weaker}
+use Rattle.npf_lpm.{specs.{declared.aligned.Aligned.Aligned, Agree.IsAligned}, proofs.ChangeLemmas.All-members}
 use Rattle.npf_lpm.proofs.blocks.Blocks.of_blocks.Goals as goal
 
 pub in_order-requires-clause-aligned : goal.in_order-requires-clause-aligned

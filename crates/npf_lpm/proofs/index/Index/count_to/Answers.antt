@@ -1,5 +1,4 @@
-use Rattle.std.proofs.Common.{◌-◌, rules}
-use Rattle.std.proofs.Math.Dec.{leb}
+use Rattle.std.proofs.{Common.{◌-◌, rules}, Math.Dec.leb}
 use Rattle.std.proofs.lemmas.List.Sorted.{IsPartitionPoint-from_clause, IsPartitionedBy-leb, IsNonDecreasingBy-take, IsNonDecreasingBy-drop}
 use Rattle.npf_lpm.proofs.CutLemmas.{counted}
 use Rattle.npf_lpm.proofs.index.Index.count_to.Goals as goal

@@ -1,6 +1,5 @@
 use Rattle.std.proofs.Common.{ap, true, false}
-use Rattle.npf_lpm.specs.Families.{is_narrow}
-use Rattle.npf_lpm.proofs.BothLemmas.{covers_in}
+use Rattle.npf_lpm.{specs.Families.is_narrow, proofs.BothLemmas.covers_in}
 use Rattle.npf_lpm.proofs.lpm.Lpm.contains.Goals as goal
 
 pub returns-in-V4 : goal.returns-in-V4

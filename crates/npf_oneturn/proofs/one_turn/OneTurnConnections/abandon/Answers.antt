@@ -1,8 +1,7 @@
 use Rattle.std.proofs.Common.{rules}
 use Rattle.npf_core.specs.declared.act.Why.TheVariants.{Abandoned}
-use Rattle.npf_oneturn.proofs.AbandonLemmas.{may_abandon, abandoned}
+use Rattle.npf_oneturn.proofs.{AbandonLemmas.{may_abandon, abandoned}, CallLemmas.{has_slot, represents_here, entered_here}}
 use Rattle.npf_oneturn_store.proofs.RepresentLemmas.{shows_alive, shows_bare}
-use Rattle.npf_oneturn.proofs.CallLemmas.{has_slot, represents_here, entered_here}
 use Rattle.npf_oneturn.proofs.one_turn.OneTurnConnections.abandon.Goals as goal
 
 pub slot_mut-requires : goal.slot_mut-requires
@@ -34,7 +33,11 @@ returns-clause-inside g c =
     let m = g.L.Law.meaning in
     let t = c.take.ensures.taken in
     let r = c.requires.inside.own.1 in
-    record { own = search rules; legal = (abandoned m _ _ t r.lives r.theirs r.place c.requires.inside.legal c.args.id c.requires.builds c.requires.inside.entered _ _ c.end.ensures.ended).1; entered = search rules }
+    record {
+      own = search rules;
+      legal = (abandoned m _ _ t r.lives r.theirs r.place c.requires.inside.legal c.args.id c.requires.builds c.requires.inside.entered _ _ c.end.ensures.ended).1;
+      entered = search rules;
+    }
 
 pub returns-clause-adds : goal.returns-clause-adds
 returns-clause-adds g c =

@@ -1,14 +1,8 @@
-use Rattle.std.proofs.Common.{refl, sym, ap, subst}
-use Rattle.npf_core.specs.declared.act.Act.TheVariants.{Claim}
-use Rattle.npf_core.specs.declared.reply.Reply.TheVariants.{ToClaim}
-use Rattle.npf_connections.specs.Adding.{AddsOwn}
-use Rattle.npf_connections.specs.Entries.{entry_of}
-use Rattle.npf_oneturn.specs.Endings.{Plan}
-use Rattle.npf_oneturn.specs.Views.{show}
-use Rattle.npf_oneturn.specs.declared.rule.Ending.TheVariants.{Nothing}
-use Rattle.std.proofs.Common.{arith, [], ◌∷◌, rules}
+use Rattle.std.proofs.Common.{refl, sym, ap, subst, arith, [], ◌∷◌, rules}
+use Rattle.npf_core.specs.declared.{act.Act.TheVariants.Claim, reply.Reply.TheVariants.ToClaim}
+use Rattle.npf_connections.{specs.{Adding.AddsOwn, Entries.entry_of}, proofs.StayLemmas.claimed_holds_none}
+use Rattle.npf_oneturn.specs.{Endings.Plan, Views.show, declared.rule.CallEnding.TheVariants.Nothing}
 use Rattle.npf_oneturn_store.proofs.RepresentLemmas.{claim_is_act, stays_same}
-use Rattle.npf_connections.proofs.StayLemmas.{claimed_holds_none}
 use Rattle.npf_oneturn.proofs.CallLemmas.{has_slot, represents_here, entered_here, may_ask, may_rest, asked, rested}
 use Rattle.npf_oneturn.proofs.one_turn.OneTurnConnections.begin.Goals as goal
 
@@ -48,7 +42,8 @@ end-requires-2-clause-may g c =
     let here = represents_here m _ _ t _ c.slot_mut.ensures.value in
     let same = entered_here m _ _ t _ c.slot_mut.ensures.value in
     let acted = claim_is_act m _ _ _ _ c.in-Some.id here c.in-Some.ensures in
-    may_ask m _ _ t c.requires.inside.entered (Claim c.args.n c.in-Some.id.slot) _ acted.may (λ id e. absurd cc) (λ id why e. absurd cc) same (acted.goes_on c.args.pass.now.seat.me.0.seats.number c.args.n)
+    may_ask m _ _ t c.requires.inside.entered (Claim c.args.n c.in-Some.id.slot) _ acted.may (λ id e. absurd cc)
+    (λ id why e. absurd cc) same (acted.goes_on c.args.pass.now.seat.me.0.seats.number c.args.n)
 
 pub returns-clause-inside : goal.returns-clause-inside
 returns-clause-inside g c =
@@ -66,7 +61,8 @@ returns-clause-adds g c =
     let same = entered_here m _ _ t _ c.slot_mut.ensures.value in
     let acted = claim_is_act m _ _ _ _ c.in-Some.id here c.in-Some.ensures in
     let own = show c.args.pass.now.seat.me.0 in
-    subst (λ i. AddsOwn own c.end-2.new.seat.me.0.seats.history (entry_of own (Claim c.args.n c.in-Some.id.slot) (ToClaim i) ∷ [])) (sym acted.identity) (asked m _ _ t r.lives r.theirs r.place (Claim c.args.n c.in-Some.id.slot) _ _ c.end-2.ensures.ended).adds
+    subst (λ i. AddsOwn own c.end-2.new.seat.me.0.seats.history (entry_of own (Claim c.args.n c.in-Some.id.slot) (ToClaim i) ∷ [])) (sym acted.identity)
+    (asked m _ _ t r.lives r.theirs r.place (Claim c.args.n c.in-Some.id.slot) _ _ c.end-2.ensures.ended).adds
 
 pub returns-clause-bare : goal.returns-clause-bare
 returns-clause-bare g c =

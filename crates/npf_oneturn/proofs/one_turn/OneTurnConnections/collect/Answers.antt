@@ -1,7 +1,6 @@
 use Rattle.std.proofs.Common.{rules}
-use Rattle.npf_oneturn.proofs.CollectLemmas.{may_collect, collected}
+use Rattle.npf_oneturn.proofs.{CollectLemmas.{may_collect, collected}, CallLemmas.{has_slot, represents_here, entered_here}}
 use Rattle.npf_oneturn_store.proofs.RepresentLemmas.{shows_dead, shows_bare}
-use Rattle.npf_oneturn.proofs.CallLemmas.{has_slot, represents_here, entered_here}
 use Rattle.npf_oneturn.proofs.one_turn.OneTurnConnections.collect.Goals as goal
 
 pub slot_mut-requires : goal.slot_mut-requires

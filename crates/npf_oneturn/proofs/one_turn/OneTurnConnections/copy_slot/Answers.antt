@@ -1,9 +1,7 @@
 use Rattle.std.proofs.Common.{refl, subst, arith, rules}
-use Rattle.npf_core.specs.Copying.{Copies}
-use Rattle.npf_core.specs.History.{state_of}
-use Rattle.npf_oneturn.specs.declared.rule.Ending.TheVariants.{Nothing}
+use Rattle.npf_core.specs.{Copying.Copies, History.state_of}
+use Rattle.npf_oneturn.{specs.declared.rule.CallEnding.TheVariants.Nothing, proofs.CallLemmas.{has_slot, represents_here, entered_here, may_rest, left}}
 use Rattle.npf_oneturn_store.proofs.RepresentLemmas.{shows_kept}
-use Rattle.npf_oneturn.proofs.CallLemmas.{has_slot, represents_here, entered_here, may_rest, left}
 use Rattle.npf_oneturn.proofs.one_turn.OneTurnConnections.copy_slot.Goals as goal
 
 pub slot_mut-requires : goal.slot_mut-requires

@@ -1,8 +1,5 @@
-use Rattle.std.proofs.Common.{refl, ap}
-use Rattle.npf_oneturn.specs.Endings.{Plan}
-use Rattle.npf_oneturn.specs.Views.{one_if}
-use Rattle.npf_oneturn.specs.declared.rule.Ending.TheVariants.{Enters}
-use Rattle.std.proofs.Common.{true, true≢false, arith, rules}
+use Rattle.std.proofs.Common.{refl, ap, true, true≢false, arith, rules}
+use Rattle.npf_oneturn.specs.{Endings.Plan, Views.one_if, declared.rule.CallEnding.TheVariants.Enters}
 use Rattle.npf_oneturn.proofs.CallLemmas.{has_slot, represents_here, entered_here, may_rest, rested}
 use Rattle.npf_oneturn.proofs.one_turn.OneTurnConnections.enter.Goals as goal
 

@@ -1,6 +1,5 @@
 use Rattle.std.proofs.Common.{rules}
-use Rattle.npf_oneturn.proofs.ExpireLemmas.{may_expire, expired}
-use Rattle.npf_oneturn.proofs.CallLemmas.{has_slot, represents_here, entered_here}
+use Rattle.npf_oneturn.proofs.{ExpireLemmas.{may_expire, expired}, CallLemmas.{has_slot, represents_here, entered_here}}
 use Rattle.npf_oneturn.proofs.one_turn.OneTurnConnections.expire.Goals as goal
 
 pub slot_mut-requires : goal.slot_mut-requires

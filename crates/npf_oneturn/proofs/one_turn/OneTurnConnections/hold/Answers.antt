@@ -28,13 +28,18 @@ end-requires-clause-may g c =
     let same = entered_here m _ _ t _ c.slot_mut.ensures.value in
     let acted = hold_is_act m _ _ _ _ c.args.id c.args.key c.args.way _ here c.hold-held.ensures.answer in
     let none = still_none m _ _ t c.requires.inside.legal c.args.id c.args.way c.requires.builds c.requires.none in
-    may_ask m _ _ t c.requires.inside.entered (Hold c.args.id c.args.key c.args.way) _ (record { built = t.stays.built c.args.id c.requires.builds; none = none }) (λ id e. absurd cc) (λ id why e. absurd cc) same
+    may_ask m _ _ t c.requires.inside.entered (Hold c.args.id c.args.key c.args.way) _
+    (record { built = t.stays.built c.args.id c.requires.builds; none = none }) (λ id e. absurd cc) (λ id why e. absurd cc) same
     (acted.goes_on c.args.pass.now.seat.me.0.seats.number)
 
 pub returns-clause-inside : goal.returns-clause-inside
 returns-clause-inside g c =
     let r = c.requires.inside.own.1 in
-    record { own = search rules; legal = (asked g.L.Law.meaning _ _ c.take.ensures.taken r.lives r.theirs r.place (Hold c.args.id c.args.key c.args.way) _ _ c.end.ensures.ended).legal; entered = search rules }
+    record {
+      own = search rules;
+      legal = (asked g.L.Law.meaning _ _ c.take.ensures.taken r.lives r.theirs r.place (Hold c.args.id c.args.key c.args.way) _ _ c.end.ensures.ended).legal;
+      entered = search rules;
+    }
 
 pub returns-clause-adds : goal.returns-clause-adds
 returns-clause-adds g c =
@@ -54,7 +59,8 @@ returns-clause-ways g c =
     let here = represents_here m _ _ t _ c.slot_mut.ensures.value in
     let same = entered_here m _ _ t _ c.slot_mut.ensures.value in
     let acted = hold_is_act m _ _ _ _ c.args.id c.args.key c.args.way _ here c.hold-held.ensures.answer in
-    holding_keeps_ways m _ _ c.args.id c.args.key c.args.way _ (held_so m _ _ t r.lives r.theirs r.place c.requires.inside.legal c.args.id c.args.key c.args.way _ c.requires.builds c.requires.none _ _ c.end.ensures.ended acted.replied)
+    holding_keeps_ways m _ _ c.args.id c.args.key c.args.way _
+    (held_so m _ _ t r.lives r.theirs r.place c.requires.inside.legal c.args.id c.args.key c.args.way _ c.requires.builds c.requires.none _ _ c.end.ensures.ended acted.replied)
 
 pub returns-clause-bare : goal.returns-clause-bare
 returns-clause-bare g c =
@@ -64,4 +70,5 @@ returns-clause-bare g c =
     let here = represents_here m _ _ t _ c.slot_mut.ensures.value in
     let same = entered_here m _ _ t _ c.slot_mut.ensures.value in
     let acted = hold_is_act m _ _ _ _ c.args.id c.args.key c.args.way _ here c.hold-held.ensures.answer in
-    holding_keeps_bare m _ _ c.args.id c.args.key c.args.way _ (held_so m _ _ t r.lives r.theirs r.place c.requires.inside.legal c.args.id c.args.key c.args.way _ c.requires.builds c.requires.none _ _ c.end.ensures.ended acted.replied)
+    holding_keeps_bare m _ _ c.args.id c.args.key c.args.way _
+    (held_so m _ _ t r.lives r.theirs r.place c.requires.inside.legal c.args.id c.args.key c.args.way _ c.requires.builds c.requires.none _ _ c.end.ensures.ended acted.replied)

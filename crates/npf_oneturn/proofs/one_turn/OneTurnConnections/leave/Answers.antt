@@ -1,8 +1,5 @@
-use Rattle.std.proofs.Common.{refl, ap}
-use Rattle.npf_oneturn.specs.Endings.{Plan}
-use Rattle.npf_oneturn.specs.Views.{one_if}
-use Rattle.npf_oneturn.specs.declared.rule.Ending.TheVariants.{Leaves}
-use Rattle.std.proofs.Common.{false, arith, rules}
+use Rattle.std.proofs.Common.{refl, ap, false, arith, rules}
+use Rattle.npf_oneturn.specs.{Endings.Plan, Views.one_if, declared.rule.CallEnding.TheVariants.Leaves}
 use Rattle.npf_seats.proofs.PrefixLemmas.{none_listed}
 use Rattle.npf_oneturn.proofs.CallLemmas.{has_slot, represents_here, entered_here, may_rest, rested}
 use Rattle.npf_oneturn.proofs.one_turn.OneTurnConnections.leave.Goals as goal

@@ -23,7 +23,11 @@ end-requires-clause-may g c =
 pub returns-clause-inside : goal.returns-clause-inside
 returns-clause-inside g c =
     let r = c.requires.inside.own.1 in
-    record { own = search rules; legal = (asked g.L.Law.meaning _ _ c.take.ensures.taken r.lives r.theirs r.place (Start c.args.id c.args.n c.args.init) _ _ c.end.ensures.ended).legal; entered = search rules }
+    record {
+      own = search rules;
+      legal = (asked g.L.Law.meaning _ _ c.take.ensures.taken r.lives r.theirs r.place (Start c.args.id c.args.n c.args.init) _ _ c.end.ensures.ended).legal;
+      entered = search rules;
+    }
 
 pub returns-clause-adds : goal.returns-clause-adds
 returns-clause-adds g c =

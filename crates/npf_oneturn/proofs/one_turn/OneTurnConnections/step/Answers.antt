@@ -17,13 +17,18 @@ end-requires-clause-may g c =
     let here = represents_here m _ _ t _ c.slot_mut.ensures.value in
     let same = entered_here m _ _ t _ c.slot_mut.ensures.value in
     let acted = step_is_act m _ _ _ _ c.args.id c.args.way c.args.arg.now _ here (known_claimed _ _ c.args.id t.stays c.requires.known) c.step-stepped.ensures in
-    may_ask m _ _ t c.requires.inside.entered (Step c.args.n c.args.id c.args.way c.args.arg.now) _ (known_claimed _ _ c.args.id t.stays c.requires.known) (λ id e. absurd cc) (λ id why e. absurd cc) same
+    may_ask m _ _ t c.requires.inside.entered (Step c.args.n c.args.id c.args.way c.args.arg.now) _
+    (known_claimed _ _ c.args.id t.stays c.requires.known) (λ id e. absurd cc) (λ id why e. absurd cc) same
     (acted.goes_on c.args.pass.now.seat.me.0.seats.number c.args.n)
 
 pub returns-clause-inside : goal.returns-clause-inside
 returns-clause-inside g c =
     let r = c.requires.inside.own.1 in
-    record { own = search rules; legal = (asked g.L.Law.meaning _ _ c.take.ensures.taken r.lives r.theirs r.place (Step c.args.n c.args.id c.args.way c.args.arg.now) _ _ c.end.ensures.ended).legal; entered = search rules }
+    record {
+      own = search rules;
+      legal = (asked g.L.Law.meaning _ _ c.take.ensures.taken r.lives r.theirs r.place (Step c.args.n c.args.id c.args.way c.args.arg.now) _ _ c.end.ensures.ended).legal;
+      entered = search rules;
+    }
 
 pub returns-clause-adds : goal.returns-clause-adds
 returns-clause-adds g c =

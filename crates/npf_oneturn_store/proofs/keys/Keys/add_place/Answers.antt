@@ -1,5 +1,4 @@
-use Rattle.std.proofs.Common.{None, [], ◌∷◌, ap, ◌∙◌, length}
-use Rattle.std.proofs.lemmas.List.{length-append}
+use Rattle.std.proofs.{Common.{None, [], ◌∷◌, ap, ◌∙◌, length}, lemmas.List.length-append}
 use Rattle.npf_oneturn_store.proofs.KeptLemmas.{kept_added, holder_added}
 use Rattle.npf_oneturn_store.proofs.keys.Keys.add_place.Goals as goal
 

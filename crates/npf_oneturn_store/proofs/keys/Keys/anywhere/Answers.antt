@@ -1,6 +1,5 @@
 use Rattle.std.proofs.Common.{sym, ◌∙◌, arith}
-use Rattle.npf_oneturn_store.proofs.HolderLemmas.{no_holder}
-use Rattle.npf_oneturn_store.proofs.HomeLemmas.{holder_found}
+use Rattle.npf_oneturn_store.proofs.{HolderLemmas.no_holder, HomeLemmas.holder_found}
 use Rattle.npf_oneturn_store.proofs.keys.Keys.anywhere.Goals as goal
 
 pub returns-in-Some : goal.returns-in-Some

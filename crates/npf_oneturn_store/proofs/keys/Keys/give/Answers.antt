@@ -1,10 +1,7 @@
-use Rattle.std.proofs.Common.{ap, sym, subst, ◌∙◌, ◌≡◌, ◌<◌, refl, length, set, Some, vec_capacity}
-use Rattle.std.proofs.lemmas.List.{length-set}
-use Rattle.npf_core.specs.declared.holding.Holding.{Holding}
-use Rattle.npf_oneturn_store.specs.Hash.{bucket_of}
-use Rattle.npf_oneturn_store.specs.Places.{standing, holder_among, found_in}
-use Rattle.npf_oneturn_store.proofs.HolderLemmas.{holder_put, holder_kept, found_there, found_elsewhere}
-use Rattle.npf_oneturn_store.proofs.KeptLemmas.{kept_given}
+use Rattle.std.proofs.{Common.{ap, sym, subst, ◌∙◌, ◌≡◌, ◌<◌, refl, length, set, Some, vec_capacity}, lemmas.List.length-set}
+use Rattle.npf_core.specs.declared.hold.Holding.{Holding}
+use Rattle.npf_oneturn_store.specs.{Hash.bucket_of, Places.{standing, holder_among, found_in}}
+use Rattle.npf_oneturn_store.proofs.{HolderLemmas.{holder_put, holder_kept, found_there, found_elsewhere}, KeptLemmas.kept_given}
 use Rattle.npf_oneturn_store.proofs.keys.Keys.give.Goals as goal
 
 pub invariant_of-self : goal.invariant_of-self
@@ -34,7 +31,8 @@ returns c =
     let is = c.key_place-place.ensures in
     let within = subst (λ q. q < length xs) (sym is) c.requires.within in
     record {
-      now = subst (λ ys. holder_among (set ys place (Some x)) c.args.key ≡ Some c.args.found) (sym same) (holder_put xs place (Some x) c.args.key c.args.found within c.requires.unheld (found_there x c.args.key refl));
+      now = subst (λ ys. holder_among (set ys place (Some x)) c.args.key ≡ Some c.args.found) (sym same)
+          (holder_put xs place (Some x) c.args.key c.args.found within c.requires.unheld (found_there x c.args.key refl));
       others = λ other ne.
           let vacant = ap (λ q. standing xs q) is ∙ c.requires.none in
           subst (λ ys. holder_among (set ys place (Some x)) other ≡ holder_among xs other) (sym same)

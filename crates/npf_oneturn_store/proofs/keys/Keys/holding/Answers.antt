@@ -1,9 +1,6 @@
 use Rattle.std.proofs.Common.{◌≡◌, sym, ap, ◌∙◌, Some, None, true, false}
-use Rattle.npf_core.specs.declared.holding.Holding.{Holding}
-use Rattle.npf_core.specs.NextState.{is_found}
-use Rattle.npf_core.proofs.EqualityLemmas.{is_found-Decides}
-use Rattle.npf_oneturn_store.specs.Places.{standing}
-use Rattle.npf_oneturn_store.proofs.HomeLemmas.{holds_nothing, some_holding}
+use Rattle.npf_core.{specs.{declared.hold.Holding.Holding, NextState.is_found}, proofs.EqualityLemmas.is_found-Decides}
+use Rattle.npf_oneturn_store.{specs.Places.standing, proofs.HomeLemmas.{holds_nothing, some_holding}}
 use Rattle.npf_oneturn_store.proofs.keys.Keys.holding.Goals as goal
 
 pub returns-in_default-clause-none : goal.returns-in_default-clause-none

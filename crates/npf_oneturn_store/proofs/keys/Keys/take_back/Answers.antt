@@ -1,9 +1,6 @@
 use Rattle.std.proofs.Common.{ap, sym, subst, ◌∙◌, length, ◌<◌}
-use Rattle.npf_oneturn_store.specs.Places.{key_place, holder_among}
-use Rattle.npf_oneturn_store.proofs.HolderLemmas.{standing_within}
-use Rattle.npf_oneturn_store.proofs.GivenUpLemmas.{not_given_up}
-use Rattle.npf_oneturn_store.proofs.HomeLemmas.{holder_cleared, holder_here}
-use Rattle.npf_oneturn_store.proofs.KeptLemmas.{kept_cleared}
+use Rattle.npf_oneturn_store.{specs.Places.{key_place, holder_among}, proofs.{HolderLemmas.standing_within, GivenUpLemmas.not_given_up}}
+use Rattle.npf_oneturn_store.proofs.{HomeLemmas.{holder_cleared, holder_here}, KeptLemmas.kept_cleared}
 use Rattle.npf_oneturn_store.proofs.keys.Keys.take_back.Goals as goal
 
 pub invariant_of-self : goal.invariant_of-self
@@ -16,7 +13,8 @@ invariant_of-self c =
       room_cells = s.room_cells;
       room_flags = s.room_flags;
       kept = kept_cleared s.buckets s.holdings.items s.cells.items s.spilled.items s.kept c.key_place.result (subst (λ q. q < length s.holdings.items) (sym place) within);
-      unused = λ e key. absurd (let none = s.unused e c.in-Some.holding.key in let held = holder_here s.buckets s.holdings.items s.cells.items s.spilled.items s.kept (key_place c.args.found) c.in-Some.holding c.in-Some.ensures.some in cc);
+      unused = λ e key. absurd (let none = s.unused e c.in-Some.holding.key in
+          let held = holder_here s.buckets s.holdings.items s.cells.items s.spilled.items s.kept (key_place c.args.found) c.in-Some.holding c.in-Some.ensures.some in cc);
     }
 
 pub returns-clause-holder : goal.returns-clause-holder

@@ -1,6 +1,5 @@
 use Rattle.std.proofs.Common.{◌+◌, ◌<◌, ◌∙◌, length, sym, ap, arith}
-use Rattle.npf_oneturn_store.specs.declared.connection.Connection.{Connection}
-use Rattle.npf_oneturn_store.specs.declared.phase.Phase.TheVariants.{Building}
+use Rattle.npf_oneturn_store.specs.declared.{connection.Connection.Connection, phase.SlotPhase.TheVariants.Building}
 use Rattle.npf_oneturn_store.proofs.ConnectionLemmas.{fit_claimed, lowest_within, set_there, set_elsewhere, slot_read}
 use Rattle.npf_oneturn_store.proofs.StandLemmas.{stand_claimed, unclaimed_bare}
 use Rattle.npf_oneturn_store.proofs.store.Store.claim.Goals as goal

@@ -1,6 +1,5 @@
 use Rattle.std.proofs.Common.{◌≢◌, ℕ, ◌<◌}
-use Rattle.npf_oneturn_store.specs.Connection.{connection_in}
-use Rattle.npf_oneturn_store.specs.declared.phase.Phase.TheVariants.{Vacant}
+use Rattle.npf_oneturn_store.specs.{Connection.connection_in, declared.phase.SlotPhase.TheVariants.Vacant}
 use Rattle.npf_oneturn_store.proofs.store.Store.lowest.Given as goal
 
 abbrev pub invariant-loop-slot : goal.invariant-loop-slot

@@ -1,6 +1,5 @@
 use Rattle.std.proofs.Common.{refl}
-use Rattle.npf_oneturn_store.proofs.ConnectionLemmas.{claimed_within, fit_put, set_there, set_elsewhere}
-use Rattle.npf_oneturn_store.proofs.StandLemmas.{stand_put}
+use Rattle.npf_oneturn_store.proofs.{ConnectionLemmas.{claimed_within, fit_put, set_there, set_elsewhere}, StandLemmas.stand_put}
 use Rattle.npf_oneturn_store.proofs.store.Store.put.Goals as goal
 
 pub invariant_of-self-clause-fit : goal.invariant_of-self-clause-fit

@@ -1,6 +1,6 @@
 use Rattle.std.proofs.Common.{sym, ◌∙◌}
-use Rattle.npf_oneturn_store.specs.Keys.{keeper_of}
-use Rattle.npf_oneturn_store.proofs.GivenUpLemmas.{given_up_gone, given_up_others}
+use Rattle.npf_core.proofs.HolderLemmas.{given_up_gone}
+use Rattle.npf_oneturn_store.{specs.Keys.keeper_of, proofs.GivenUpLemmas.given_up_others}
 use Rattle.npf_oneturn_store.proofs.store.Store.unhold.Goals as goal
 
 pub returns-clause-gone : goal.returns-clause-gone

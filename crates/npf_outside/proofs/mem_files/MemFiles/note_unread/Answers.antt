@@ -1,7 +1,5 @@
-use Rattle.std.proofs.Common.{map, string_bytes, arith}
-use Rattle.std.proofs.lemmas.Grind.{common_steps}
-use Rattle.npf_outside.specs.MemFiles.{unread_names}
-use Rattle.npf_outside.proofs.MemFilesLemmas.{noted_rose}
+use Rattle.std.proofs.{Common.{map, string_bytes, arith}, lemmas.Grind.common_steps}
+use Rattle.npf_outside.{specs.MemFiles.unread_names, proofs.MemFilesLemmas.noted_rose}
 use Rattle.npf_outside.proofs.mem_files.MemFiles.note_unread.Goals as goal
 
 pub returns-clause-rose : goal.returns-clause-rose

@@ -1,5 +1,4 @@
-use Rattle.std.proofs.Common.{arith}
-use Rattle.std.proofs.lemmas.Map.Text.{text_keys}
+use Rattle.std.proofs.{Common.arith, lemmas.Map.Text.text_keys}
 use Rattle.npf_outside.proofs.mem_files.MemFiles.put_file.Goals as goal
 
 pub returns-clause-others : goal.returns-clause-others

@@ -1,6 +1,5 @@
 use Rattle.std.proofs.Common.{[]}
-use Rattle.npf_outside.proofs.SinkLemmas.{Appends-append}
-use Rattle.npf_outside.proofs.StreamLemmas.{kept}
+use Rattle.npf_outside.proofs.{SinkLemmas.Appends-append, StreamLemmas.kept}
 use Rattle.npf_outside.proofs.stream_sink.StreamSink.pass_all_on.Goals as goal
 
 pub returns-clause-stays : goal.returns-clause-stays

@@ -1,6 +1,5 @@
 use Rattle.std.proofs.Common.{take, subst, le_refl, take_all, ◌∙◌, ap}
-use Rattle.npf_outside.specs.Sink.{Appends}
-use Rattle.npf_outside.proofs.StreamLemmas.{front_of, written}
+use Rattle.npf_outside.{specs.Sink.Appends, proofs.StreamLemmas.{front_of, written}}
 use Rattle.npf_outside.proofs.stream_sink.StreamSink.write_at_once.Goals as goal
 
 pub returns-in_default-Ok-clause-whole : goal.returns-in_default-Ok-clause-whole

@@ -1,6 +1,4 @@
-use Rattle.std.proofs.Common.{◌≡◌, take}
-use Rattle.std.specs.Int.{w64, to_be_bytes}
-use Rattle.std.specs.List.{flat_map}
+use Rattle.std.{proofs.Common.{◌≡◌, take}, specs.{Int.{w64, to_be_bytes}, List.flat_map}}
 use Rattle.npf_paths.specs.Hash.{fnv_of}
 use Rattle.npf_paths.proofs.hash.FnvKeyHash.hash.Given as goal
 

@@ -1,7 +1,5 @@
-use Rattle.std.proofs.Common.{◌≡◌, ℕ, ◌<◌, ◌≤◌, List, ◌++◌, [], map, subst, sym, arith}
-use Rattle.std.specs.Prelude.{slice_range}
-use Rattle.npf_pieces.specs.Judged.{IsJudged}
-use Rattle.npf_pieces.specs.Sets.{Set, set_at, sets_from}
+use Rattle.std.{proofs.Common.{◌≡◌, ℕ, ◌<◌, ◌≤◌, List, ◌++◌, [], map, subst, sym, arith}, specs.Prelude.slice_range}
+use Rattle.npf_pieces.specs.{Judged.IsJudged, Sets.{Set, set_at, sets_from}}
 use Rattle.npf_pieces.proofs.sets.SetFinder.find.Goals as goal
 
 pub loop-place-preserved : goal.loop-place-preserved

@@ -1,7 +1,5 @@
-use Rattle.std.proofs.Common.{◌≡◌, ◌+◌}
-use Rattle.std.specs.Prelude.{◌++◌, [], map, slice_range}
-use Rattle.npf_pieces.specs.Judged.{IsJudged}
-use Rattle.npf_pieces.specs.Sets.{set_at, sets_from}
+use Rattle.std.{proofs.Common.{◌≡◌, ◌+◌}, specs.Prelude.{◌++◌, [], map, slice_range}}
+use Rattle.npf_pieces.specs.{Judged.IsJudged, Sets.{set_at, sets_from}}
 use Rattle.npf_pieces.proofs.sets.SetFinder.find.Given as goal
 
 abbrev pub invariant-loop-place : goal.invariant-loop-place

@@ -1,7 +1,5 @@
 use Rattle.std.proofs.Common.{ℕ, ◌<◌, Option, IfSome, arith, subst, ◌∙◌}
-use Rattle.npf_publish.specs.NumberRange.{IsInRange}
-use Rattle.npf_publish.specs.ConfReader.{Reads, looks_made}
-use Rattle.npf_publish.specs.declared.number_range.NumberRange.{NumberRange}
+use Rattle.npf_publish.specs.{NumberRange.IsInRange, ConfReader.{Reads, looks_made}, declared.number_range.NumberRange.NumberRange}
 use Rattle.npf_publish.proofs.conf_reader.ConfReader.read_next.Goals as goal
 
 pub returns-in-Some-number : goal.returns-in-Some-number

@@ -1,8 +1,5 @@
-use Rattle.std.proofs.Common.{rules, All, List, [], ◌∷◌, sym, subst}
-use Rattle.std.proofs.lemmas.List.Elements.{All-append}
-use Rattle.npf_publish.specs.declared.conf_reader.ConfReader.{ConfReader}
-use Rattle.npf_publish.specs.declared.number_range.NumberRange.{NumberRange}
-use Rattle.npf_publish.specs.ConfReader.{IsNewReader}
+use Rattle.std.proofs.{Common.{rules, All, List, [], ◌∷◌, sym, subst}, lemmas.List.Elements.All-append}
+use Rattle.npf_publish.specs.{declared.{conf_reader.ConfReader.ConfReader, number_range.NumberRange.NumberRange}, ConfReader.IsNewReader}
 use Rattle.npf_publish.proofs.publisher.Publisher.new.Goals as goal
 
 pub loop-preserved : goal.loop-preserved

@@ -1,6 +1,5 @@
 use Rattle.std.proofs.Common.{◌≡◌, ◌≤◌, All, vec_len, vec_capacity}
-use Rattle.npf_publish.specs.ConfReader.{IsNewReader}
-use Rattle.npf_publish.specs.Publisher.{published_number, publisher_range}
+use Rattle.npf_publish.specs.{ConfReader.IsNewReader, Publisher.{published_number, publisher_range}}
 use Rattle.npf_publish.proofs.publisher.Publisher.new.Given as goal
 
 abbrev pub invariant-loop : goal.invariant-loop

@@ -1,8 +1,6 @@
-use Rattle.std.proofs.Common.{◌∙◌, arith}
-use Rattle.std.proofs.lemmas.List.{with_items_is}
+use Rattle.std.proofs.{Common.{◌∙◌, arith}, lemmas.List.with_items_is}
 use Rattle.core.specs.Mem.Slots.{slots_counts, slots_items}
-use Rattle.npf_reass.proofs.CloseLemmas.{closed_alone, closed_has}
-use Rattle.npf_reass.proofs.SortLemmas.{lists_so}
+use Rattle.npf_reass.proofs.{CloseLemmas.{closed_alone, closed_has}, SortLemmas.lists_so}
 use Rattle.npf_reass.proofs.reass.Reass.close.Goals as goal
 
 pub returns-clause-lists : goal.returns-clause-lists

@@ -1,6 +1,5 @@
 use Rattle.std.proofs.Common.{ap, ◌∙◌, length-append, arith}
-use Rattle.npf_reass.proofs.MoveLemmas.{joined_so, joins, reads}
-use Rattle.npf_reass.proofs.PassLemmas.{joined_rests, seat_on}
+use Rattle.npf_reass.proofs.{MoveLemmas.{joined_so, joins, reads}, PassLemmas.{joined_rests, seat_on}}
 use Rattle.npf_reass.proofs.reass.Reass.join.Goals as goal
 
 pub join_seat-requires : goal.join_seat-requires

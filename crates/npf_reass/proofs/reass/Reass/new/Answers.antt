@@ -1,6 +1,4 @@
-use Rattle.std.proofs.Common.{ℕ, List, ◌∙◌, refl, ap, length}
-use Rattle.std.specs.Prelude.{slice_index}
-use Rattle.std.proofs.lemmas.List.{get_or-replicate, length-replicate}
+use Rattle.std.{proofs.{Common.{ℕ, List, ◌∙◌, refl, ap, length}, lemmas.List.{get_or-replicate, length-replicate}}, specs.Prelude.slice_index}
 use Rattle.npf_seats.proofs.SumLemmas.{length-numbers_below}
 use Rattle.npf_reass.proofs.OpenLemmas.{opens}
 use Rattle.npf_reass.proofs.reass.Reass.new.Goals as goal

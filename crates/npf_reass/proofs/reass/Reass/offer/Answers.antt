@@ -1,7 +1,5 @@
 use Rattle.std.proofs.Common.{◌∙◌, refl, ap, append-nil, sym}
-use Rattle.npf_reass.specs.declared.offer.ReassSize.{ReassSize}
-use Rattle.npf_reass.specs.Class.{class_of}
-use Rattle.npf_reass.proofs.EndLemmas.{may_end}
+use Rattle.npf_reass.{specs.{declared.offer.ReassSize.ReassSize, Class.class_of}, proofs.EndLemmas.may_end}
 use Rattle.npf_reass.proofs.reass.Reass.offer.Goals as goal
 
 pub slot_mut-slot-requires : goal.slot_mut-slot-requires

@@ -1,7 +1,5 @@
-use Rattle.std.proofs.Common.{ap, ◌∙◌, ◌-◌, length, arith}
-use Rattle.std.proofs.lemmas.List.{length-drop}
-use Rattle.npf_reass.proofs.MoveLemmas.{gets_born, split_so, splits}
-use Rattle.npf_reass.proofs.PassLemmas.{given_rests, giver_rests, seat_on}
+use Rattle.std.proofs.{Common.{ap, ◌∙◌, ◌-◌, length, arith}, lemmas.List.length-drop}
+use Rattle.npf_reass.proofs.{MoveLemmas.{gets_born, split_so, splits}, PassLemmas.{given_rests, giver_rests, seat_on}}
 use Rattle.npf_reass.proofs.reass.Reass.split.Goals as goal
 
 pub split_seat-seat-requires : goal.split_seat-seat-requires

@@ -1,6 +1,5 @@
-use Rattle.std.proofs.Common.{refl}
-use Rattle.std.proofs.lemmas.List.Sorted.{All-permutation}
-use Rattle.npf_pieces.specs.OpenSet.{IsTaken}
+use Rattle.std.proofs.{Common.refl, lemmas.List.Sorted.All-permutation}
+use Rattle.npf_pieces.specs.Overlap.{IsTaken}
 use Rattle.npf_reass_sets.proofs.DecideLemmas.{decided}
 use Rattle.npf_reass_sets.proofs.class.ClassSets.find_sets.Goals as goal
 

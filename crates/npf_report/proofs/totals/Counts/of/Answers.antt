@@ -1,7 +1,6 @@
 use Rattle.std.proofs.Common.{subst}
 use Rattle.npf_engine.specs.declared.outcome.Outcome.{Outcome}
-use Rattle.npf_report.specs.TotalText.{AddsOutcome}
-use Rattle.npf_report.proofs.CountLemmas.{one_counted}
+use Rattle.npf_report.{specs.TotalText.AddsOutcome, proofs.CountLemmas.one_counted}
 use Rattle.npf_report.proofs.totals.Counts.of.Goals as goal
 
 pub loop-outcome-preserved : goal.loop-outcome-preserved

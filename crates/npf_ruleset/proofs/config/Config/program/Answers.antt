@@ -1,6 +1,5 @@
 use Rattle.std.proofs.Common.{◌≡◌, get_or, subst}
-use Rattle.npf_ruleset.specs.RuleAt.{IsProgramAt}
-use Rattle.npf_ruleset.proofs.ConfigLemmas.{has_program}
+use Rattle.npf_ruleset.{specs.RuleAt.IsProgramAt, proofs.ConfigLemmas.has_program}
 use Rattle.npf_ruleset.proofs.config.Config.program.Goals as goal
 
 pub returns-clause-describes : goal.returns-clause-describes

@@ -1,6 +1,5 @@
 use Rattle.std.proofs.Common.{◌≡◌, Some, get_or, subst, sym}
-use Rattle.npf_ruleset.specs.Place.{IsPlaceOfRule, placed_at, placed_rule}
-use Rattle.npf_ruleset.proofs.ConfigLemmas.{has_rule, is_placed}
+use Rattle.npf_ruleset.{specs.Place.{IsPlaceOfRule, placed_at, placed_rule}, proofs.ConfigLemmas.{has_rule, is_placed}}
 use Rattle.npf_ruleset.proofs.config.Config.rule.Goals as goal
 
 pub placed_at-requires : goal.placed_at-requires

@@ -1,5 +1,4 @@
-use Rattle.std.proofs.Common.{◌≡◌, ◌==◌, ℕ, true, take}
-use Rattle.std.specs.List.{list_any}
+use Rattle.std.{proofs.Common.{◌≡◌, ◌==◌, ℕ, true, take}, specs.List.list_any}
 use Rattle.npf_ruleset.specs.Row.{has_protocol}
 use Rattle.npf_ruleset.proofs.protocol_set.ProtocolSet.of.Given as goal
 

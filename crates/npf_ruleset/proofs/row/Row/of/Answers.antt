@@ -1,6 +1,5 @@
 use Rattle.std.proofs.Common.{refl, subst}
-use Rattle.npf_ruleset.specs.Row.{HasProtocols}
-use Rattle.npf_ruleset.proofs.RowLemmas.{row_of}
+use Rattle.npf_ruleset.{specs.Row.HasProtocols, proofs.RowLemmas.row_of}
 use Rattle.npf_ruleset.proofs.row.Row.of.Goals as goal
 
 pub returns : goal.returns

@@ -1,8 +1,5 @@
-use Rattle.std.proofs.Common.{rules, ◌≡◌, length, replicate, subst, sym}
-use Rattle.std.specs.List.{AllZip}
-use Rattle.npf_runner.specs.Job.{Job, job_arrival, numbered_from}
-use Rattle.npf_runner.specs.Spread.{IsWorkerOf}
-use Rattle.npf_runner.proofs.OrderLemmas.{only_workers}
+use Rattle.std.{proofs.Common.{rules, ◌≡◌, length, replicate, subst, sym}, specs.List.AllZip}
+use Rattle.npf_runner.{specs.{Job.{Job, job_arrival, numbered_from}, Spread.IsWorkerOf}, proofs.OrderLemmas.only_workers}
 use Rattle.npf_runner.proofs.order.Order.of.Goals as goal
 
 pub returns-then-workers-eq1-clause-each : goal.returns-then-workers-eq1-clause-each

@@ -1,10 +1,6 @@
-use Rattle.std.proofs.Common.{◌≡◌, Option, List, [], MatchOption, inl, refl, sym, subst, ◌∙◌}
-use Rattle.std.specs.List.{All}
-use Rattle.std.proofs.lemmas.List.Elements.{All-push}
-use Rattle.npf_types.specs.declared.name.Name.{Name}
-use Rattle.npf_types.specs.Reading.{IsOnly}
-use Rattle.npf_saved.specs.Fields.{FitsName}
-use Rattle.npf_saved.specs.File.{IsIfLine}
+use Rattle.std.{proofs.{Common.{◌≡◌, Option, List, [], MatchOption, inl, refl, sym, subst, ◌∙◌}, lemmas.List.Elements.All-push}, specs.List.All}
+use Rattle.npf_types.specs.{declared.name.Name.Name, Reading.IsOnly}
+use Rattle.npf_saved.specs.{Fields.FitsName, File.IsIfLine}
 use Rattle.npf_saved_file.specs.Lines.{IsNoInterface}
 use Rattle.npf_saved_file.proofs.lines.Lines.take.Goals as goal
 

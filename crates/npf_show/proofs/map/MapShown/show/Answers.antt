@@ -1,8 +1,7 @@
 use Rattle.std.proofs.Common.{◌++◌, codes}
 use Rattle.npf_types.specs.Name.{name_bytes}
 use Rattle.npf_show.specs.Map.{algo_pieces, arrow_pieces, one_proto_pieces, side_pieces, pass_pieces}
-use Rattle.npf_show.specs.Piece.{Word, Quoted, glued, spaced, line_end, optional_pieces}
-use Rattle.npf_show.proofs.PageLemmas.{also}
+use Rattle.npf_show.{specs.Piece.{Word, Quoted, glued, spaced, line_end, optional_pieces}, proofs.PageLemmas.also}
 use Rattle.npf_show.proofs.map.MapShown.show.Goals as goal
 
 pub returns : goal.returns
@@ -23,4 +22,5 @@ returns c =
     (also _ (first ++ on ++ algo ++ proto) inside
     (also _ (first ++ on ++ algo) proto
     (also _ (first ++ on) algo
-    (also _ first on c.in_ok-glued_word.ensures c.in_ok-show_name.ensures) c.in_ok-show.ensures) c.in_ok-show_protocol.ensures) c.in_ok-show-2.ensures) c.in_ok-show-3.ensures) c.in_ok-show-4.ensures) c.in_ok-show_pass.ensures) c.in_ok-end_line.ensures
+    (also _ first on c.in_ok-glued_word.ensures c.in_ok-show_name.ensures) c.in_ok-show.ensures) c.in_ok-show_protocol.ensures) c.in_ok-show-2.ensures) c.in_ok-show-3.ensures) c.in_ok-show-4.ensures)
+    c.in_ok-show_pass.ensures) c.in_ok-end_line.ensures

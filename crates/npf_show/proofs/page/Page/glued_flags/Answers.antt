@@ -1,6 +1,5 @@
 use Rattle.std.proofs.Common.{arith}
-use Rattle.npf_show.specs.Filter.{letter_if_set, letters_of_bits}
-use Rattle.npf_show.proofs.PageLemmas.{one_more}
+use Rattle.npf_show.{specs.Filter.{letter_if_set, letters_of_bits}, proofs.PageLemmas.one_more}
 use Rattle.npf_show.proofs.page.Page.glued_flags.Goals as goal
 
 pub loop-letter-preserved : goal.loop-letter-preserved

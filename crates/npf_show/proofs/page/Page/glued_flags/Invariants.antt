@@ -1,5 +1,4 @@
-use Rattle.std.proofs.Common.{◌≡◌, ◌++◌, take}
-use Rattle.std.specs.List.{flat_map}
+use Rattle.std.{proofs.Common.{◌≡◌, ◌++◌, take}, specs.List.flat_map}
 use Rattle.npf_show.specs.Filter.{letter_if_set, letters_of_bits}
 use Rattle.npf_show.proofs.page.Page.glued_flags.Given as goal
 

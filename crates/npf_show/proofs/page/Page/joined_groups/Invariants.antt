@@ -1,6 +1,4 @@
-use Rattle.std.proofs.Common.{◌≡◌, ◌++◌, take, codes}
-use Rattle.std.specs.List.{flat_map}
-use Rattle.std.specs.Net.Text.{hex}
+use Rattle.std.{proofs.Common.{◌≡◌, ◌++◌, take, codes}, specs.{List.flat_map, Net.Text.hex}}
 use Rattle.npf_show.proofs.page.Page.joined_groups.Given as goal
 
 -- what stands behind the first group so far

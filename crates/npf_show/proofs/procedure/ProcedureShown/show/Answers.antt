@@ -1,6 +1,5 @@
 use Rattle.std.proofs.Common.{◌++◌}
-use Rattle.npf_show.specs.Piece.{closing_line, optional_pieces}
-use Rattle.npf_show.specs.Procedure.{procedure_head, log_line, normalize_line, normal_options}
+use Rattle.npf_show.specs.{Piece.{closing_line, optional_pieces}, Procedure.{procedure_head, log_line, normalize_line, normal_options}}
 use Rattle.npf_show.proofs.PageLemmas.{also}
 use Rattle.npf_show.proofs.procedure.ProcedureShown.show.Goals as goal
 

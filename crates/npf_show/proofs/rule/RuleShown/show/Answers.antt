@@ -1,9 +1,6 @@
 use Rattle.std.proofs.Common.{◌++◌}
-use Rattle.npf_show.specs.Bound.{dir_pieces, on_pieces}
-use Rattle.npf_show.specs.Filter.{filter_pieces}
-use Rattle.npf_show.specs.Piece.{optional_pieces}
-use Rattle.npf_show.specs.Rule.{decision_pieces, state_pieces, final_pieces, apply_pieces}
-use Rattle.npf_show.proofs.PageLemmas.{also}
+use Rattle.npf_show.specs.{Bound.{dir_pieces, on_pieces}, Filter.filter_pieces, Piece.optional_pieces}
+use Rattle.npf_show.{specs.Rule.{decision_pieces, state_pieces, final_pieces, apply_pieces}, proofs.PageLemmas.also}
 use Rattle.npf_show.proofs.rule.RuleShown.show.Goals as goal
 
 pub returns : goal.returns
@@ -21,4 +18,5 @@ returns c =
     (also _ (decision ++ state ++ dir ++ last) on
     (also _ (decision ++ state ++ dir) last
     (also _ (decision ++ state) dir
-    (also _ decision state c.in_ok-show.ensures c.in_ok-show-2.ensures) c.in_ok-show-3.ensures) c.in_ok-show_final.ensures) c.in_ok-show-4.ensures) c.in_ok-show_filter.ensures) c.in_ok-show_apply.ensures
+    (also _ decision state c.in_ok-show.ensures c.in_ok-show-2.ensures) c.in_ok-show-3.ensures) c.in_ok-show_final.ensures) c.in_ok-show-4.ensures) c.in_ok-show_filter.ensures)
+    c.in_ok-show_apply.ensures

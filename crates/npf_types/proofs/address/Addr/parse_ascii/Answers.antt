@@ -1,9 +1,6 @@
-use Rattle.std.proofs.Common.{ap, subst}
-use Rattle.std.specs.declared.net.ip_addr.IpAddr.{IpAddr}
+use Rattle.std.{proofs.Common.{ap, subst}, specs.{declared.net.ip_addr.IpAddr.IpAddr, Net.Grammar.IsIpText}}
 use Rattle.std.specs.declared.net.ip_addr.IpAddr.TheVariants as Ip
-use Rattle.std.specs.Net.Grammar.{IsIpText}
-use Rattle.npf_types.specs.declared.address.Addr.TheVariants.{V4, V6}
-use Rattle.npf_types.proofs.AddressTextLemmas.{only_address}
+use Rattle.npf_types.{specs.declared.address.Addr.TheVariants.{V4, V6}, proofs.AddressTextLemmas.only_address}
 use Rattle.npf_types.proofs.address.Addr.parse_ascii.Goals as goal
 
 pub returns-in-Ok-V4 : goal.returns-in-Ok-V4

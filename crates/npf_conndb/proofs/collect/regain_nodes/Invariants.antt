@@ -1,0 +1,9 @@
+use Rattle.npf_cells.specs.Cells.{IsPassIn}
+use Rattle.npf_conndb.proofs.RegainLemmas.{Regains}
+use Rattle.npf_conndb.proofs.collect.regain_nodes.Given as goal
+
+abbrev pub invariant-loop-node : goal.invariant-loop-node
+invariant-loop-node g l = record {
+  own : IsPassIn l.cells l.pass;
+  regains : Regains g.L.Law.meaning l.epoch l.fn.pass.seat.me l.pass.seat.me;
+}

@@ -1,9 +1,0 @@
-use Rattle.std.proofs.Common.{◌+◌, arith}
-use Rattle.npf_ctl_prepare.proofs.MakeLemmas.{ids_more}
-use Rattle.npf_ctl_prepare.proofs.making.reload.Goals as goal
-
-pub returns-clause-changeable : goal.returns-clause-changeable
-returns-clause-changeable g c = λ most within. record {
-  loaded = c.in_ok-config.ensures.loaded;
-  ids = c.in_ok-config.ensures.ids (most + 1) (omega arith) (ids_more most (most + 1) (omega arith) c.args.last.now.model within);
-}

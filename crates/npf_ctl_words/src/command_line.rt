@@ -1,0 +1,189 @@
+// The command that a list of words says. The first word is compared before `clap` is asked, so that one which names no command is refused
+// whether there is memory or not.
+ghost use Rattle.std.specs.Prelude.{◌≡◌, ◌≤◌, IfOk, IfSome, IsErrOf, IsNone, None, Some, false, is_some, option_map, pos, true};
+ghost use Rattle.clap.specs.Words.{IsSignedIn, IsUnsignedIn, first_of, found_of, rows_of};
+ghost use Rattle.npf_ctl_words.specs.CommandLine.{SaysCommand, TellsCommand, TellsLoad, TellsNumber, TellsRun};
+ghost use Rattle.npf_ctl_words.specs.CommandLine.{command_name, command_named, is_command_line, knows_spread, name_in, signed_number};
+ghost use Rattle.npf_ctl_words.specs.CommandLine.{spread_in, spread_named, takes_words, word_texts};
+ghost use Rattle.npf_ctl_words.specs.Definitions.{definition_of, gen_command, loading_command, run_command};
+ghost use Rattle.npf_ctl_words.specs.Values.{HasEachValue, IsMatched};
+
+use crate::command::{CommandName, Invocation, Load, RunWords, SpreadWord};
+use crate::definitions::definition;
+use crate::fault::WordsFault;
+use clap::ArgMatches;
+use clap::error::ErrorKind;
+use std::alloc::Global;
+
+/// The command that the words say, without the program's name before them.
+///
+/// # Errors
+///
+/// `Usage` exactly where the first word is missing or names no command, `clap`'s definition of the
+/// command refuses the words behind it, or a run's spread is neither `rr` nor `flow`; words that ask
+/// for help or a version are refused. `NoMemory` where memory runs out.
+#[tactic(auto, using(crate::proofs::SayLemmas::refused_unnamed, crate::proofs::SayLemmas::refused_words, crate::proofs::SayLemmas::refused_spread, crate::proofs::SayLemmas::says))]
+pub fn read_words<'a>(alloc: Global, words: &'a [String]) -> Result<Invocation<'a>, WordsFault>
+    ensures read { IfOk result (SaysCommand (word_texts words.entry.now)) }
+    ensures refused { IsErrOf result WordsFault.Usage → is_command_line (word_texts words.entry.now) ≡ false }
+    ensures unnamed { name_in (word_texts words.entry.now) ≡ None → IsErrOf result WordsFault.Usage }
+{
+    let Some(name) = name_in(words) else {
+        return Err(WordsFault::Usage);
+    };
+    let matches = match matched(alloc, name, words) {
+        Ok(matches) => matches,
+        Err(fault) => return Err(fault),
+    };
+    match command_of(name, &matches) {
+        Some(command) => Ok(command),
+        None => Err(WordsFault::Usage),
+    }
+}
+
+/// The command that the first word names; the words behind it may still be refused.
+pub fn name_in(words: &[String]) -> Option<CommandName>
+    ensures { result ≡ name_in (word_texts words.now) }
+{
+    match words {
+        [] => None,
+        [first, ..] => named(first.as_str()),
+    }
+}
+
+fn named(word: &str) -> Option<CommandName>
+    ensures { result ≡ command_named word.now }
+{
+    match word {
+        "run" => Some(CommandName::Run),
+        "validate" => Some(CommandName::Validate),
+        "show" => Some(CommandName::Show),
+        "debug" => Some(CommandName::Debug),
+        "gen" => Some(CommandName::Gen),
+        _ => None,
+    }
+}
+
+/// What `clap` finds for the words of a command by its definition. It leaves out the first word.
+fn matched<'a>(
+    alloc: Global,
+    name: CommandName,
+    words: &'a [String],
+) -> Result<ArgMatches<'a>, WordsFault>
+    ensures refused { IsErrOf result WordsFault.Usage → takes_words name (word_texts words.entry.now) ≡ false }
+    ensures taken { IfOk result (λ _. takes_words name (word_texts words.entry.now) ≡ true) }
+    ensures found { IfOk result (IsMatched (definition_of name) (word_texts words.entry.now)) }
+{
+    let command = definition(alloc, name)?;
+    match command.try_get_matches_from(words) {
+        Ok(matches) => Ok(matches),
+        Err(error) => Err(match error.kind() {
+            ErrorKind::OutOfMemory => WordsFault::NoMemory,
+            _ => WordsFault::Usage,
+        }),
+    }
+}
+
+/// The command that the matches of its definition tell; None where a run's spread is unknown.
+#[tactic(auto, using(crate::proofs::SayLemmas::known, crate::proofs::SayLemmas::needless))]
+fn command_of<'a>(name: CommandName, matches: &ArgMatches<'a>) -> Option<Invocation<'a>>
+    requires { HasEachValue (definition_of name) (rows_of (found_of matches.now)) }
+    ensures known { knows_spread name (rows_of (found_of matches.now)) ≡ is_some result }
+    ensures name { IfSome result (λ c. command_name c ≡ name) }
+    ensures told { IfSome result (TellsCommand (rows_of (found_of matches.now))) }
+{
+    match name {
+        CommandName::Run => match run_of(matches) {
+            Some(run) => Some(Invocation::Run(run)),
+            None => None,
+        },
+        CommandName::Validate => Some(Invocation::Validate(load_of(matches, "validate"))),
+        CommandName::Show => Some(Invocation::Show(load_of(matches, "show"))),
+        CommandName::Debug => Some(Invocation::Debug(load_of(matches, "debug"))),
+        CommandName::Gen => Some(Invocation::Gen {
+            number: number_in(matches),
+        }),
+    }
+}
+
+#[tactic(auto, using(crate::proofs::SayLemmas::conf_of_run, crate::proofs::SayLemmas::script_of_run, crate::proofs::SayLemmas::workers_of_run, crate::proofs::SayLemmas::few_of_run, crate::proofs::SayLemmas::spread_of_run))]
+fn run_of<'a>(matches: &ArgMatches<'a>) -> Option<RunWords<'a>>
+    requires { HasEachValue run_command (rows_of (found_of matches.now)) }
+    ensures known { is_some (spread_in (rows_of (found_of matches.now))) ≡ is_some result }
+    ensures told { IfSome result (TellsRun (rows_of (found_of matches.now))) }
+{
+    let Some(spread) = spread_named(value(matches, "spread")) else {
+        return None;
+    };
+    Some(RunWords {
+        conf: value(matches, "conf"),
+        script: value(matches, "script"),
+        ifaces: given(matches, "ifaces"),
+        workers: few_workers(value(matches, "workers")),
+        spread,
+        output: given(matches, "write"),
+        load: given(matches, "load"),
+        save: given(matches, "save"),
+    })
+}
+
+#[tactic(auto, using(crate::proofs::SayLemmas::conf_of_load))]
+fn load_of<'a>(matches: &ArgMatches<'a>, name: &str) -> Load<'a>
+    requires { HasEachValue (loading_command name.now) (rows_of (found_of matches.now)) }
+    ensures { TellsLoad (rows_of (found_of matches.now)) result }
+{
+    Load {
+        conf: value(matches, "conf"),
+        ifaces: given(matches, "ifaces"),
+    }
+}
+
+#[tactic(auto, using(crate::proofs::SayLemmas::number_of_gen, crate::proofs::SayLemmas::in_range_of_gen))]
+fn number_in(matches: &ArgMatches) -> u64
+    requires { HasEachValue gen_command (rows_of (found_of matches.now)) }
+    ensures { TellsNumber (rows_of (found_of matches.now)) result }
+{
+    any_number(value(matches, "number"))
+}
+
+/// The value of an argument, if the words give one.
+fn given<'a>(matches: &ArgMatches<'a>, id: &str) -> Option<&'a str>
+    ensures { first_of id.now (rows_of (found_of matches.now)) ≡ option_map (λ text. text.now) result }
+{
+    matches.get_str(id)
+}
+
+/// The value of an argument that has one.
+fn value<'a>(matches: &ArgMatches<'a>, id: &str) -> &'a str
+    requires { is_some (first_of id.now (rows_of (found_of matches.now))) ≡ true }
+    ensures { first_of id.now (rows_of (found_of matches.now)) ≡ Some result.now }
+{
+    given(matches, id).unwrap()
+}
+
+#[tactic(auto, using(crate::proofs::SayLemmas::few_digits))]
+fn few_workers(text: &str) -> u32
+    requires { IsSignedIn (pos 1) (pos 64) text.now }
+    ensures number { result ≡ signed_number text.now }
+    ensures some { 1 ≤ result }
+    ensures few { result ≤ 64 }
+{
+    text.parse().unwrap()
+}
+
+fn any_number(text: &str) -> u64
+    requires { IsUnsignedIn 0 18446744073709551615 text.now }
+    ensures { result ≡ signed_number text.now }
+{
+    text.parse().unwrap()
+}
+
+fn spread_named(text: &str) -> Option<SpreadWord>
+    ensures { result ≡ spread_named text.now }
+{
+    match text {
+        "rr" => Some(SpreadWord::Rr),
+        "flow" => Some(SpreadWord::Flow),
+        _ => None,
+    }
+}

@@ -1,0 +1,4 @@
+pub mod BoolLemmas
+pub mod ListLemmas
+pub mod OptionLemmas
+pub mod PositionLemmas

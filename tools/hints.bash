@@ -1,0 +1,505 @@
+# shellcheck shell=bash
+# The hints of the script npfctl, which sources this: what a user may do about an answer of the program. They are at most three lines on
+# standard error, behind the program's own. The program itself has none, and its answers and statuses don't change.
+#
+# `hint_about STATUS FILE COMMAND WORDS..`: FILE has what the program put on standard error, COMMAND is the program, WORDS are what it was given.
+# Where a fault is told, `said` is its line without the program's name. The script sets `page5` and `page8`, the files of the manual pages.
+# shellcheck disable=SC2034,SC2154 # words.bash has what reads and sets the rest
+
+# Some bytes of a file in hexadecimal, from a place on. Pipes and devices aren't read again.
+bytes_of() {
+  [ ! -f "$1" ] || od -An -v -tx1 -j "$2" -N "$3" -- "$1" 2>/dev/null | tr -d ' \n'
+}
+
+is_empty() {
+  [ -f "$1" ] && [ ! -s "$1" ]
+}
+
+# A line of a file, without bytes of zero.
+line_of() {
+  [ ! -f "$1" ] || sed -n "$2{p;q;}" "$1" 2>/dev/null | tr -d '\0'
+}
+
+# The format of a capture, or of what is compressed, by its first bytes; nothing where it is another.
+format_of() {
+  case $(bytes_of "$1" 0 8) in
+    d4c3b2a1* | 4d3cb2a1* | a1b2c3d4* | a1b23c4d*) echo pcap ;;
+    0a0d0d0a*) echo pcapng ;;
+    34cdb2a1* | a1b2cd34*) echo modified ;;
+    736e6f6f70000000) echo snoop ;;
+    1f8b*) echo gzip ;;
+    425a68*) echo bzip2 ;;
+    fd377a585a00*) echo xz ;;
+    28b52ffd*) echo zstd ;;
+  esac
+}
+
+format_in_words() {
+  case $1 in
+    pcap) echo 'a capture' ;;
+    modified) echo 'a capture in the modified format of an old libpcap' ;;
+    pcapng | snoop) echo "a capture in the format $1" ;;
+    *) echo "compressed by $1" ;;
+  esac
+}
+
+# A command that makes the file that is wanted.
+hint_recipe() {
+  hint "$1"
+  case $1 in
+    *editcap*) is_by_editcap=1 ;;
+  esac
+}
+
+# How a file in another format becomes a capture that is read. Fails where it is in none that is known.
+hint_format() {
+  local format file
+  format=$(format_of "$1")
+  file=$(printf %q "$1")
+  case $format in
+    pcapng | snoop | modified)
+      hint "$1 is $(format_in_words "$format"), and what is read is pcap; this makes it such a capture:"
+      hint_recipe "editcap -F pcap $file NEW.pcap"
+      ;;
+    gzip | bzip2 | xz | zstd)
+      hint "$1 is $(format_in_words "$format"), and what is read is pcap; this unpacks it:"
+      hint_recipe "$format -dc $file >NEW.pcap"
+      ;;
+    *) return 1 ;;
+  esac
+}
+
+# The link type of a capture, as the number that its header has.
+link_of() {
+  local at
+  mapfile -t at < <(od -An -v -tu1 -w1 -j 20 -N 4 -- "$1" 2>/dev/null)
+  [ "${#at[@]}" -eq 4 ] || return
+  case $(bytes_of "$1" 0 4) in
+    a1b2*) echo $((at[0] << 24 | at[1] << 16 | at[2] << 8 | at[3])) ;;
+    *) echo $((at[3] << 24 | at[2] << 16 | at[1] << 8 | at[0])) ;;
+  esac
+}
+
+# Sets `link` to the name of a link type, by https://www.tcpdump.org/linktypes.html, and `header` to how many bytes stand there before IP, or to
+# nothing where no recipe is known. `mixed` says that packets of other protocols may be among them.
+name_link() {
+  link='' header='' mixed=1
+  case $1 in
+    0) link=NULL header=4 mixed='' ;;
+    6) link=IEEE802_5 ;;
+    8) link=SLIP ;;
+    9)
+      link=PPP header=4
+      # the two bytes of PPP's framing may be left out, and then tcpdump finds no protocol
+      [ "$(bytes_of "$2" 40 2)" = ff03 ] || header=2 mixed=''
+      ;;
+    10) link=FDDI ;;
+    12 | 14) link=RAW header=0 ;;
+    50) link=PPP_HDLC header=4 ;;
+    51) link=PPP_ETHER header=8 ;;
+    104) link=C_HDLC header=4 ;;
+    105) link=IEEE802_11 ;;
+    108) link=LOOP header=4 mixed='' ;;
+    113) link=LINUX_SLL header=16 ;;
+    117) link=PFLOG ;;
+    127) link=IEEE802_11_RADIOTAP ;;
+    192) link=PPI ;;
+    228) link=IPV4 header=0 ;;
+    229) link=IPV6 header=0 ;;
+    239) link=NFLOG ;;
+    253) link=NETLINK ;;
+    276) link=LINUX_SLL2 header=20 ;;
+  esac
+}
+
+hint_link() {
+  local number link header mixed file
+  file=$(printf %q "$1")
+  number=$(link_of "$1")
+  [ -n "$number" ] || return
+  if [ "$number" -ge 65536 ]; then
+    hint "its link type is $number: $((number % 65536)), and above it the length of a frame check sequence, which this leaves out:"
+    hint_recipe "editcap -F pcap $file NEW.pcap"
+    return
+  fi
+  name_link "$number" "$1"
+  hint "its link type is $number${link:+, $link}; what is read is 1, Ethernet, and 101, IP without a link header"
+  case $header:$mixed in
+    :*) ;;
+    0:*) hint_recipe "editcap -F pcap -T rawip $file NEW.pcap" ;;
+    *:) hint_recipe "editcap -F pcap -C $header -L -T rawip $file NEW.pcap" ;;
+    *) hint_recipe "tcpdump -r $file -w - 'ip or ip6' | editcap -F pcap -C $header -L -T rawip - NEW.pcap" ;;
+  esac
+  [ "$number" -ne 276 ] || hint 'npfctl(8), EXAMPLES, parts such a capture by interface and direction'
+}
+
+# The captures of a run: the file that stands for SCRIPT, or those that it names.
+captures_of() {
+  if [ "$(format_of "$1")" = pcap ]; then
+    printf '%s\n' "$1"
+  else
+    sed -nE 's/^[[:blank:]]*capture[[:blank:]].*"(.*)"[[:blank:]]*$/\1/p' "$1"
+  fi
+}
+
+# Whether none of these captures has a packet. What is no file is taken to have one.
+are_without_packets() {
+  local capture
+  for capture; do
+    [ -f "$capture" ] && [ -z "$(bytes_of "$capture" 24 1)" ] || return
+  done
+}
+
+# Looks at the first 65,536 bytes of a capture, and prints of the packets there: how many; how many of them are cut, and the most bytes that are
+# left of such a one; how many have a VLAN's tag, the number that most of them have, and that of the tag behind it, or 0; how many are of PPPoE;
+# and how many are neither IP nor too short to tell. An EtherType stands at byte 12 of Ethernet, and behind a tag another, 4 bytes on (IEEE 802.1Q,
+# RFC 2516).
+looks_of() {
+  od -An -v -tu1 -N 65536 -- "$1" 2>/dev/null | awk '
+    function pair(at) { return byte[at] * 256 + byte[at + 1] }
+    function number(at) { return is_lowest_first ? pair_back(at + 2) * 65536 + pair_back(at) : pair(at) * 65536 + pair(at + 2) }
+    function pair_back(at) { return byte[at + 1] * 256 + byte[at] }
+    function is_tag(kind) { return kind == 33024 || kind == 34984 }
+    { for (i = 1; i <= NF; i++) byte[n++] = $i }
+    END {
+      is_lowest_first = byte[0] != 161
+      is_ethernet = number(20) == 1
+      for (at = 24; at + 16 <= n; at += 16 + stored) {
+        stored = number(at + 8)
+        if (at + 16 + stored > n) break
+        packets++
+        if (stored < number(at + 12)) { cut++; if (stored > left) left = stored }
+        if (!is_ethernet || stored < 20) continue
+        kind = pair(at + 28)
+        if (kind != 2048 && kind != 34525) others++
+        if (kind == 34916) pppoe++
+        if (!is_tag(kind)) continue
+        tagged++
+        tags = pair(at + 30) % 4096 " " (is_tag(pair(at + 32)) ? pair(at + 34) % 4096 : 0)
+        if (++count[tags] > count[most]) most = tags
+      }
+      print packets + 0, cut + 0, left + 0, tagged + 0, (tagged ? most : "0 0"), pppoe + 0, others + 0
+    }'
+}
+
+# Of a capture that a run read: that its packets, or at least half where there is a recipe, are of a kind that is skipped, or that some were cut.
+# Fails where neither is so.
+hint_packets() {
+  local packets cut left tagged outer inner pppoe others file
+  read -r packets cut left tagged outer inner pppoe others < <(looks_of "$1")
+  file=$(printf %q "$1")
+  if [ $((2 * tagged)) -ge "$packets" ] && [ "$tagged" -gt 0 ]; then
+    hint "packets with a VLAN's tag are skipped, $tagged of the first $packets of $1; this makes a capture of those of VLAN $outer:"
+    if [ "$inner" -eq 0 ]; then
+      hint_recipe "tcpdump -r $file -w - 'vlan $outer and (ip or ip6)' | editcap -F pcap -C 12:4 -L - NEW.pcap"
+    else
+      hint_recipe "tcpdump -r $file -w - 'vlan $outer and vlan $inner and (ip or ip6)' | editcap -F pcap -C 12:8 -L - NEW.pcap"
+    fi
+  elif [ $((2 * pppoe)) -ge "$packets" ] && [ "$pppoe" -gt 0 ]; then
+    hint "packets of PPPoE are skipped, $pppoe of the first $packets of $1; this makes a capture of what they carry:"
+    hint_recipe "tcpdump -r $file -w - 'pppoes and (ip or ip6)' | editcap -F pcap -C 22 -L -T rawip - NEW.pcap"
+  elif [ "$others" -eq "$packets" ] && [ "$others" -gt 0 ]; then
+    hint "packets without IP right behind Ethernet are skipped, all of the first $packets of $1"
+  elif [ "$cut" -gt 0 ]; then
+    hint "IP that was cut as it was recorded is malformed, $cut of the first $packets packets of $1, to at most $left bytes"
+    hint 'tcpdump -s 0 records whole packets'
+  else
+    return 1
+  fi
+}
+
+# Whether the packets of a run came by other interfaces than those that the configuration's groups are bound to, so that only the default group
+# was about them. The groups are asked for only where the text has none of the packets' interfaces as a word, but for variables and names of groups.
+hint_interfaces() {
+  local program=$1 conf=${files[0]} script=${files[1]} came=cap0 bound
+  [ -f "$conf" ] || return
+  if [ "$(format_of "$script")" != pcap ]; then
+    ! grep -qw '^[[:blank:]]*reload' "$script" || return
+    came=$(awk '$1 == "capture" && !seen[$2]++ { print $2 }' "$script")
+  fi
+  [ -n "$came" ] && grep -qw on "$conf" || return
+  ! sed 's/#.*//; s/\$[[:alnum:]_]*//g; s/group[[:blank:]]*"[^"]*"//g' "$conf" | grep -qwF "$came" || return
+  bound=$("$program" show "$conf" ${ifaces:+"--ifaces=$ifaces"} 2>/dev/null |
+    sed -nE 's/^group "[^"]*"( in| out)?( on "(.*)")? \{$/\3/p' | sort -u)
+  # a group that is bound to no interface is there as an empty line, which sorts first
+  case $bound in
+    '' | $'\n'*) return ;;
+  esac
+  ! grep -qxF "$came" <<<"$bound" || return
+  hint "no group but the default one is about ${came//$'\n'/, }, by which the packets came: the others are on ${bound//$'\n'/, }"
+  hint "a script says by which interface they came, by a line such as: capture ${bound%%$'\n'*} in \"FILE\""
+}
+
+# Of a run that was done: that there were no packets, or none that the rules could decide on as they were meant to.
+hint_done() {
+  local script=${files[1]-} capture captures names
+  [ -f "$script" ] || return
+  if is_empty "$script"; then
+    hint "$script is empty, so it was read as a script without a line; a capture has 24 bytes at least"
+    return
+  fi
+  mapfile -t captures < <(captures_of "$script")
+  if [ ${#captures[@]} -eq 0 ]; then
+    hint "$script was read as a script, and names no capture, so there were no packets"
+    return
+  fi
+  if are_without_packets "${captures[@]}"; then
+    printf -v names '%s, ' "${captures[@]}"
+    hint "there were no packets: a header is all that stands in ${names%, }"
+    hint 'tcpdump -Q out records none of lo: what crosses lo is recorded as in'
+    return
+  fi
+  for capture in "${captures[@]}"; do
+    [ ! -f "$capture" ] || ! hint_packets "$capture" || return
+  done
+  hint_interfaces "$1"
+}
+
+# The section of a manual page that explains a fault's number, and a command that shows the page.
+hint_page() {
+  local name='npfctl(8)' page=$page8 section='Changes of a configuration' besides=
+  case $1 in
+    [1-6]) section=Captures ;;
+    34) section='The file of interfaces' ;;
+    35) section='Table files' ;;
+    [1-4]?)
+      name='npf.conf(5)' page=$page5 section=FAULTS
+      case $1 in
+        10 | 20 | 32 | 47 | 48) besides=", and NOT BUILT what isn't built" ;;
+      esac
+      ;;
+    70) section=Scripts ;;
+    8?) section='The file of connections' ;;
+  esac
+  hint "$name, $section, says what $1 $2 means$besides: man $(printf %q "$page")"
+}
+
+# Whether a file has a line that only a configuration has, or only a script.
+looks_like_configuration() {
+  local rule='(pass|block)[[:blank:]]+(stateful|in|out|final|on|family|proto|from|to|all|return)'
+  [ -f "$1" ] && grep -qE '^[[:blank:]]*(group[[:blank:]].*\{|table[[:blank:]]*<|procedure[[:blank:]]*"|\$[A-Za-z_]+[[:blank:]]*=|'"$rule)" -- "$1"
+}
+
+looks_like_script() {
+  local capture='capture[[:blank:]]+[^[:blank:]]+[[:blank:]]+(in|out)[[:blank:]]'
+  [ -f "$1" ] && grep -qE '^[[:blank:]]*(phase[[:blank:]]*$|reload[[:blank:]]+"|expire[[:blank:]]+[0-9]|'"$capture)" -- "$1"
+}
+
+# That a line ends in a carriage return, where it does.
+hint_return() {
+  case $(line_of "$1" "$2") in
+    *$'\r') ;;
+    *) return 1 ;;
+  esac
+  hint "line $2 of $1 ends in a carriage return, which is no blank there; this leaves them out of all lines:"
+  hint "tr -d '\\r' <$(printf %q "$1") >NEW"
+}
+
+# That a text begins with a byte order mark, where it does.
+hint_mark() {
+  [ "$(bytes_of "$1" 0 3)" = efbbbf ] || return
+  hint "$1 begins with a byte order mark, and no text that is read has one; this leaves it out:"
+  hint "tail -c +4 $(printf %q "$1") >NEW"
+}
+
+# That what is given as CONF is a capture, compressed or a script, where it is.
+hint_swapped() {
+  local format what
+  [ "$1" = "${files[0]}" ] || return
+  format=$(format_of "$1")
+  if [ -n "$format" ]; then
+    what="is $(format_in_words "$format")"
+  elif looks_like_script "$1"; then
+    what='looks like a script'
+  else
+    return 1
+  fi
+  hint "$1 is given as CONF, and $what"
+  hint "the words are: npfctl $(words_of "$command")"
+}
+
+# Status 3.
+hint_refused() {
+  local file line column number name there table
+  [[ $said =~ ^(.*):([0-9]+):([0-9]+):' '([0-9]+)' '([A-Za-z]+)(' '([0-9]+))? ]] || return
+  file=${BASH_REMATCH[1]} line=${BASH_REMATCH[2]} column=${BASH_REMATCH[3]} number=${BASH_REMATCH[4]} name=${BASH_REMATCH[5]}
+  if is_empty "$file"; then
+    hint "$file is empty"
+    return
+  fi
+  there=$(line_of "$file" "$line" | cut -b "$column"-)
+  table=${there#*\"}
+  case $number in
+    # a backslash joins lines where a line feed alone is behind it
+    10) [ "$there" != \\$'\r' ] || ! hint_return "$file" "$line" || return ;;
+    34) ! hint_return "$file" "$line" || return ;;
+    35) ! hint_return "${table%%\"*}" "${BASH_REMATCH[7]}" || return ;;
+  esac
+  ! hint_swapped "$file" && ! hint_mark "$file" || return
+  case $number in
+    10 | 20 | 32)
+      there=$(printf %s "${there%$'\r'}" | cut -b -60 | tr -c '[:print:]\n' '?')
+      [ -z "$there" ] || hint "what stands there is: $there"
+      ;;
+    31) [ -n "$ifaces" ] || hint '--ifaces FILE gives interfaces their addresses, by lines such as: wm0 192.0.2.1' ;;
+    34) hint 'a line has the name of an interface and its addresses, as in: wm0 192.0.2.1 2001:db8::1' ;;
+  esac
+  hint_page "$number" "$name"
+}
+
+# Status 4. A name that no word has stands between quotes in CONF, in SCRIPT or in what that loads.
+hint_unread() {
+  local file=${said#cannot read } texts it line folder
+  case $file in
+    '') hint 'the name of a file is empty' ;;
+    -) hint '- is the name of a file; standard input is /dev/stdin' ;;
+  esac
+  [ -n "${file#-}" ] || return
+  if [ -d "$file" ]; then
+    hint "$file is a folder"
+  elif [ -e "$file" ]; then
+    [ -r "$file" ] || hint "$file is there, but may not be read"
+  elif [[ $file == /* ]]; then
+    hint "there is no $file"
+  else
+    hint "there is no $file in $PWD, the current folder, to which names of files are relative"
+  fi
+  [ ! -e "$file" ] || return
+  texts=("${files[@]}")
+  [ ! -f "${files[1]-}" ] || mapfile -O 2 -t texts < <(sed -nE 's/^[[:blank:]]*reload[[:blank:]]*"(.*)"[[:blank:]]*$/\1/p' "${files[1]}")
+  for it in "${texts[@]}"; do
+    if [ ! -f "$it" ] || [ -n "$(format_of "$it")" ] || ! line=$(grep -nFm 1 -- "\"$file\"" "$it"); then continue; fi
+    folder=$(dirname -- "$it")
+    if [[ $file != /* ]] && [ -e "$folder/$file" ]; then
+      hint "line ${line%%:*} of $it names it, and beside that it is there: run npfctl in $folder"
+    else
+      hint "line ${line%%:*} of $it names it"
+    fi
+    return
+  done
+}
+
+# Status 5.
+hint_unwritten() {
+  local file=${said#cannot write } folder
+  [ "$file" != 'standard output' ] || return
+  folder=$(dirname -- "$file")
+  if [ -d "$file" ]; then
+    hint "$file is a folder"
+  elif [ ! -d "$folder" ]; then
+    hint "there is no folder $folder"
+  elif [ -e "$file" ] && [ ! -w "$file" ]; then
+    hint "$file is there, but may not be written"
+  fi
+}
+
+# Status 6.
+hint_saved() {
+  [[ $said =~ ^(.*):' '([0-9]+)' '([A-Za-z]+) ]] || return
+  if is_empty "${BASH_REMATCH[1]}"; then
+    hint "${BASH_REMATCH[1]} is empty"
+  else
+    hint_page "${BASH_REMATCH[2]}" "${BASH_REMATCH[3]}"
+  fi
+}
+
+# Status 7.
+hint_capture() {
+  local file
+  [[ $said =~ ^(.*):' '([0-9]+)' '([A-Za-z]+) ]] || return
+  file=${BASH_REMATCH[1]}
+  case ${BASH_REMATCH[2]} in
+    1) ! is_empty "$file" || { hint "$file is empty" && return; } ;;
+    2) ! hint_format "$file" || return ;;
+    4) hint_link "$file" && return ;;
+    5)
+      hint "$file ends inside that record, as where its recording was ended; this keeps what is whole before it:"
+      hint_recipe "editcap -F pcap $(printf %q "$file") NEW.pcap"
+      return
+      ;;
+  esac
+  hint_page "${BASH_REMATCH[2]}" "${BASH_REMATCH[3]}"
+}
+
+# The forms of a script's line by its first word.
+form_of() {
+  case $1 in
+    capture) echo 'capture INTERFACE in|out "FILE"' ;;
+    phase) echo phase ;;
+    packets) echo 'packets N|rest' ;;
+    reload) echo 'reload "FILE"' ;;
+    rule) echo 'rule NAME add TEXT, rule NAME rem-id N, rule NAME flush' ;;
+    table) echo 'table NAME add|rem ADDRESS' ;;
+    expire) echo 'expire SECONDS' ;;
+  esac
+}
+
+# Status 8.
+hint_line() {
+  local file line number name text words form near
+  [[ $said =~ ^(.*):([0-9]+):' '([0-9]+)' '([A-Za-z]+) ]] || return
+  file=${BASH_REMATCH[1]} line=${BASH_REMATCH[2]} number=${BASH_REMATCH[3]} name=${BASH_REMATCH[4]}
+  if [ "$number" -eq 70 ]; then
+    ! hint_format "$file" && ! hint_mark "$file" && ! hint_return "$file" "$line" || return
+    text=$(line_of "$file" "$line" | tr -c '[:print:]\n' ' ')
+    read -ra words <<<"$text"
+    form=$(form_of "${words[0]-}")
+    if looks_like_configuration "$file"; then
+      hint "$file is given as SCRIPT, a capture or what names some, and looks like a configuration"
+      hint "the words are: npfctl $run_words"
+      return
+    elif [ -z "$form" ]; then
+      near=$(nearest "${words[0]-}" capture phase packets reload rule table expire)
+      [ -z "$(format_of "${words[0]-}")" ] || near="capture, as in: capture cap0 in \"${words[0]}\""
+      hint "a script has no line that begins with ${words[0]-}${near:+; the nearest is $near}"
+    elif [[ ${words[0]}:${#words[@]} =~ ^(capture:4|reload:2)$ && $text != *\"* ]]; then
+      hint "the name of a file stands between double quotes: ${words[*]:0:${#words[@]}-1} \"${words[-1]}\""
+      return
+    else
+      hint "the form is: $form"
+      hint 'lines of capture stand before the first phase, and all others behind one'
+    fi
+  fi
+  hint_page "$number" "$name"
+}
+
+# Status 9.
+hint_limit() {
+  local file
+  if [[ $said =~ ^'limit bytes '(.*)' over '[0-9]+$ ]]; then
+    file=${BASH_REMATCH[1]}
+    ! hint_swapped "$file" && ! hint_format "$file" || return
+  fi
+  hint "npfctl(8), Limits, has how much is taken; EXAMPLES runs a day's captures one after the other: man $(printf %q "$page8")"
+}
+
+# About a file that isn't there, where nothing is built: FILE, and then the words.
+hint_absent() {
+  local said="cannot read $1" files ifaces load wrong
+  read_words "${@:2}"
+  hint_unread
+}
+
+hint_about() {
+  local status=$1 said program=$3 command=${4-} files ifaces load wrong is_by_editcap=
+  said=$(cat "$2")
+  said=${said#npfctl: }
+  shift 3
+  if [ "$status" -eq 2 ]; then
+    hint_words "$@"
+    return
+  fi
+  [ $# -gt 0 ] || return
+  read_words "$@"
+  case $status in
+    0) [ "$command" != run ] || hint_done "$program" ;;
+    3) hint_refused ;;
+    4) hint_unread ;;
+    5) hint_unwritten ;;
+    6) hint_saved ;;
+    7) hint_capture ;;
+    8) hint_line ;;
+    9) hint_limit ;;
+  esac
+  [ -z "$is_by_editcap" ] || [ "$hints" -ge 3 ] || type -P editcap >/dev/null || hint 'editcap, which is not here, comes with Wireshark'
+}

@@ -1,0 +1,214 @@
+# shellcheck shell=bash
+# The words of the command line, as the program reads them (npfctl(8), "The command line"), and the hints about words that are no command.
+# The script npfctl sources this.
+# shellcheck disable=SC2034 # hints.bash reads the rest
+
+run_words='run CONF SCRIPT [--ifaces FILE] [--workers N] [--spread rr|flow] [--write FILE] [--load FILE] [--save FILE]'
+text_words='CONF [--ifaces FILE]'
+run_options=(--ifaces --workers --spread --write --load --save)
+most_number=18446744073709551615
+
+hints=0
+hint() {
+  printf 'npfctl: hint: %s\n' "$1" >&2
+  hints=$((hints + 1))
+}
+
+# The nearest of some words to the first, by how many letters have to be put in, left out or changed: at most two, and fewer than stand in it.
+# Its capitals count as small letters.
+nearest() {
+  printf '%s\n' "${1,,}" "${@:2}" | awk '
+    function least(a, b) { return a < b ? a : b }
+    function distance(a, b, i, j, row, kept, before) {
+      for (j = 0; j <= length(b); j++) row[j] = j
+      for (i = 1; i <= length(a); i++) {
+        before = row[0]; row[0] = i
+        for (j = 1; j <= length(b); j++) {
+          kept = row[j]
+          row[j] = least(least(row[j], row[j - 1]) + 1, before + (substr(a, i, 1) != substr(b, j, 1)))
+          before = kept
+        }
+      }
+      return row[length(b)]
+    }
+    NR == 1 { word = $0; best = least(3, length(word)); next }
+    { far = distance(word, $0); if (far < best) { best = far; found = $0 } }
+    END { print found }'
+}
+
+is_command() {
+  case $1 in
+    run | validate | show | debug | gen) ;;
+    *) return 1 ;;
+  esac
+}
+
+# Whether the words ask for help, alone or behind a command.
+ask_for_help() {
+  local word
+  case ${1-} in
+    help | --help | -h) return ;;
+    run | validate | show | debug | gen | version | install) ;;
+    *) return 1 ;;
+  esac
+  for word in "${@:2}"; do
+    case $word in
+      --) return 1 ;;
+      --help | -h) return ;;
+    esac
+  done
+  return 1
+}
+
+blame() {
+  [ -n "$wrong" ] || wrong=$1
+}
+
+# Blames a value that the option, or the word NUMBER, can't have.
+judge_value() {
+  local LC_ALL=C number
+  case $1 in
+    --workers)
+      [[ $2 =~ ^\+?0*([1-9]|[1-5][0-9]|6[0-4])$ ]] || blame "--workers is a number from 1 to 64, and $(printf %q "$2") is none"
+      ;;
+    --spread)
+      [ "$2" = rr ] || [ "$2" = flow ] || blame "--spread is rr or flow, and $(printf %q "$2") is neither"
+      ;;
+    NUMBER)
+      if [[ $2 =~ ^\+?0*([0-9]+)$ ]]; then
+        number=${BASH_REMATCH[1]}
+        [ ${#number} -ge ${#most_number} ] || return 0
+        # shellcheck disable=SC2071 # two of one length are compared as texts
+        [ ${#number} -gt ${#most_number} ] || [[ $number > $most_number ]] || return 0
+      fi
+      blame "NUMBER is from 0 to $most_number, and $(printf %q "$2") is none of these"
+      ;;
+  esac
+}
+
+# Sets `files` to the words that are neither the command nor an option nor the value of one, `ifaces` and `load` to the values of these options, and
+# `wrong` to what makes the words no command, whatever the files hold: the first such thing, or nothing.
+read_words() {
+  local command=$1 names=(CONF) options=(--ifaces) known name value near given=' '
+  files=() ifaces='' load='' wrong=''
+  case $command in
+    run) names=(CONF SCRIPT) options=("${run_options[@]}") ;;
+    gen) names=(NUMBER) options=() ;;
+  esac
+  known=" ${options[*]} "
+  shift
+  while [ $# -gt 0 ]; do
+    case $1 in
+      --)
+        shift
+        files+=("$@")
+        break
+        ;;
+      -?*)
+        name=${1%%=*} value=${1#*=}
+        if [[ $known != *" $name "* ]]; then
+          near=$(nearest "$name" "${options[@]}")
+          blame "$command has no option $(printf %q "$name")${near:+; the nearest is $near}"
+        elif [ "$1" = "$name" ] && { [ $# -eq 1 ] || [[ $2 == -?* ]]; }; then
+          blame "$name has no value behind it${2:+: $(printf %q "$2") is taken for an option}"
+        else
+          [ "$1" != "$name" ] || { value=$2 && shift; }
+          [[ $given != *" $name "* ]] || blame "$name stands there twice"
+          given+="$name "
+          judge_value "$name" "$value"
+          case $name in
+            --ifaces) ifaces=$value ;;
+            --load) load=$value ;;
+          esac
+        fi
+        ;;
+      *) files+=("$1") ;;
+    esac
+    shift
+  done
+  if [ ${#files[@]} -lt ${#names[@]} ]; then
+    blame "${names[${#files[@]}]} is missing"
+  elif [ ${#files[@]} -gt ${#names[@]} ]; then
+    near=
+    [ "$command" != run ] || near='; a script names several captures'
+    blame "$(printf %q "${files[${#names[@]}]}") is a word too many$near"
+  elif [ "$command" = gen ]; then
+    judge_value NUMBER "${files[0]}"
+  fi
+}
+
+# Whether the words are no command, whatever the files hold.
+are_wrong() {
+  local files ifaces load wrong
+  is_command "${1-}" || return 0
+  read_words "$@"
+  [ -n "$wrong" ]
+}
+
+# The first file that the words of a command name and that isn't there.
+absent_file() {
+  local files ifaces load wrong it
+  [ "$1" != gen ] || return 0
+  read_words "$@"
+  for it in "$ifaces" "${files[@]}" "$load"; do
+    if [ -n "$it" ] && [ ! -e "$it" ]; then
+      printf '%s\n' "$it"
+      return
+    fi
+  done
+}
+
+words_of() {
+  case $1 in
+    run) echo "$run_words" ;;
+    gen) echo 'gen NUMBER' ;;
+    *) echo "$1 $text_words" ;;
+  esac
+}
+
+# What stands there for a command: one of NetBSD's program, a file, an option, or a mistake of spelling.
+hint_command() {
+  local word near here=
+  word=$(printf %q "$1")
+  case ${1,,} in
+    start | stop | flush) here='npfctl run CONF SCRIPT says what a configuration does to the packets of captures' ;;
+    reload) here='npfctl validate CONF says whether a configuration is accepted; in a script, reload "FILE" puts one in force' ;;
+    stats) here='the last line of npfctl run CONF SCRIPT counts what became of the packets' ;;
+    list | save) here='npfctl run CONF SCRIPT --save FILE saves the connections that are left' ;;
+    load) here='npfctl run CONF SCRIPT --load FILE begins with the connections that --save saved' ;;
+    rule | table) here="in a script, lines of ${1,,} change what is in force; npfctl(8), Scripts, has them" ;;
+  esac
+  if [ -n "$here" ]; then
+    hint "there is no command $word: NetBSD's is for a running kernel, which this program never touches"
+    hint "$here"
+  elif [ -f "$1" ]; then
+    hint "there is no command $word: a command stands before the files, as in npfctl run CONF SCRIPT"
+  elif [[ $1 == -* ]]; then
+    hint "there is no command $word: options stand behind the command, as in npfctl run CONF SCRIPT --workers 4"
+  else
+    near=$(nearest "$1" run validate show debug gen help version install)
+    hint "there is no command $word${near:+; the nearest is $near}"
+  fi
+  hint 'npfctl help has the commands'
+}
+
+# What is wrong with the words, and what they have to be; where there are none, the help.
+hint_words() {
+  local files ifaces load wrong
+  if [ $# -eq 0 ]; then
+    usage >&2
+    return
+  fi
+  if ! is_command "$1"; then
+    hint_command "$1"
+    return
+  fi
+  read_words "$@"
+  [ -z "$wrong" ] || hint "$wrong"
+  hint "the words are: npfctl $(words_of "$1")"
+  if [ "$1" != run ] && [ "$wrong" = 'CONF is missing' ]; then
+    hint 'no file stands for it, as /etc/npf.conf does in NetBSD, and no kernel is asked'
+  else
+    hint 'npfctl help says what each command does'
+  fi
+}
