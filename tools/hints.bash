@@ -51,6 +51,13 @@ hint_recipe() {
   esac
 }
 
+# A command that takes some packets of a capture, by tcpdump's expression, or by tshark's where that alone is here, and cuts headers off by editcap.
+hint_filter() {
+  local reads="tcpdump -r $1 -w - '$2'"
+  type -P tcpdump >/dev/null || ! type -P tshark >/dev/null || reads="tshark -r $1 -Y '$3' -w -"
+  hint_recipe "$reads | editcap -F pcap $4 - NEW.pcap"
+}
+
 # How a file in another format becomes a capture that is read. Fails where it is in none that is known.
 hint_format() {
   local format file
@@ -81,26 +88,26 @@ link_of() {
 }
 
 # Sets `link` to the name of a link type, by https://www.tcpdump.org/linktypes.html, and `header` to how many bytes stand there before IP, or to
-# nothing where no recipe is known. `mixed` says that packets of other protocols may be among them.
+# nothing where no recipe is known. `mixed` says that packets of other protocols may be among them, and `fields` how tshark tells those of IP.
 name_link() {
-  link='' header='' mixed=1
+  link='' header='' mixed=1 fields=''
   case $1 in
     0) link=NULL header=4 mixed='' ;;
     6) link=IEEE802_5 ;;
     8) link=SLIP ;;
     9)
-      link=PPP header=4
+      link=PPP header=4 fields='ppp.protocol in {0x0021, 0x0057}'
       # the two bytes of PPP's framing may be left out, and then tcpdump finds no protocol
       [ "$(bytes_of "$2" 40 2)" = ff03 ] || header=2 mixed=''
       ;;
     10) link=FDDI ;;
     12 | 14) link=RAW header=0 ;;
-    50) link=PPP_HDLC header=4 ;;
-    51) link=PPP_ETHER header=8 ;;
-    104) link=C_HDLC header=4 ;;
+    50) link=PPP_HDLC header=4 fields='ppp.protocol in {0x0021, 0x0057}' ;;
+    51) link=PPP_ETHER header=8 fields='ppp.protocol in {0x0021, 0x0057}' ;;
+    104) link=C_HDLC header=4 fields='chdlc.protocol in {0x0800, 0x86dd}' ;;
     105) link=IEEE802_11 ;;
     108) link=LOOP header=4 mixed='' ;;
-    113) link=LINUX_SLL header=16 ;;
+    113) link=LINUX_SLL header=16 fields='sll.etype in {0x0800, 0x86dd}' ;;
     117) link=PFLOG ;;
     127) link=IEEE802_11_RADIOTAP ;;
     192) link=PPI ;;
@@ -108,12 +115,12 @@ name_link() {
     229) link=IPV6 header=0 ;;
     239) link=NFLOG ;;
     253) link=NETLINK ;;
-    276) link=LINUX_SLL2 header=20 ;;
+    276) link=LINUX_SLL2 header=20 fields='sll.etype in {0x0800, 0x86dd}' ;;
   esac
 }
 
 hint_link() {
-  local number link header mixed file
+  local number link header mixed fields file
   file=$(printf %q "$1")
   number=$(link_of "$1")
   [ -n "$number" ] || return
@@ -128,7 +135,7 @@ hint_link() {
     :*) ;;
     0:*) hint_recipe "editcap -F pcap -T rawip $file NEW.pcap" ;;
     *:) hint_recipe "editcap -F pcap -C $header -L -T rawip $file NEW.pcap" ;;
-    *) hint_recipe "tcpdump -r $file -w - 'ip or ip6' | editcap -F pcap -C $header -L -T rawip - NEW.pcap" ;;
+    *) hint_filter "$file" 'ip or ip6' "$fields" "-C $header -L -T rawip" ;;
   esac
   [ "$number" -ne 276 ] || hint 'npfctl(8), EXAMPLES, parts such a capture by interface and direction'
 }
@@ -150,8 +157,8 @@ are_without_packets() {
   done
 }
 
-# Looks at the first 65,536 bytes of a capture, and prints of the packets there: how many; how many of them are cut, and the most bytes that are
-# left of such a one; how many have a VLAN's tag, the number that most of them have, and that of the tag behind it, or 0; how many are of PPPoE;
+# Looks at the first 65,536 bytes of a capture, and prints of the packets there: how many; how many of them have less of IP than its header says,
+# since they were cut as they were recorded, and the most bytes that are left of such a one; how many have a VLAN's tag, the number that most of them have, and that of the tag behind it, or 0; how many are of PPPoE;
 # and how many are neither IP nor too short to tell. An EtherType stands at byte 12 of Ethernet, and behind a tag another, 4 bytes on (IEEE 802.1Q,
 # RFC 2516).
 looks_of() {
@@ -159,6 +166,10 @@ looks_of() {
     function pair(at) { return byte[at] * 256 + byte[at + 1] }
     function number(at) { return is_lowest_first ? pair_back(at + 2) * 65536 + pair_back(at) : pair(at) * 65536 + pair(at + 2) }
     function pair_back(at) { return byte[at + 1] * 256 + byte[at] }
+    function is_short(at, left) {
+      if (kind == 2048) return left < 20 || left < pair(at + 2)
+      return kind == 34525 && (left < 40 || left < 40 + pair(at + 4))
+    }
     function is_tag(kind) { return kind == 33024 || kind == 34984 }
     { for (i = 1; i <= NF; i++) byte[n++] = $i }
     END {
@@ -168,9 +179,11 @@ looks_of() {
         stored = number(at + 8)
         if (at + 16 + stored > n) break
         packets++
-        if (stored < number(at + 12)) { cut++; if (stored > left) left = stored }
+        kind = is_ethernet ? pair(at + 28) : byte[at + 16] < 96 ? 2048 : 34525
+        link = 14 * is_ethernet
+        if (stored < link) continue
+        if (stored < number(at + 12) && is_short(at + 16 + link, stored - link)) { cut++; if (stored > left) left = stored }
         if (!is_ethernet || stored < 20) continue
-        kind = pair(at + 28)
         if (kind != 2048 && kind != 34525) others++
         if (kind == 34916) pppoe++
         if (!is_tag(kind)) continue
@@ -201,7 +214,7 @@ hint_packets() {
   elif [ "$others" -eq "$packets" ] && [ "$others" -gt 0 ]; then
     hint "packets without IP right behind Ethernet are skipped, all of the first $packets of $1"
   elif [ "$cut" -gt 0 ]; then
-    hint "IP that was cut as it was recorded is malformed, $cut of the first $packets packets of $1, to at most $left bytes"
+    hint "packets that were cut as they were recorded are malformed, $cut of the first $packets of $1, to at most $left bytes"
     hint 'tcpdump -s 0 records whole packets'
   else
     return 1
@@ -236,6 +249,7 @@ hint_done() {
   [ -f "$script" ] || return
   if is_empty "$script"; then
     hint "$script is empty, so it was read as a script without a line; a capture has 24 bytes at least"
+    hint 'tcpdump may leave none where it is killed; it writes all as it ends by INT or TERM, and with -U each packet at once'
     return
   fi
   mapfile -t captures < <(captures_of "$script")
@@ -246,7 +260,7 @@ hint_done() {
   if are_without_packets "${captures[@]}"; then
     printf -v names '%s, ' "${captures[@]}"
     hint "there were no packets: a header is all that stands in ${names%, }"
-    hint 'tcpdump -Q out records none of lo: what crosses lo is recorded as in'
+    hint 'nothing crossed there, or nothing that was asked for; of lo tcpdump -Q out records none, as what crosses lo is recorded as in'
     return
   fi
   for capture in "${captures[@]}"; do
@@ -277,7 +291,7 @@ hint_page() {
 # Whether a file has a line that only a configuration has, or only a script.
 looks_like_configuration() {
   local rule='(pass|block)[[:blank:]]+(stateful|in|out|final|on|family|proto|from|to|all|return)'
-  [ -f "$1" ] && grep -qE '^[[:blank:]]*(group[[:blank:]].*\{|table[[:blank:]]*<|procedure[[:blank:]]*"|\$[A-Za-z_]+[[:blank:]]*=|'"$rule)" -- "$1"
+  [ -f "$1" ] && grep -qE '^[[:blank:]]*(group[[:blank:]].*\{|table[[:blank:]]*<[^>]*>[[:blank:]]*type|procedure[[:blank:]]*"|\$[A-Za-z_]+[[:blank:]]*=|'"$rule)" -- "$1"
 }
 
 looks_like_script() {
@@ -295,11 +309,19 @@ hint_return() {
   hint "tr -d '\\r' <$(printf %q "$1") >NEW"
 }
 
-# That a text begins with a byte order mark, where it does.
+# That a text begins with a byte order mark, of UTF-8 or UTF-16, where it does.
 hint_mark() {
-  [ "$(bytes_of "$1" 0 3)" = efbbbf ] || return
-  hint "$1 begins with a byte order mark, and no text that is read has one; this leaves it out:"
-  hint "tail -c +4 $(printf %q "$1") >NEW"
+  case $(bytes_of "$1" 0 3) in
+    efbbbf)
+      hint "$1 begins with a byte order mark, and no text that is read has one; this leaves it out:"
+      hint "tail -c +4 $(printf %q "$1") >NEW"
+      ;;
+    fffe* | feff*)
+      hint "$1 is in UTF-16, by its first bytes, and what is read is UTF-8; this makes it such a text:"
+      hint "iconv -f UTF-16 -t UTF-8 $(printf %q "$1") >NEW"
+      ;;
+    *) return 1 ;;
+  esac
 }
 
 # That what is given as CONF is a capture, compressed or a script, where it is.
@@ -333,7 +355,7 @@ hint_refused() {
     # a backslash joins lines where a line feed alone is behind it
     10) [ "$there" != \\$'\r' ] || ! hint_return "$file" "$line" || return ;;
     34) ! hint_return "$file" "$line" || return ;;
-    35) ! hint_return "${table%%\"*}" "${BASH_REMATCH[7]}" || return ;;
+    35) ! hint_mark "${table%%\"*}" && ! hint_return "${table%%\"*}" "${BASH_REMATCH[7]}" || return ;;
   esac
   ! hint_swapped "$file" && ! hint_mark "$file" || return
   case $number in
@@ -357,6 +379,7 @@ hint_unread() {
   [ -n "${file#-}" ] || return
   if [ -d "$file" ]; then
     hint "$file is a folder"
+    [ "$command" != run ] || [ "$file" != "${files[1]}" ] || hint 'a script names captures, each on a line such as: capture cap0 in "FILE"'
   elif [ -e "$file" ]; then
     [ -r "$file" ] || hint "$file is there, but may not be read"
   elif [[ $file == /* ]]; then
@@ -436,7 +459,7 @@ form_of() {
 
 # Status 8.
 hint_line() {
-  local file line number name text words form near
+  local file line number name text words form near marked='^[<"](.+)[>"]$'
   [[ $said =~ ^(.*):([0-9]+):' '([0-9]+)' '([A-Za-z]+) ]] || return
   file=${BASH_REMATCH[1]} line=${BASH_REMATCH[2]} number=${BASH_REMATCH[3]} name=${BASH_REMATCH[4]}
   if [ "$number" -eq 70 ]; then
@@ -444,7 +467,7 @@ hint_line() {
     text=$(line_of "$file" "$line" | tr -c '[:print:]\n' ' ')
     read -ra words <<<"$text"
     form=$(form_of "${words[0]-}")
-    if looks_like_configuration "$file"; then
+    if looks_like_configuration "$file" && ! looks_like_script "$file"; then
       hint "$file is given as SCRIPT, a capture or what names some, and looks like a configuration"
       hint "the words are: npfctl $run_words"
       return
@@ -452,6 +475,9 @@ hint_line() {
       near=$(nearest "${words[0]-}" capture phase packets reload rule table expire)
       [ -z "$(format_of "${words[0]-}")" ] || near="capture, as in: capture cap0 in \"${words[0]}\""
       hint "a script has no line that begins with ${words[0]-}${near:+; the nearest is $near}"
+    elif [[ ${words[0]} != reload && ${words[1]-} =~ $marked ]]; then
+      hint "a name stands there without signs round it: ${words[0]} ${BASH_REMATCH[1]}${words[2]:+ ${words[*]:2}}"
+      return
     elif [[ ${words[0]}:${#words[@]} =~ ^(capture:4|reload:2)$ && $text != *\"* ]]; then
       hint "the name of a file stands between double quotes: ${words[*]:0:${#words[@]}-1} \"${words[-1]}\""
       return
@@ -473,9 +499,9 @@ hint_limit() {
   hint "npfctl(8), Limits, has how much is taken; EXAMPLES runs a day's captures one after the other: man $(printf %q "$page8")"
 }
 
-# About a file that isn't there, where nothing is built: FILE, and then the words.
-hint_absent() {
-  local said="cannot read $1" files ifaces load wrong
+# About a file that can't be read, where nothing is built: FILE, and then the words.
+hint_unread_file() {
+  local said="cannot read $1" command=$2 files ifaces load wrong
   read_words "${@:2}"
   hint_unread
 }

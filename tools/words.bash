@@ -36,6 +36,20 @@ nearest() {
     END { print found }'
 }
 
+# The options that a word of one letter may mean, as -w, or else the one that is nearest.
+near_options() {
+  local letter=${1#-} found='' it
+  if [ ${#letter} -eq 1 ]; then
+    for it in "${@:2}"; do
+      [[ $it != "--$letter"* ]] || found+="${found:+ or }$it"
+    done
+    printf '%s' "${found:+; its name is written out, as $found}"
+  else
+    found=$(nearest "$@")
+    printf '%s' "${found:+; the nearest is $found}"
+  fi
+}
+
 is_command() {
   case $1 in
     run | validate | show | debug | gen) ;;
@@ -107,8 +121,7 @@ read_words() {
       -?*)
         name=${1%%=*} value=${1#*=}
         if [[ $known != *" $name "* ]]; then
-          near=$(nearest "$name" "${options[@]}")
-          blame "$command has no option $(printf %q "$name")${near:+; the nearest is $near}"
+          blame "$command has no option $(printf %q "$name")$(near_options "$name" "${options[@]}")"
         elif [ "$1" = "$name" ] && { [ $# -eq 1 ] || [[ $2 == -?* ]]; }; then
           blame "$name has no value behind it${2:+: $(printf %q "$2") is taken for an option}"
         else
@@ -145,13 +158,13 @@ are_wrong() {
   [ -n "$wrong" ]
 }
 
-# The first file that the words of a command name and that isn't there.
-absent_file() {
+# The first file that the words of a command name and that can't be read: it isn't there, may not be read, or is a folder.
+unread_file() {
   local files ifaces load wrong it
   [ "$1" != gen ] || return 0
   read_words "$@"
   for it in "$ifaces" "${files[@]}" "$load"; do
-    if [ -n "$it" ] && [ ! -e "$it" ]; then
+    if [ -n "$it" ] && { [ ! -r "$it" ] || [ -d "$it" ]; }; then
       printf '%s\n' "$it"
       return
     fi
@@ -166,9 +179,9 @@ words_of() {
   esac
 }
 
-# What stands there for a command: one of NetBSD's program, a file, an option, or a mistake of spelling.
+# What stands there for a command: one of NetBSD's program, what other programs call it, a file, an option, or a mistake of spelling.
 hint_command() {
-  local word near here=
+  local word near here='' other=''
   word=$(printf %q "$1")
   case ${1,,} in
     start | stop | flush) here='npfctl run CONF SCRIPT says what a configuration does to the packets of captures' ;;
@@ -177,10 +190,15 @@ hint_command() {
     list | save) here='npfctl run CONF SCRIPT --save FILE saves the connections that are left' ;;
     load) here='npfctl run CONF SCRIPT --load FILE begins with the connections that --save saved' ;;
     rule | table) here="in a script, lines of ${1,,} change what is in force; npfctl(8), Scripts, has them" ;;
+    check | test | verify | -n | -f | -nf) other='validate says whether a configuration is accepted, and run what becomes of packets' ;;
+    replay | simulate | trace | read | -r) other='run says what becomes of the packets of captures' ;;
+    print | dump | rules) other='show prints what a configuration means' ;;
   esac
   if [ -n "$here" ]; then
     hint "there is no command $word: NetBSD's is for a running kernel, which this program never touches"
     hint "$here"
+  elif [ -n "$other" ]; then
+    hint "there is no command $word; $other"
   elif [ -f "$1" ]; then
     hint "there is no command $word: a command stands before the files, as in npfctl run CONF SCRIPT"
   elif [[ $1 == -* ]]; then
