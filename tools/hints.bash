@@ -158,9 +158,9 @@ are_without_packets() {
 }
 
 # Looks at the first 65,536 bytes of a capture, and prints of the packets there: how many; how many of them have less of IP than its header says,
-# since they were cut as they were recorded, and the most bytes that are left of such a one; how many have a VLAN's tag, the number that most of them have, and that of the tag behind it, or 0; how many are of PPPoE;
-# and how many are neither IP nor too short to tell. An EtherType stands at byte 12 of Ethernet, and behind a tag another, 4 bytes on (IEEE 802.1Q,
-# RFC 2516).
+# since they were cut as they were recorded, and the most bytes that are left of such a one; how many have a VLAN's tag, the number that most of
+# them have, and that of the tag behind it, or 0; how many are of PPPoE; and how many are neither IP nor too short to tell. An EtherType stands at
+# byte 12 of Ethernet, and behind a tag another, 4 bytes on (IEEE 802.1Q, RFC 2516).
 looks_of() {
   od -An -v -tu1 -N 65536 -- "$1" 2>/dev/null | awk '
     function pair(at) { return byte[at] * 256 + byte[at + 1] }
@@ -340,16 +340,38 @@ hint_swapped() {
   hint "the words are: npfctl $(words_of "$command")"
 }
 
+# What stands at a place of a configuration where something else is to stand, and what is missing there, as far as one can tell: TEXT is the line,
+# THERE what it has from the place on, NUMBER the fault's.
+hint_there() {
+  local text=$1 there=$2 number=$3 before shown
+  shown=$(printf %s "${there%$'\r'}" | cut -b -60 | tr -c '[:print:]\n' '?')
+  [ -z "$shown" ] || hint "what stands there is: $shown"
+  before=${text:0:${#text}-${#there}}
+  before=${before%%#*}
+  if [ "$number" -eq 32 ]; then
+    hint 'a number may stand there, too: /etc/services has those of ports, and /etc/protocols those of protocols'
+  elif [[ $there =~ ^[A-Za-z_][A-Za-z0-9_.]*[[:blank:]]*= ]]; then
+    hint 'a $ stands before the name of a variable, also where it is set'
+  elif [[ -z $shown || $shown == [\}\;]* ]] && is_rule_without_ends "${before##*[;\{]}"; then
+    hint 'a rule has all, from or to, and this one has none: all stands for every packet'
+  fi
+}
+
+is_rule_without_ends() {
+  [[ $1 =~ ^[[:blank:]]*(pass|block)([[:blank:]]|$) ]] && ! [[ $1 =~ [[:blank:]](all|from|to)([[:blank:]]|$) ]]
+}
+
 # Status 3.
 hint_refused() {
-  local file line column number name there table
+  local file line column number name text there table
   [[ $said =~ ^(.*):([0-9]+):([0-9]+):' '([0-9]+)' '([A-Za-z]+)(' '([0-9]+))? ]] || return
   file=${BASH_REMATCH[1]} line=${BASH_REMATCH[2]} column=${BASH_REMATCH[3]} number=${BASH_REMATCH[4]} name=${BASH_REMATCH[5]}
   if is_empty "$file"; then
     hint "$file is empty"
     return
   fi
-  there=$(line_of "$file" "$line" | cut -b "$column"-)
+  text=$(line_of "$file" "$line")
+  there=$(printf %s "$text" | cut -b "$column"-)
   table=${there#*\"}
   case $number in
     # a backslash joins lines where a line feed alone is behind it
@@ -359,10 +381,7 @@ hint_refused() {
   esac
   ! hint_swapped "$file" && ! hint_mark "$file" || return
   case $number in
-    10 | 20 | 32)
-      there=$(printf %s "${there%$'\r'}" | cut -b -60 | tr -c '[:print:]\n' '?')
-      [ -z "$there" ] || hint "what stands there is: $there"
-      ;;
+    10 | 20 | 32) hint_there "$text" "$there" "$number" ;;
     31) [ -n "$ifaces" ] || hint '--ifaces FILE gives interfaces their addresses, by lines such as: wm0 192.0.2.1' ;;
     34) hint 'a line has the name of an interface and its addresses, as in: wm0 192.0.2.1 2001:db8::1' ;;
   esac
@@ -388,6 +407,11 @@ hint_unread() {
     hint "there is no $file in $PWD, the current folder, to which names of files are relative"
   fi
   [ ! -e "$file" ] || return
+  if [ "$file" = "$ifaces" ]; then
+    hint 'what stands behind --ifaces is a file, of lines such as: wm0 192.0.2.1'
+    hint 'by which interface packets came a script says, by a line such as: capture wm0 in "FILE"'
+    return
+  fi
   texts=("${files[@]}")
   [ ! -f "${files[1]-}" ] || mapfile -O 2 -t texts < <(sed -nE 's/^[[:blank:]]*reload[[:blank:]]*"(.*)"[[:blank:]]*$/\1/p' "${files[1]}")
   for it in "${texts[@]}"; do
@@ -398,6 +422,7 @@ hint_unread() {
     else
       hint "line ${line%%:*} of $it names it"
     fi
+    [[ $file != *[*?]* ]] || hint 'the name is taken as it is there, and no others are put in its place: each file has a line'
     return
   done
 }
@@ -418,12 +443,17 @@ hint_unwritten() {
 
 # Status 6.
 hint_saved() {
+  local names
   [[ $said =~ ^(.*):' '([0-9]+)' '([A-Za-z]+) ]] || return
   if is_empty "${BASH_REMATCH[1]}"; then
     hint "${BASH_REMATCH[1]} is empty"
-  else
-    hint_page "${BASH_REMATCH[2]}" "${BASH_REMATCH[3]}"
+    return
   fi
+  if [ "${BASH_REMATCH[2]}" -eq 81 ]; then
+    names=$(sed -n 's/^if //p' "${BASH_REMATCH[1]}")
+    hint "the run that saved it had the interfaces ${names//$'\n'/, }; a run has those of --ifaces, and then those of its captures"
+  fi
+  hint_page "${BASH_REMATCH[2]}" "${BASH_REMATCH[3]}"
 }
 
 # Status 7.
@@ -471,6 +501,12 @@ hint_line() {
       hint "$file is given as SCRIPT, a capture or what names some, and looks like a configuration"
       hint "the words are: npfctl $run_words"
       return
+    elif [ "$line" -eq 1 ] && [ "${words[0]-}" = npf-connections ]; then
+      hint "$file has saved connections, and is given as SCRIPT; --load takes it"
+      return
+    elif [[ -n $form && $text == *#* ]]; then
+      hint "the form is: $form"
+      hint 'a comment stands on a line of its own, whose first byte is #'
     elif [ -z "$form" ]; then
       near=$(nearest "${words[0]-}" capture phase packets reload rule table expire)
       [ -z "$(format_of "${words[0]-}")" ] || near="capture, as in: capture cap0 in \"${words[0]}\""
