@@ -253,6 +253,12 @@ hint_done() {
     return
   fi
   mapfile -t captures < <(captures_of "$script")
+  for capture in "${captures[@]}"; do
+    if [ "$write" -ef "$capture" ]; then
+      hint "$capture was read, and now has what --write put there"
+      return
+    fi
+  done
   if [ ${#captures[@]} -eq 0 ]; then
     hint "$script was read as a script, and names no capture, so there were no packets"
     return
@@ -422,7 +428,7 @@ hint_unread() {
     else
       hint "line ${line%%:*} of $it names it"
     fi
-    [[ $file != *[*?]* ]] || hint 'the name is taken as it is there, and no others are put in its place: each file has a line'
+    [[ $file != *[*?]* && $file != '~'* ]] || hint 'the name is taken as it is there, and no others are put in its place: each file has a line'
     return
   done
 }
@@ -537,13 +543,13 @@ hint_limit() {
 
 # About a file that can't be read, where nothing is built: FILE, and then the words.
 hint_unread_file() {
-  local said="cannot read $1" command=$2 files ifaces load wrong
+  local said="cannot read $1" command=$2 files ifaces load write wrong
   read_words "${@:2}"
   hint_unread
 }
 
 hint_about() {
-  local status=$1 said program=$3 command=${4-} files ifaces load wrong is_by_editcap=
+  local status=$1 said program=$3 command=${4-} files ifaces load write wrong is_by_editcap=
   said=$(cat "$2")
   said=${said#npfctl: }
   shift 3

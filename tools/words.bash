@@ -100,11 +100,11 @@ judge_value() {
   esac
 }
 
-# Sets `files` to the words that are neither the command nor an option nor the value of one, `ifaces` and `load` to the values of these options, and
-# `wrong` to what makes the words no command, whatever the files hold: the first such thing, or nothing.
+# Sets `files` to the words that are neither the command nor an option nor the value of one, `ifaces`, `load` and `write` to the values of these
+# options, and `wrong` to what makes the words no command, whatever the files hold: the first such thing, or nothing.
 read_words() {
   local command=$1 names=(CONF) options=(--ifaces) known name value near given=' '
-  files=() ifaces='' load='' wrong=''
+  files=() ifaces='' load='' write='' wrong=''
   case $command in
     run) names=(CONF SCRIPT) options=("${run_options[@]}") ;;
     gen) names=(NUMBER) options=() ;;
@@ -132,6 +132,7 @@ read_words() {
           case $name in
             --ifaces) ifaces=$value ;;
             --load) load=$value ;;
+            --write) write=$value ;;
           esac
         fi
         ;;
@@ -152,7 +153,7 @@ read_words() {
 
 # Whether the words are no command, whatever the files hold.
 are_wrong() {
-  local files ifaces load wrong
+  local files ifaces load write wrong
   is_command "${1-}" || return 0
   read_words "$@"
   [ -n "$wrong" ]
@@ -160,7 +161,7 @@ are_wrong() {
 
 # The first file that the words of a command name and that can't be read: it isn't there, may not be read, or is a folder.
 unread_file() {
-  local files ifaces load wrong it
+  local files ifaces load write wrong it
   [ "$1" != gen ] || return 0
   read_words "$@"
   for it in "$ifaces" "${files[@]}" "$load"; do
@@ -212,7 +213,7 @@ hint_command() {
 
 # What is wrong with the words, and what they have to be; where there are none, the help.
 hint_words() {
-  local files ifaces load wrong
+  local files ifaces load write wrong
   if [ $# -eq 0 ]; then
     usage >&2
     return
