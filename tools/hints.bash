@@ -31,6 +31,8 @@ format_of() {
     425a68*) echo bzip2 ;;
     fd377a585a00*) echo xz ;;
     28b52ffd*) echo zstd ;;
+    04224d18*) echo lz4 ;;
+    504b0304*) echo zip ;;
   esac
 }
 
@@ -68,12 +70,20 @@ hint_format() {
       hint "$1 is $(format_in_words "$format"), and what is read is pcap; this makes it such a capture:"
       hint_recipe "editcap -F pcap $file NEW.pcap"
       ;;
-    gzip | bzip2 | xz | zstd)
+    gzip | bzip2 | xz | zstd | lz4 | zip)
       hint "$1 is $(format_in_words "$format"), and what is read is pcap; this unpacks it:"
-      hint_recipe "$format -dc $file >NEW.pcap"
+      format+=' -dc'
+      hint_recipe "${format/#zip -dc/unzip -p} $file >NEW.pcap"
       ;;
     *) return 1 ;;
   esac
+}
+
+# That a file that is to be a text is none, where its first bytes say so: WHAT is what it is given as.
+hint_binary() {
+  [ -f "$1" ] && [ "$(head -c 512 -- "$1" | tr -dc '\0' | wc -c)" -gt 0 ] || return
+  hint "$1 is given as $2, and is no text, as it has bytes of zero, nor in a format that is known here"
+  [ "$2" != SCRIPT ] || hint_recipe "many formats of captures are read by editcap, which makes one of pcap: editcap -F pcap $(printf %q "$1") NEW.pcap"
 }
 
 # The link type of a capture, as the number that its header has.
@@ -386,6 +396,7 @@ hint_refused() {
     35) ! hint_mark "${table%%\"*}" && ! hint_return "${table%%\"*}" "${BASH_REMATCH[7]}" || return ;;
   esac
   ! hint_swapped "$file" && ! hint_mark "$file" || return
+  [ "$file" != "${files[0]}" ] || ! hint_binary "$file" CONF || return
   case $number in
     10 | 20 | 32) hint_there "$text" "$there" "$number" ;;
     31) [ -n "$ifaces" ] || hint '--ifaces FILE gives interfaces their addresses, by lines such as: wm0 192.0.2.1' ;;
@@ -499,7 +510,7 @@ hint_line() {
   [[ $said =~ ^(.*):([0-9]+):' '([0-9]+)' '([A-Za-z]+) ]] || return
   file=${BASH_REMATCH[1]} line=${BASH_REMATCH[2]} number=${BASH_REMATCH[3]} name=${BASH_REMATCH[4]}
   if [ "$number" -eq 70 ]; then
-    ! hint_format "$file" && ! hint_mark "$file" && ! hint_return "$file" "$line" || return
+    ! hint_format "$file" && ! hint_mark "$file" && ! hint_binary "$file" SCRIPT && ! hint_return "$file" "$line" || return
     text=$(line_of "$file" "$line" | tr -c '[:print:]\n' ' ')
     read -ra words <<<"$text"
     form=$(form_of "${words[0]-}")
