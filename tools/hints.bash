@@ -521,7 +521,7 @@ hint_line() {
     elif [ "$line" -eq 1 ] && [ "${words[0]-}" = npf-connections ]; then
       hint "$file has saved connections, and is given as SCRIPT; --load takes it"
       return
-    elif [[ -n $form && $text == *#* ]]; then
+    elif [[ -n $form && $text == *[[:blank:]]#* ]]; then
       hint "the form is: $form"
       hint 'a comment stands on a line of its own, whose first byte is #'
     elif [ -z "$form" ]; then

@@ -8,9 +8,10 @@ text_words='CONF [--ifaces FILE]'
 run_options=(--ifaces --workers --spread --write --load --save)
 most_number=18446744073709551615
 
+# A hint is one line, whatever bytes a name in it has.
 hints=0
 hint() {
-  printf 'npfctl: hint: %s\n' "$1" >&2
+  printf 'npfctl: hint: %s\n' "${1//[[:cntrl:]]/?}" >&2
   hints=$((hints + 1))
 }
 
