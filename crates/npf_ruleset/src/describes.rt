@@ -8,7 +8,7 @@ ghost use Rattle.npf_ruleset.specs.Tables.{entries};
 use crate::tables::table_has;
 use npf_model::{AddrItem, Ends, Rule, StateOpt};
 use npf_table::Table;
-use npf_types::{Addr, Decision, Facts, L4};
+use npf_types::{Addr, Decision, Facts, L4, List};
 use std::sync::Arc;
 
 /// Whether the rule's packet part, which is all but direction and interface, describes the packet.
