@@ -194,6 +194,7 @@ AreSoundEnds (EndsTree.Ports p span) = AreSoundPorts p
 abbrev pub IsSoundWhere : Where → Type 0
 IsSoundWhere (Where.All span) = Unit {0}
 IsSoundWhere (Where.From from to span) = AreSoundEnds from × IfThere AreSoundEnds to
+IsSoundWhere (Where.PcapFilter span) = Unit {0}
 IsSoundWhere (Where.To to span) = AreSoundEnds to
 
 addresses_give : Gives addresses AreSoundAddresses
@@ -214,7 +215,8 @@ where_gives : Gives the_ends IsSoundWhere
 unfolding the_ends
 where_gives =
     either_gives (making_gives {P = λ _. Unit {0}} (λ ts a is. tt) anything)
-    (either_gives (making_gives (λ ts a is. is) (behind_gives (both_gives ends_give (optional_behind (quoted (codes "to")) ends_give)))) (making_gives (λ ts a is. is) (behind_gives ends_give)))
+    (either_gives (making_gives (λ ts a is. is) (behind_gives (both_gives ends_give (optional_behind (quoted (codes "to")) ends_give))))
+    (either_gives (making_gives {P = λ _. Unit {0}} (λ ts a is. tt) anything) (making_gives (λ ts a is. is) (behind_gives ends_give))))
 
 pub record IsSoundFilter (f : Filter) : Type 0 where
   pub proto : IfThere IsSoundPart f.proto
@@ -260,6 +262,7 @@ abbrev pub IsSoundCall : Call → Type 0
 IsSoundCall (Call.Log (LogName.Word w span) whole) = is_name w.text ≡ true
 IsSoundCall (Call.Log (LogName.Str s span) whole) = is_name s.text ≡ true
 IsSoundCall (Call.Normalize opts span) = Unit {0}
+IsSoundCall (Call.Route span) = Unit {0}
 
 abbrev pub IsSoundStmt : Stmt → Type 0
 IsSoundStmt (Stmt.Define var values span) = AreSoundValues values
@@ -287,7 +290,7 @@ call_gives =
     either_gives (making_gives {P = IsLogName} (λ ts n is. log_sound n (span_of ts) is) (behind_gives (behind_gives
     (either_gives (making_gives {P = λ s. Unit {0} × (is_name s.text ≡ true)} (λ ts s is. is.1) (fitted_gives anything))
     (making_gives {P = λ w. Unit {0} × (is_name w.text ≡ true)} (λ ts w is. is.1) (fitted_gives anything))))))
-    (making_gives {P = λ _. Unit {0}} (λ ts a is. tt) anything)
+    (either_gives (making_gives {P = λ _. Unit {0}} (λ ts a is. tt) anything) (making_gives {P = λ _. Unit {0}} (λ ts a is. tt) anything))
 
 table_gives : Gives table IsSoundStmt
 unfolding table

@@ -48,6 +48,7 @@ option_good : (p : Procedure) (o : Opt) → IsGoodProcedure p → IsGoodProcedur
 option_good p (Opt.MinTtl n span) good = record { shown = record { name = good.shown.name; min_ttl = ttl_fits n.value; max_mss = good.shown.max_mss }; log = good.log }
 option_good p (Opt.MaxMss n span) good = record { shown = record { name = good.shown.name; min_ttl = good.shown.min_ttl; max_mss = mss_fits n.value }; log = good.log }
 option_good p (Opt.NoDf span) good = record { shown = record { name = good.shown.name; min_ttl = good.shown.min_ttl; max_mss = good.shown.max_mss }; log = good.log }
+option_good p (Opt.RandomId span) good = good
 
 options_good : (p : Procedure) (os : List Opt) → IsGoodProcedure p → IsGoodProcedure (with_options p os)
 options_good p [] good = good
@@ -57,6 +58,7 @@ call_good : (p : Procedure) (c : Call) → IsSoundCall c → IsGoodProcedure p �
 call_good p (Call.Log (LogName.Word w at) span) is good = record { shown = record { name = good.shown.name; min_ttl = good.shown.min_ttl; max_mss = good.shown.max_mss }; log = name_again w.text is }
 call_good p (Call.Log (LogName.Str s at) span) is good = record { shown = record { name = good.shown.name; min_ttl = good.shown.min_ttl; max_mss = good.shown.max_mss }; log = name_again s.text is }
 call_good p (Call.Normalize os span) is good = options_good p os good
+call_good p (Call.Route span) is good = good
 
 calls_good : (p : Procedure) (cs : List Call) → Every IsSoundCall cs → IsGoodProcedure p → IsGoodProcedure (with_calls p cs)
 calls_good p [] every good = good
@@ -67,11 +69,13 @@ options_named p [] = refl
 options_named p (Opt.MinTtl n span ∷ os) = options_named (with_option p (Opt.MinTtl n span)) os
 options_named p (Opt.MaxMss n span ∷ os) = options_named (with_option p (Opt.MaxMss n span)) os
 options_named p (Opt.NoDf span ∷ os) = options_named (with_option p (Opt.NoDf span)) os
+options_named p (Opt.RandomId span ∷ os) = options_named p os
 
 pub calls_named : (p : Procedure) (cs : List Call) → (with_calls p cs).name ≡ p.name
 calls_named p [] = refl
 calls_named p (Call.Log name span ∷ cs) = calls_named (with_call p (Call.Log name span)) cs
 calls_named p (Call.Normalize os span ∷ cs) = calls_named (with_options p os) cs ∙ options_named p os
+calls_named p (Call.Route span ∷ cs) = calls_named p cs
 
 pub procedures_meant : (stmt : Stmt) → IsSoundStmt stmt → Every (λ p. IsShowableProcedure p × IfSome p.log IsOfText) (procedures_of stmt)
 procedures_meant (Stmt.Procedure name calls span) is =
