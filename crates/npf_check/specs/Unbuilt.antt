@@ -1,7 +1,8 @@
 -- 48: what npf.conf(5) has and this project doesn't build. Told at the statement: `set` of anything but `bpf.jit` with `on` or
 -- `off`, and a parameter that has an effect with `on`, `off`, `1` or `0`; `alg` of anything but "icmp"; and a map's `algo` of
--- anything but `netmap` and `npt66`. Told at its own word: `pcap-filter` of a rule or a map, `user` and `group` of a rule, and a
--- procedure's `route` and "random-id".
+-- anything but `netmap` and `npt66`, or of a dynamic one. Told at its own word: a group's `layer-2`; `pcap-filter` of a rule or a
+-- map; `user` and `group` of a rule; a map's `no-ports`; and a procedure's `route` and "random-id". A map that is the place of
+-- dynamic maps is told at its interface.
 use Rattle.std.specs.Prelude.{Bool, true, false, not, ◌&&◌, ◌||◌, if◌then◌else◌, is_some, ℕ, Option, Some, None, List, [], ◌++◌, codes}
 use Rattle.std.specs.List.{flat_map}
 use Rattle.std.specs.Str.{bytes_eq}
@@ -10,6 +11,7 @@ use Rattle.npf_faults.specs.declared.fault.Fault.TheVariants.{Unbuilt}
 use Rattle.npf_types.specs.declared.span.Span.{Span}
 use Rattle.npf_syntax.specs.declared.filter.Filter.{Filter}
 use Rattle.npf_syntax.specs.declared.filter.Where.{Where}
+use Rattle.npf_syntax.specs.declared.group.GroupHead.{GroupHead}
 use Rattle.npf_syntax.specs.declared.group.ItemTree.{ItemTree}
 use Rattle.npf_syntax.specs.declared.group.ItemTree.TheVariants as ItemIs
 use Rattle.npf_syntax.specs.declared.map.MapKind.{MapKind}
@@ -19,6 +21,7 @@ use Rattle.npf_syntax.specs.declared.rule.RuleTree.{RuleTree}
 use Rattle.npf_syntax.specs.declared.stmt.Setting.{Setting}
 use Rattle.npf_syntax.specs.declared.stmt.Stmt.{Stmt}
 use Rattle.npf_syntax.specs.declared.stmt.Tree.{Tree}
+use Rattle.npf_syntax.specs.declared.value.IfaceTree.{IfaceTree}
 use Rattle.npf_syntax.specs.declared.word.Word.{Word}
 use Rattle.npf_faults.specs.First.{fault_at, fault_if}
 use Rattle.npf_model.specs.Settings.{parameter_named, switch_number, switch_word}
@@ -41,13 +44,26 @@ is_built_algo None = true
 is_built_algo (Some word) = bytes_eq word.text (codes "netmap") || bytes_eq word.text (codes "npt66")
 
 abbrev pub is_built_kind : MapKind → Bool
-is_built_kind (MapKind.Dynamic span) = true
-is_built_kind (MapKind.Static algo span) = is_built_algo algo
+is_built_kind (MapKind.Dynamic algo no_ports span) = not (is_some algo)
+is_built_kind (MapKind.Static algo no_ports span) = is_built_algo algo
 
 -- what stands here, if anything does
 abbrev pub unbuilt_at : Option Span → List ConfFault
 unbuilt_at None = []
 unbuilt_at (Some span) = fault_at span Unbuilt
+
+abbrev pub no_ports_of : MapKind → Option Span
+no_ports_of (MapKind.Dynamic algo no_ports span) = no_ports
+no_ports_of (MapKind.Static algo no_ports span) = no_ports
+
+abbrev pub layer_of : GroupHead → Option Span
+layer_of (GroupHead.Named name dir layer on span) = layer
+layer_of (GroupHead.Default layer span) = layer
+
+abbrev pub iface_place : IfaceTree → Span
+iface_place (IfaceTree.Word word span) = span
+iface_place (IfaceTree.Str string span) = span
+iface_place (IfaceTree.Var var span) = span
 
 abbrev pub unbuilt_in_where : Where → List ConfFault
 unbuilt_in_where (Where.PcapFilter span) = fault_at span Unbuilt
@@ -77,8 +93,9 @@ unbuilt_call (Call.Route span) = fault_at span Unbuilt
 abbrev pub unbuilt : Stmt → List ConfFault
 unbuilt (Stmt.Set name value span) = fault_if (not (is_built_setting name.text value)) span Unbuilt
 unbuilt (Stmt.Alg name span) = fault_if (not (bytes_eq name.text (codes "icmp"))) span Unbuilt
-unbuilt (Stmt.Map iface kind proto left arrow right pass span) = fault_if (not (is_built_kind kind)) span Unbuilt ++ unbuilt_in_pass pass
-unbuilt (Stmt.Group head items span) = flat_map unbuilt_item items
+unbuilt (Stmt.Map iface kind proto left arrow right pass span) = fault_if (not (is_built_kind kind)) span Unbuilt ++ unbuilt_at (no_ports_of kind) ++ unbuilt_in_pass pass
+unbuilt (Stmt.MapRuleset iface span) = fault_at (iface_place iface) Unbuilt
+unbuilt (Stmt.Group head items span) = unbuilt_at (layer_of head) ++ flat_map unbuilt_item items
 unbuilt (Stmt.Procedure name calls span) = flat_map unbuilt_call calls
 unbuilt _ = []
 

@@ -1,13 +1,15 @@
 // What isn't built of the language.
-ghost use Rattle.std.specs.Prelude.{◌≡◌};
+ghost use Rattle.std.specs.Prelude.{◌≡◌, ◌++◌, not};
 ghost use Rattle.std.specs.List.{flat_map};
-ghost use Rattle.npf_faults.specs.First.{first_fault};
-ghost use Rattle.npf_check.specs.Unbuilt.{is_built_algo, is_built_kind, is_built_setting, is_switch, is_switch_word, unbuilt, unbuilt_at, unbuilt_call, unbuilt_faults, unbuilt_in_pass, unbuilt_in_rule, unbuilt_in_where, unbuilt_item, unbuilt_option};
+ghost use Rattle.npf_faults.specs.First.{fault_if, first_fault};
+ghost use Rattle.npf_faults.specs.declared.fault.Fault.TheVariants.{Unbuilt};
+ghost use Rattle.npf_check.specs.Unbuilt.{is_built_algo, is_built_kind, is_built_setting, is_switch, is_switch_word, iface_place, layer_of, no_ports_of, unbuilt, unbuilt_at, unbuilt_call, unbuilt_faults, unbuilt_in_pass, unbuilt_in_rule, unbuilt_in_where, unbuilt_item, unbuilt_option};
 
 use npf_faults::{ConfFault, Fault, earlier, fault_if};
 use npf_model::{Parameter, switch_number, switch_word};
 use npf_syntax::{
-    Boxed, Call, Filter, ItemTree, MapKind, Opt, RuleTree, Setting, Stmt, Tree, Where, Word,
+    Boxed, Call, Filter, GroupHead, IfaceTree, ItemTree, MapKind, Opt, RuleTree, Setting, Stmt,
+    Tree, Where, Word,
 };
 use npf_types::Span;
 
@@ -40,15 +42,56 @@ fn unbuilt_stmt(stmt: &Stmt) -> Option<ConfFault>
             span,
             ..
         } => {
-            let built = is_built_kind(kind.get());
+            let in_kind = unbuilt_in_kind(kind.get(), *span);
+            earlier(in_kind, unbuilt_in_pass(pass))
+        }
+        Stmt::MapRuleset { iface, .. } => fault_if(true, iface_place(iface.get()), Fault::Unbuilt),
+        Stmt::Group { head, items, .. } => {
             earlier(
-                fault_if(!built, *span, Fault::Unbuilt),
-                unbuilt_in_pass(pass),
+                unbuilt_at(layer_of(head)),
+                unbuilt_in_items(items.as_slice()),
             )
         }
-        Stmt::Group { items, .. } => unbuilt_in_items(items.as_slice()),
         Stmt::Procedure { calls, .. } => unbuilt_in_calls(calls.as_slice()),
         _ => None,
+    }
+}
+
+fn unbuilt_in_kind(kind: &MapKind, span: Span) -> Option<ConfFault>
+    ensures { result ≡ first_fault (fault_if (not (is_built_kind kind.now)) span Unbuilt ++ unbuilt_at (no_ports_of kind.now)) }
+{
+    let built = is_built_kind(kind);
+    earlier(
+        fault_if(!built, span, Fault::Unbuilt),
+        unbuilt_at(no_ports_of(kind)),
+    )
+}
+
+fn no_ports_of(kind: &MapKind) -> Option<Span>
+    ensures { result ≡ no_ports_of kind.now }
+{
+    match kind {
+        MapKind::Dynamic { no_ports, .. } => *no_ports,
+        MapKind::Static { no_ports, .. } => *no_ports,
+    }
+}
+
+fn layer_of(head: &GroupHead) -> Option<Span>
+    ensures { result ≡ layer_of head.now }
+{
+    match head {
+        GroupHead::Named { layer, .. } => *layer,
+        GroupHead::Default { layer, .. } => *layer,
+    }
+}
+
+fn iface_place(iface: &IfaceTree) -> Span
+    ensures { result ≡ iface_place iface.now }
+{
+    match iface {
+        IfaceTree::Word { span, .. } => *span,
+        IfaceTree::Str { span, .. } => *span,
+        IfaceTree::Var { span, .. } => *span,
     }
 }
 
@@ -179,7 +222,7 @@ pub(crate) fn is_built_kind(kind: &MapKind) -> bool
     ensures { result ≡ is_built_kind kind.now }
 {
     match kind {
-        MapKind::Dynamic { .. } => true,
+        MapKind::Dynamic { algo, .. } => algo.is_none(),
         MapKind::Static { algo, .. } => is_built_algo(algo),
     }
 }

@@ -49,6 +49,7 @@ given_is_named (Stmt.Table name kind file span ∷ stmts) text = ap (λ rest. by
 given_is_named (Stmt.Define var values span ∷ stmts) text = given_is_named stmts text
 given_is_named (Stmt.Set name value span ∷ stmts) text = given_is_named stmts text
 given_is_named (Stmt.Alg name span ∷ stmts) text = given_is_named stmts text
+given_is_named (Stmt.MapRuleset iface span ∷ stmts) text = given_is_named stmts text
 given_is_named (Stmt.Map iface kind proto left arrow right pass span ∷ stmts) text = given_is_named stmts text
 given_is_named (Stmt.Group head items span ∷ stmts) text = given_is_named stmts text
 given_is_named (Stmt.Procedure name calls span ∷ stmts) text = given_is_named stmts text

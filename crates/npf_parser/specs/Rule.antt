@@ -68,9 +68,15 @@ item =
     making (λ ts a. ItemTree.Ruleset a.0 a.1.0 a.1.1 (span_of ts)) (preceded (quoted (codes "ruleset")) (name_string & optional direction & optional on))
     or making (λ ts rule. ItemTree.Rule rule (span_of ts)) rule
 
--- STRING [ dir ] [ "on" iface ] | "default"
+-- "layer-2"
+abbrev pub layer : Grammar Token Span
+layer = says (codes "layer-2") (λ span. span)
+
+-- STRING [ dir ] [ "layer-2" ] [ "on" iface ] | "default" [ "layer-2" ]
 unfoldable pub head : Grammar Token GroupHead
-head = says (codes "default") GroupHead.Default or making (λ ts a. GroupHead.Named a.0 a.1.0 a.1.1 (span_of ts)) (string & optional direction & optional on)
+head =
+    making (λ ts layer. GroupHead.Default layer (span_of ts)) (preceded (quoted (codes "default")) (optional layer))
+    or making (λ ts a. GroupHead.Named a.0 a.1.0 a.1.1.0 a.1.1.1 (span_of ts)) (string & optional direction & optional layer & optional on)
 
 -- at these an item between braces ends
 abbrev pub ends_item : Option Token → Bool

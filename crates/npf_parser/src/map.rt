@@ -1,20 +1,24 @@
 // Maps: a function for each line of the grammar.
-ghost use Rattle.std.specs.Prelude.{codes, false};
+ghost use Rattle.std.specs.Prelude.{◌≡◌, codes, false, Ok};
 ghost use Rattle.npf_phrase.specs.Grammar.{meaning, optional, preceded};
 ghost use Rattle.npf_parser_values.specs.Answer.{Answers, AnswersAlone};
 ghost use Rattle.npf_parser_values.specs.Token.{quoted, word};
 ghost use Rattle.npf_parser_values.specs.Value.{one, value};
 ghost use Rattle.npf_parser.specs.Filter.{filter};
-ghost use Rattle.npf_parser.specs.Map.{map_kind, arrow, side};
-ghost use Rattle.npf_parser.specs.Stmt.{map};
+ghost use Rattle.npf_parser.specs.Map.{no_ports, map_kind, arrow, side, map_ruleset, translation};
+ghost use Rattle.npf_parser.specs.Stmt.{map, map_stmt};
 
 use crate::filter::read_filter;
-use npf_lexer::{Sign, Token};
+use crate::rule::{direction_of, read_on};
+use npf_lexer::{Sign, Token, TokenKind};
 use npf_parser_values::{
-    Stop, ValueRole, after_word, behind_sign, behind_word, read_iface, read_one, read_value,
-    read_word, span_to,
+    Stop, ValueRole, after_word, behind_sign, behind_word, read_iface, read_one, read_string,
+    read_value, read_word, span_to,
 };
-use npf_syntax::{ArrowTree, Boxed, Filter, MapKind, One, SideTree, Stmt, Value, Word};
+use npf_syntax::{
+    ArrowTree, Boxed, Filter, IfaceTree, MapKind, One, SideTree, Stmt, Str, Value, Word,
+};
+use npf_types::Span;
 use std::alloc::Global;
 
 fn read_algo<'a>(
@@ -32,19 +36,45 @@ fn read_algo<'a>(
     }
 }
 
-#[tactic(auto, unfolding(crate::specs::Map::map_kind))]
+fn no_ports_of(tokens: &[Token]) -> (Option<Span>, &[Token])
+    ensures { (meaning (optional no_ports)).read tokens.now ≡ Ok (result.0, result.1.now) }
+{
+    match behind_word("no-ports", tokens) {
+        Some(rest) => (Some(span_to(tokens, rest)), rest),
+        None => (None, tokens),
+    }
+}
+
+#[tactic(auto, unfolding(crate::specs::Map::map_kind, crate::specs::Map::kind_details))]
 fn read_map_kind<'a>(alloc: Global, tokens: &'a [Token]) -> Result<(MapKind, &'a [Token]), Stop<'a>>
     ensures { Answers ((meaning map_kind).read tokens.now) result }
 {
     if let Some(rest) = behind_word("dynamic", tokens) {
+        let (algo, rest) = read_algo(alloc, rest)?;
+        let (no_ports, rest) = no_ports_of(rest);
         let span = span_to(tokens, rest);
-        return Ok((MapKind::Dynamic { span }, rest));
+        return Ok((
+            MapKind::Dynamic {
+                algo,
+                no_ports,
+                span,
+            },
+            rest,
+        ));
     }
     match behind_word("static", tokens) {
         Some(rest) => {
             let (algo, rest) = read_algo(alloc, rest)?;
+            let (no_ports, rest) = no_ports_of(rest);
             let span = span_to(tokens, rest);
-            Ok((MapKind::Static { algo, span }, rest))
+            Ok((
+                MapKind::Static {
+                    algo,
+                    no_ports,
+                    span,
+                },
+                rest,
+            ))
         }
         None => Err(Stop::Before(tokens)),
     }
@@ -124,7 +154,72 @@ fn read_optional_pass<'a>(
     }
 }
 
-#[tactic(auto, unfolding(crate::specs::Stmt::map))]
+// What a map that translates says behind its interface.
+#[derive(Drop)]
+pub(crate) struct Translation {
+    kind: Boxed<MapKind>,
+    proto: Option<Boxed<One>>,
+    left: Boxed<SideTree>,
+    arrow: ArrowTree,
+    right: Boxed<SideTree>,
+    pass: Option<Boxed<Filter>>,
+}
+
+impl Translation {
+    fn into_stmt(self, iface: Boxed<IfaceTree>, span: Span) -> Stmt
+        ensures { result ≡ map_stmt self.entry iface.entry span }
+    {
+        Stmt::Map {
+            iface,
+            kind: self.kind,
+            proto: self.proto,
+            left: self.left,
+            arrow: self.arrow,
+            right: self.right,
+            pass: self.pass,
+            span,
+        }
+    }
+}
+
+#[tactic(auto, unfolding(crate::specs::Map::translation))]
+fn read_translation<'a>(
+    alloc: Global,
+    tokens: &'a [Token],
+) -> Result<(Translation, &'a [Token]), Stop<'a>>
+    ensures { Answers ((meaning translation).read tokens.now) result }
+{
+    let (kind, rest) = read_map_kind(alloc, tokens)?;
+    let (proto, rest) = read_optional_proto(alloc, rest)?;
+    let (left, rest) = read_side(alloc, rest)?;
+    let (arrow, rest) = read_arrow(rest)?;
+    let (right, rest) = read_side(alloc, rest)?;
+    let (pass, rest) = read_optional_pass(alloc, rest)?;
+    let translation = Translation {
+        kind: Boxed::new(alloc, kind)?,
+        proto,
+        left: Boxed::new(alloc, left)?,
+        arrow,
+        right: Boxed::new(alloc, right)?,
+        pass,
+    };
+    Ok((translation, rest))
+}
+
+#[tactic(auto, unfolding(crate::specs::Map::map_ruleset))]
+fn read_map_ruleset<'a>(
+    alloc: Global,
+    tokens: &'a [Token],
+) -> Result<(Str, &'a [Token]), Stop<'a>>
+    ensures { Answers ((meaning map_ruleset).read tokens.now) result }
+{
+    let (name, rest) = read_string(alloc, tokens)?;
+    let (_, rest) = direction_of(rest);
+    let (_, rest) = read_on(alloc, rest)?;
+    Ok((name, rest))
+}
+
+#[tactic(auto, unfolding(crate::specs::Stmt::map, crate::specs::Map::map_ruleset))]
 pub(crate) fn read_map<'a>(
     alloc: Global,
     tokens: &'a [Token],
@@ -133,22 +228,22 @@ pub(crate) fn read_map<'a>(
 {
     let rest = after_word("map", tokens)?;
     let (iface, rest) = read_iface(alloc, rest)?;
-    let (kind, rest) = read_map_kind(alloc, rest)?;
-    let (proto, rest) = read_optional_proto(alloc, rest)?;
-    let (left, rest) = read_side(alloc, rest)?;
-    let (arrow, rest) = read_arrow(rest)?;
-    let (right, rest) = read_side(alloc, rest)?;
-    let (pass, rest) = read_optional_pass(alloc, rest)?;
-    let span = span_to(tokens, rest);
-    let map = Stmt::Map {
-        iface: Boxed::new(alloc, iface)?,
-        kind: Boxed::new(alloc, kind)?,
-        proto,
-        left: Boxed::new(alloc, left)?,
-        arrow,
-        right: Boxed::new(alloc, right)?,
-        pass,
-        span,
-    };
-    Ok((map, rest))
+    let iface = Boxed::new(alloc, iface)?;
+    match rest.first() {
+        Some(
+            Token {
+                kind: TokenKind::Str(_),
+                ..
+            },
+        ) => {
+            let (_, rest) = read_map_ruleset(alloc, rest)?;
+            let span = span_to(tokens, rest);
+            Ok((Stmt::MapRuleset { iface, span }, rest))
+        }
+        _ => {
+            let (translation, rest) = read_translation(alloc, rest)?;
+            let span = span_to(tokens, rest);
+            Ok((translation.into_stmt(iface, span), rest))
+        }
+    }
 }

@@ -85,6 +85,7 @@ procedures_meant (Stmt.Procedure name calls span) is =
 procedures_meant (Stmt.Define var values span) is = tt
 procedures_meant (Stmt.Set name value span) is = tt
 procedures_meant (Stmt.Alg name span) is = tt
+procedures_meant (Stmt.MapRuleset iface span) is = tt
 procedures_meant (Stmt.Table name kind file span) is = tt
 procedures_meant (Stmt.Map iface kind proto left arrow right pass span) is = tt
 procedures_meant (Stmt.Group head items span) is = tt
@@ -109,6 +110,7 @@ tables_meant (Stmt.Procedure name calls span) is = tt
 tables_meant (Stmt.Define var values span) is = tt
 tables_meant (Stmt.Set name value span) is = tt
 tables_meant (Stmt.Alg name span) is = tt
+tables_meant (Stmt.MapRuleset iface span) is = tt
 tables_meant (Stmt.Map iface kind proto left arrow right pass span) is = tt
 tables_meant (Stmt.Group head items span) is = tt
 
@@ -299,7 +301,7 @@ module _ (ifaces : List Iface) (fit : All (λ i. All FitsAddr i.addrs) ifaces) (
     group_meant : (counted : ℕ) (head : GroupHead) (items : List WrittenItem) → IsSoundHead head → Every IsSoundItem items
         → head_faults ifaces env declared head ++ items_faults ifaces env declared counted items ≡ [] → flat_map (tables_of_item d) items ≡ [] → flat_map (procedures_of_item p) items ≡ []
         → IsGoodGroup ifaces model (group_of_tree ifaces env declared head items)
-    group_meant counted (GroupHead.Named name dir on span) items is every none defined names =
+    group_meant counted (GroupHead.Named name dir layer on span) items is every none defined names =
         let clean = items_meant counted items every (nil_from_append_right (on_faults ifaces env on) (items_faults ifaces env declared counted items) none) defined names in
         let both = every_left (IsShowableEntry model) (IsRegularEntry ifaces model) (map (item_of_tree ifaces env declared) items) clean in (
           record { name = is; items = both.0 },
@@ -309,27 +311,29 @@ module _ (ifaces : List Iface) (fit : All (λ i. All FitsAddr i.addrs) ifaces) (
             items = both.1;
           },
         )
-    group_meant counted (GroupHead.Default span) items is every none defined names =
+    group_meant counted (GroupHead.Default layer span) items is every none defined names =
         let both = every_left (IsShowableEntry model) (IsRegularEntry ifaces model) (map (item_of_tree ifaces env declared) items) (items_meant counted items every none defined names) in
         (record { name = refl; items = both.0 }, record { head = λ _. record { name = refl; dir = refl; on = refl }; on = tt; items = both.1 })
 
     pub named_meant : (counted : ℕ) (stmt : Stmt) → IsCleanStmt ifaces declared d p env counted stmt → Every (IsGoodGroup ifaces model) (named_group ifaces declared env stmt)
-    named_meant counted (Stmt.Group (GroupHead.Named name dir on head) items span) is =
-        (group_meant counted (GroupHead.Named name dir on head) items is.sound.0 is.sound.1 is.clean is.tables is.procedures, tt)
-    named_meant counted (Stmt.Group (GroupHead.Default head) items span) is = tt
+    named_meant counted (Stmt.Group (GroupHead.Named name dir layer on head) items span) is =
+        (group_meant counted (GroupHead.Named name dir layer on head) items is.sound.0 is.sound.1 is.clean is.tables is.procedures, tt)
+    named_meant counted (Stmt.Group (GroupHead.Default layer head) items span) is = tt
     named_meant counted (Stmt.Define var values span) is = tt
     named_meant counted (Stmt.Set name value span) is = tt
     named_meant counted (Stmt.Alg name span) is = tt
+    named_meant counted (Stmt.MapRuleset iface span) is = tt
     named_meant counted (Stmt.Table name kind file span) is = tt
     named_meant counted (Stmt.Map iface kind proto left arrow right pass span) is = tt
     named_meant counted (Stmt.Procedure name calls span) is = tt
 
     pub default_meant : (counted : ℕ) (stmt : Stmt) → IsCleanStmt ifaces declared d p env counted stmt → Every (IsGoodGroup ifaces model) (default_group ifaces declared env stmt)
-    default_meant counted (Stmt.Group (GroupHead.Default head) items span) is = (group_meant counted (GroupHead.Default head) items is.sound.0 is.sound.1 is.clean is.tables is.procedures, tt)
-    default_meant counted (Stmt.Group (GroupHead.Named name dir on head) items span) is = tt
+    default_meant counted (Stmt.Group (GroupHead.Default layer head) items span) is = (group_meant counted (GroupHead.Default layer head) items is.sound.0 is.sound.1 is.clean is.tables is.procedures, tt)
+    default_meant counted (Stmt.Group (GroupHead.Named name dir layer on head) items span) is = tt
     default_meant counted (Stmt.Define var values span) is = tt
     default_meant counted (Stmt.Set name value span) is = tt
     default_meant counted (Stmt.Alg name span) is = tt
+    default_meant counted (Stmt.MapRuleset iface span) is = tt
     default_meant counted (Stmt.Table name kind file span) is = tt
     default_meant counted (Stmt.Map iface kind proto left arrow right pass span) is = tt
     default_meant counted (Stmt.Procedure name calls span) is = tt
@@ -353,5 +357,6 @@ module _ (ifaces : List Iface) (fit : All (λ i. All FitsAddr i.addrs) ifaces) (
     maps_meant counted (Stmt.Define var values span) is = tt
     maps_meant counted (Stmt.Set name value span) is = tt
     maps_meant counted (Stmt.Alg name span) is = tt
+    maps_meant counted (Stmt.MapRuleset iface span) is = tt
     maps_meant counted (Stmt.Table name kind file span) is = tt
     maps_meant counted (Stmt.Procedure name calls span) is = tt

@@ -11,7 +11,7 @@ use Rattle.npf_model.specs.declared.{iface.Iface.Iface, model.Model.Model, rule.
 use Rattle.npf_model.specs.{declared.rule.StateOpt.TheVariants.{Not, OnInterface, Everywhere}, Count.elements_of}
 use Rattle.npf_phrase.specs.Grammar.{meaning, optional, preceded, ◌&◌}
 use Rattle.npf_parser_values.specs.{Token.{string, name_string, quoted, says, span_of}, Value.iface}
-use Rattle.npf_parser.specs.Rule.{answer, action, stateful, direction, ends_walk, on, owner, rule}
+use Rattle.npf_parser.specs.Rule.{answer, action, stateful, direction, ends_walk, on, owner, rule, layer}
 use Rattle.npf_expand_values.specs.{Declarations.table_number, Iface.{iface_faults, on_iface}, Source.declared_of}
 use Rattle.npf_expand.specs.Rule.{return_of, decision_of, state_of_words, dir_of, filter_count, on_faults, rule_faults, rule_of_tree}
 use Rattle.npf_show.specs.{Bound.{dir_pieces, on_pieces}, Filter.filter_pieces, Piece.optional_pieces}
@@ -262,6 +262,18 @@ module _ (ifaces : List Iface) (model : Model) where
   bound_goes dir bound is ks here =
       let behind = onto (optional_pieces on_pieces bound) ks in
       turn (dir_goes dir behind (λ none. no_dir behind (bound_head bound ks here))) (on_goes bound is ks (λ none. no_on ks here))
+
+  no_layer : (ks : List TokenKind) → HeadIn bound_stops ks → Goes (optional layer) Anything ks ks
+  no_layer ks here = absent {g = layer} (none_is bound_stops (λ s. refl) here) tt
+
+  -- the same of a group's head, in which nothing says a layer
+  pub head_bound_goes : (dir : Option Dir) (bound : Option OnIf) → IfSome bound (IsRegularOn ifaces model) → (ks : List TokenKind) → HeadIn head_stops ks
+      → Goes (optional direction & optional layer & optional on) (λ a. (option_map dir_of a.0 ≡ dir) × (Anything a.1.0 × OnBound bound a.1.1))
+      (onto (optional_pieces dir_pieces dir) (onto (optional_pieces on_pieces bound) ks)) ks
+  head_bound_goes dir bound is ks here =
+      let behind = onto (optional_pieces on_pieces bound) ks in
+      let first = bound_head bound ks here in
+      turn (dir_goes dir behind (λ none. no_dir behind first)) (turn (no_layer behind first) (on_goes bound is ks (λ none. no_on ks here)))
 
   -- a rule begins with its decision
   decision_head : (d : Decision) (ks : List TokenKind) → HeadIn (keyword (codes "pass") ∷ keyword (codes "block") ∷ []) (onto (decision_pieces d) ks)
