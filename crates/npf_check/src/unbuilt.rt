@@ -71,8 +71,7 @@ fn no_ports_of(kind: &MapKind) -> Option<Span>
     ensures { result ≡ no_ports_of kind.now }
 {
     match kind {
-        MapKind::Dynamic { no_ports, .. } => *no_ports,
-        MapKind::Static { no_ports, .. } => *no_ports,
+        MapKind::Dynamic { no_ports, .. } | MapKind::Static { no_ports, .. } => *no_ports,
     }
 }
 
@@ -80,8 +79,7 @@ fn layer_of(head: &GroupHead) -> Option<Span>
     ensures { result ≡ layer_of head.now }
 {
     match head {
-        GroupHead::Named { layer, .. } => *layer,
-        GroupHead::Default { layer, .. } => *layer,
+        GroupHead::Named { layer, .. } | GroupHead::Default { layer, .. } => *layer,
     }
 }
 
@@ -89,9 +87,9 @@ fn iface_place(iface: &IfaceTree) -> Span
     ensures { result ≡ iface_place iface.now }
 {
     match iface {
-        IfaceTree::Word { span, .. } => *span,
-        IfaceTree::Str { span, .. } => *span,
-        IfaceTree::Var { span, .. } => *span,
+        IfaceTree::Word { span, .. } | IfaceTree::Str { span, .. } | IfaceTree::Var { span, .. } => {
+            *span
+        }
     }
 }
 

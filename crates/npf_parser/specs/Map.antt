@@ -7,12 +7,10 @@ use Rattle.npf_syntax.specs.declared.map.ArrowTree.{ArrowTree}
 use Rattle.npf_syntax.specs.declared.map.MapKind.{MapKind}
 use Rattle.npf_syntax.specs.declared.map.SideTree.{SideTree}
 use Rattle.npf_syntax.specs.declared.word.{Str.Str, Word.Word}
-use Rattle.npf_parser.specs.declared.map.Translation.{Translation}
 use Rattle.npf_phrase.specs.Grammar.{Grammar, making, ◌&◌, ◌or◌, optional, preceded, terminated}
 use Rattle.npf_parser_values.specs.declared.role.ValueRole.{ValueRole}
 use Rattle.npf_parser_values.specs.Token.{span_of, quoted, says, sign, string, word}
-use Rattle.npf_parser_values.specs.Value.{one, value}
-use Rattle.npf_parser.specs.Filter.{filter}
+use Rattle.npf_parser_values.specs.Value.{value}
 use Rattle.npf_parser.specs.Rule.{direction, on}
 
 -- "no-ports"
@@ -43,9 +41,3 @@ side = making (λ ts a. record { value = a.0; port = a.1; span = span_of ts }) (
 -- STRING [ dir ] [ "on" iface ]
 unfoldable pub map_ruleset : Grammar Token Str
 map_ruleset = terminated string (optional direction & optional on)
-
--- kind [ "proto" one ] side arrow side [ "pass" filter ]
-unfoldable pub translation : Grammar Token Translation
-translation =
-    making (λ _ a. record { kind = a.0; proto = a.1.0; left = a.1.1.0; arrow = a.1.1.1.0; right = a.1.1.1.1.0; pass = a.1.1.1.1.1 })
-    (map_kind & optional (preceded (quoted (codes "proto")) one) & side & arrow & side & optional (preceded (quoted (codes "pass")) filter))

@@ -44,6 +44,10 @@ on = preceded (quoted (codes "on")) iface
 unfoldable pub relation : Grammar Token ⊤
 relation = sign Sign.Equals or sign Sign.Exclamation or sign Sign.Less or sign Sign.Greater
 
+-- { "=" | "!" | "<" | ">" }*
+abbrev pub relations : Grammar Token ⊤
+relations = making (λ _ _. tt) (any_number relation)
+
 -- "user" | "group"
 abbrev pub owner_word : Grammar Token ⊤
 owner_word = quoted (codes "user") or quoted (codes "group")
@@ -54,7 +58,7 @@ owner_name = making (λ _ _. tt) number or making (λ _ _. tt) word
 
 -- owner = ( "user" | "group" ) { "=" | "!" | "<" | ">" }* ( WORD | NUMBER )
 unfoldable pub owner : Grammar Token Span
-owner = making (λ ts _. span_of ts) (preceded owner_word (preceded (making (λ _ _. tt) (any_number relation)) owner_name))
+owner = making (λ ts _. span_of ts) (preceded owner_word (preceded relations owner_name))
 
 -- rule = action [ "stateful" | "stateful-all" ] [ dir ] [ "final" ] [ "on" iface ] filter [ owner ] [ "apply" STRING ]
 unfoldable pub rule : Grammar Token RuleTree

@@ -10,13 +10,13 @@ use Rattle.npf_syntax.specs.declared.stmt.Stmt.{Stmt}
 use Rattle.npf_syntax.specs.declared.stmt.TableType.{TableType}
 use Rattle.npf_syntax.specs.declared.stmt.Tree.{Tree}
 use Rattle.npf_syntax.specs.declared.value.IfaceTree.{IfaceTree}
-use Rattle.npf_parser.specs.declared.map.Translation.{Translation}
 use Rattle.npf_phrase.specs.Grammar.{Grammar, meaning, making, ◌&◌, ◌or◌, optional, preceded, terminated, block_of}
 use Rattle.npf_parser_values.specs.declared.role.ValueRole.{ValueRole}
 use Rattle.npf_parser_values.specs.Token.{span_of, quoted, says, sign, separator, string, word, variable, number, name_word, text_string, is_over, end_token, text_end}
-use Rattle.npf_parser_values.specs.Value.{iface, values}
+use Rattle.npf_parser_values.specs.Value.{iface, one, values}
+use Rattle.npf_parser.specs.Filter.{filter}
 use Rattle.npf_parser.specs.Rule.{rule, head, items}
-use Rattle.npf_parser.specs.Map.{map_ruleset, translation}
+use Rattle.npf_parser.specs.Map.{map_kind, arrow, side, map_ruleset}
 use Rattle.npf_parser.specs.Procedure.{calls}
 
 -- VAR "=" ( value | vlist )
@@ -45,16 +45,23 @@ table =
     making (λ ts a. Stmt.Table a.0 a.1.0 a.1.1 (span_of ts))
     (preceded (quoted (codes "table")) (preceded (sign Sign.Less) (terminated name_word (sign Sign.Greater) & preceded (quoted (codes "type")) table_type & optional (preceded (quoted (codes "file")) text_string))))
 
--- a map that is the place of dynamic maps, and one that translates
-abbrev pub ruleset_stmt : IfaceTree → Span → Stmt
-ruleset_stmt iface span = Stmt.MapRuleset iface span
+-- what stands behind a map's interface, and makes a statement of it
+abbrev pub MapRest : Type 0
+MapRest = IfaceTree → Span → Stmt
 
-abbrev pub map_stmt : Translation → IfaceTree → Span → Stmt
-map_stmt t iface span = Stmt.Map iface t.kind t.proto t.left t.arrow t.right t.pass span
+-- STRING [ dir ] [ "on" iface ]
+abbrev pub no_translation : Grammar Token MapRest
+no_translation = making (λ _ _ iface span. Stmt.MapRuleset iface span) map_ruleset
+
+-- kind [ "proto" one ] side ( "->" | "<-" | "<->" ) side [ "pass" filter ]
+unfoldable pub translation : Grammar Token MapRest
+translation =
+    making (λ _ a iface span. Stmt.Map iface a.0 a.1.0 a.1.1.0 a.1.1.1.0 a.1.1.1.1.0 a.1.1.1.1.1 span)
+    (map_kind & optional (preceded (quoted (codes "proto")) one) & side & arrow & side & optional (preceded (quoted (codes "pass")) filter))
 
 -- "map" iface ( STRING [ dir ] [ "on" iface ] | kind [ "proto" one ] side ( "->" | "<-" | "<->" ) side [ "pass" filter ] )
 unfoldable pub map : Grammar Token Stmt
-map = making (λ ts a. a.1 a.0 (span_of ts)) (preceded (quoted (codes "map")) (iface & (making (λ _ _. ruleset_stmt) map_ruleset or making (λ _ t. map_stmt t) translation)))
+map = making (λ ts a. a.1 a.0 (span_of ts)) (preceded (quoted (codes "map")) (iface & (no_translation or translation)))
 
 -- items between braces
 abbrev pub braced : {A : Type 0} → Grammar Token A → Grammar Token A

@@ -5,8 +5,9 @@ ghost use Rattle.npf_parser_values.specs.Answer.{Answers, AnswersAlone};
 ghost use Rattle.npf_parser_values.specs.Token.{quoted, word};
 ghost use Rattle.npf_parser_values.specs.Value.{one, value};
 ghost use Rattle.npf_parser.specs.Filter.{filter};
-ghost use Rattle.npf_parser.specs.Map.{no_ports, map_kind, arrow, side, map_ruleset, translation};
-ghost use Rattle.npf_parser.specs.Stmt.{map, map_stmt};
+ghost use Rattle.npf_parser.specs.Map.{no_ports, map_kind, arrow, side, map_ruleset};
+ghost use Rattle.npf_parser.specs.Parse.{translation_behind};
+ghost use Rattle.npf_parser.specs.Stmt.{map};
 
 use crate::filter::read_filter;
 use crate::rule::{direction_of, read_on};
@@ -154,69 +155,44 @@ fn read_optional_pass<'a>(
     }
 }
 
-// What a map that translates says behind its interface.
-#[derive(Drop)]
-pub(crate) struct Translation {
-    kind: Boxed<MapKind>,
-    proto: Option<Boxed<One>>,
-    left: Boxed<SideTree>,
-    arrow: ArrowTree,
-    right: Boxed<SideTree>,
-    pass: Option<Boxed<Filter>>,
-}
-
-impl Translation {
-    fn into_stmt(self, iface: Boxed<IfaceTree>, span: Span) -> Stmt
-        ensures { result ≡ map_stmt self.entry iface.entry span }
-    {
-        Stmt::Map {
-            iface,
-            kind: self.kind,
-            proto: self.proto,
-            left: self.left,
-            arrow: self.arrow,
-            right: self.right,
-            pass: self.pass,
-            span,
-        }
-    }
-}
-
-#[tactic(auto, unfolding(crate::specs::Map::translation))]
-fn read_translation<'a>(
-    alloc: Global,
-    tokens: &'a [Token],
-) -> Result<(Translation, &'a [Token]), Stop<'a>>
-    ensures { Answers ((meaning translation).read tokens.now) result }
-{
-    let (kind, rest) = read_map_kind(alloc, tokens)?;
-    let (proto, rest) = read_optional_proto(alloc, rest)?;
-    let (left, rest) = read_side(alloc, rest)?;
-    let (arrow, rest) = read_arrow(rest)?;
-    let (right, rest) = read_side(alloc, rest)?;
-    let (pass, rest) = read_optional_pass(alloc, rest)?;
-    let translation = Translation {
-        kind: Boxed::new(alloc, kind)?,
-        proto,
-        left: Boxed::new(alloc, left)?,
-        arrow,
-        right: Boxed::new(alloc, right)?,
-        pass,
-    };
-    Ok((translation, rest))
-}
-
 #[tactic(auto, unfolding(crate::specs::Map::map_ruleset))]
-fn read_map_ruleset<'a>(
-    alloc: Global,
-    tokens: &'a [Token],
-) -> Result<(Str, &'a [Token]), Stop<'a>>
+fn read_map_ruleset<'a>(alloc: Global, tokens: &'a [Token]) -> Result<(Str, &'a [Token]), Stop<'a>>
     ensures { Answers ((meaning map_ruleset).read tokens.now) result }
 {
     let (name, rest) = read_string(alloc, tokens)?;
     let (_, rest) = direction_of(rest);
     let (_, rest) = read_on(alloc, rest)?;
     Ok((name, rest))
+}
+
+// The map whose interface stands in front of the rest of these tokens.
+#[tactic(auto, unfolding(crate::specs::Stmt::translation))]
+fn read_translation<'a>(
+    alloc: Global,
+    tokens: &[Token],
+    iface: Boxed<IfaceTree>,
+    rest: &'a [Token],
+) -> Result<(Stmt, &'a [Token]), Stop<'a>>
+    ensures { Answers (translation_behind tokens.now iface rest.now) result }
+{
+    let (kind, rest) = read_map_kind(alloc, rest)?;
+    let (proto, rest) = read_optional_proto(alloc, rest)?;
+    let (left, rest) = read_side(alloc, rest)?;
+    let (arrow, rest) = read_arrow(rest)?;
+    let (right, rest) = read_side(alloc, rest)?;
+    let (pass, rest) = read_optional_pass(alloc, rest)?;
+    let span = span_to(tokens, rest);
+    let map = Stmt::Map {
+        iface,
+        kind: Boxed::new(alloc, kind)?,
+        proto,
+        left: Boxed::new(alloc, left)?,
+        arrow,
+        right: Boxed::new(alloc, right)?,
+        pass,
+        span,
+    };
+    Ok((map, rest))
 }
 
 #[tactic(auto, unfolding(crate::specs::Stmt::map, crate::specs::Map::map_ruleset))]
@@ -230,20 +206,11 @@ pub(crate) fn read_map<'a>(
     let (iface, rest) = read_iface(alloc, rest)?;
     let iface = Boxed::new(alloc, iface)?;
     match rest.first() {
-        Some(
-            Token {
-                kind: TokenKind::Str(_),
-                ..
-            },
-        ) => {
+        Some(first) if matches!(first.kind, TokenKind::Str(_)) => {
             let (_, rest) = read_map_ruleset(alloc, rest)?;
             let span = span_to(tokens, rest);
             Ok((Stmt::MapRuleset { iface, span }, rest))
         }
-        _ => {
-            let (translation, rest) = read_translation(alloc, rest)?;
-            let span = span_to(tokens, rest);
-            Ok((translation.into_stmt(iface, span), rest))
-        }
+        _ => read_translation(alloc, tokens, iface, rest),
     }
 }

@@ -1,15 +1,13 @@
 // Rules: a function for each line of the grammar.
 ghost use Rattle.std.specs.Prelude.{◌≡◌, ◌<◌, IfSome, Ok, codes, length};
-ghost use Rattle.npf_phrase.specs.Grammar.{any_number, making, meaning, optional, preceded};
+ghost use Rattle.npf_phrase.specs.Grammar.{meaning, optional, preceded};
 ghost use Rattle.npf_parser_values.specs.Answer.{Answers, AnswersAlone, Begins, GoesOn};
 ghost use Rattle.npf_parser_values.specs.Token.{quoted, string};
-ghost use Rattle.npf_parser.specs.Rule.{answer, action, stateful, direction, ends_walk, on, relation, owner_word, owner_name, owner, rule};
+ghost use Rattle.npf_parser.specs.Rule.{answer, action, stateful, direction, ends_walk, on, relation, relations, owner_word, owner_name, owner, rule};
 
 use crate::filter::read_filter;
 use npf_lexer::{Sign, Token, TokenKind};
-use npf_parser_values::{
-    Stop, behind_sign, behind_word, read_iface, read_string, span_to,
-};
+use npf_parser_values::{Stop, behind_sign, behind_word, read_iface, read_string, span_to};
 use npf_syntax::{BlockReturn, Boxed, Direction, IfaceTree, RuleAction, RuleTree, Stateful, Str};
 use npf_types::Span;
 use std::alloc::Global;
@@ -125,7 +123,7 @@ fn behind_relation(tokens: &[Token]) -> Option<&[Token]>
 }
 
 fn behind_relations(tokens: &[Token]) -> &[Token]
-    ensures { (meaning (making (λ _ _. tt) (any_number relation))).read tokens.now ≡ Ok (tt, result.now) }
+    ensures { (meaning relations).read tokens.now ≡ Ok (tt, result.now) }
 {
     let mut rest = tokens;
     'relations: loop {

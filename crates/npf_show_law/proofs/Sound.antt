@@ -13,7 +13,8 @@ use Rattle.npf_parser_values.specs.Token.{string, word, address, flags, is_flag,
 use Rattle.npf_parser_values.specs.Value.{is_range, is_prefix, can_stand, called, function_value, ones, one_list, protocols, number_value}
 use Rattle.npf_parser_values.specs.Value.{address_value, table_value, written, value, listed_values, value_list, values}
 use Rattle.npf_parser.specs.{Filter.{flags_detail, icmp_detail, detail, proto_part, addresses, ports, ends, the_ends, filter}, Rule.{rule, item, head, items}}
-use Rattle.npf_parser.specs.{declared.map.Translation.Translation, Map.{side, map_ruleset, translation}, Procedure.{log_name, call, calls}, Stmt.{define, set, alg, table, map, group, procedure, stmt, stmts, file}}
+use Rattle.npf_parser.specs.{Map.side, Procedure.{log_name, call, calls}}
+use Rattle.npf_parser.specs.Stmt.{define, set, alg, table, MapRest, translation, map, group, procedure, stmt, stmts, file}
 use Rattle.npf_check.specs.Undefined.{table_faults}
 use Rattle.npf_show_tokens.specs.{Showable.{IsPlain, FitsAddr}, Tokens.is_run_word}
 use Rattle.npf_show_law.specs.Sound.{IsSoundKind}
@@ -298,26 +299,22 @@ table_gives =
     making_gives {P = λ a. (IsRunWord a.0 × (is_name a.0.text ≡ true)) × (Unit {0} × IfThere (λ s. IsPlainStr s × (is_utf8 s.text ≡ true)) a.1.1)} (λ ts a is. (is.0, is.1.1))
     (behind_gives (behind_gives (both_gives (before_gives (fitted_gives word_gives)) (both_gives anything (optional_behind (quoted (codes "file")) (fitted_gives string_gives))))))
 
-abbrev IsSoundTranslation : Translation → Type 0
-IsSoundTranslation t = IsSoundSide t.left × IsSoundSide t.right × IfThere IsSoundFilter t.pass
+-- what stands behind the interface makes a sound statement
+abbrev IsSoundRest : MapRest → Type 0
+IsSoundRest rest = (i : IfaceTree) (span : Span) → IsSoundStmt (rest i span)
 
-translation_gives : Gives translation IsSoundTranslation
+translation_gives : Gives translation IsSoundRest
 unfolding translation
 translation_gives =
     making_gives {P = λ a. Unit {0} × (Unit {0} × (IsSoundSide a.1.1.0 × (Unit {0} × (IsSoundSide a.1.1.1.1.0 × IfThere IsSoundFilter a.1.1.1.1.1))))}
-    (λ ts a is. (is.1.1.0, is.1.1.1.1.0, is.1.1.1.1.1))
+    (λ ts a is i span. (is.1.1.0, is.1.1.1.1.0, is.1.1.1.1.1))
     (both_gives anything (both_gives anything (both_gives side_gives (both_gives anything (both_gives side_gives (optional_behind (quoted (codes "pass")) filter_gives))))))
-
--- what stands behind the interface makes a sound statement
-abbrev IsSoundRest : (IfaceTree → Span → Stmt) → Type 0
-IsSoundRest rest = (i : IfaceTree) (span : Span) → IsSoundStmt (rest i span)
 
 map_gives : Gives map IsSoundStmt
 unfolding map
 map_gives =
     making_gives {P = λ a. Unit {0} × IsSoundRest a.1} (λ ts a is. is.1 a.0 (span_of ts))
-    (behind_gives (both_gives anything
-    (either_gives (making_gives {P = λ _. Unit {0}} (λ ts a is i span. tt) anything) (making_gives {P = IsSoundTranslation} (λ ts t is i span. is) translation_gives))))
+    (behind_gives (both_gives anything (either_gives (making_gives {P = λ _. Unit {0}} (λ ts a is i span. tt) anything) translation_gives)))
 
 group_gives : Gives group IsSoundStmt
 unfolding group items

@@ -328,7 +328,8 @@ module _ (ifaces : List Iface) (fit : All (λ i. All FitsAddr i.addrs) ifaces) (
     named_meant counted (Stmt.Procedure name calls span) is = tt
 
     pub default_meant : (counted : ℕ) (stmt : Stmt) → IsCleanStmt ifaces declared d p env counted stmt → Every (IsGoodGroup ifaces model) (default_group ifaces declared env stmt)
-    default_meant counted (Stmt.Group (GroupHead.Default layer head) items span) is = (group_meant counted (GroupHead.Default layer head) items is.sound.0 is.sound.1 is.clean is.tables is.procedures, tt)
+    default_meant counted (Stmt.Group (GroupHead.Default layer head) items span) is =
+        (group_meant counted (GroupHead.Default layer head) items is.sound.0 is.sound.1 is.clean is.tables is.procedures, tt)
     default_meant counted (Stmt.Group (GroupHead.Named name dir layer on head) items span) is = tt
     default_meant counted (Stmt.Define var values span) is = tt
     default_meant counted (Stmt.Set name value span) is = tt

@@ -12,7 +12,7 @@ use Rattle.npf_model.specs.declared.map.Algo.TheVariants as Algos
 use Rattle.npf_model.specs.declared.map.Arrow.TheVariants as Arrows
 use Rattle.npf_phrase.specs.Grammar.{meaning, optional, preceded}
 use Rattle.npf_parser_values.specs.{Token.{word, quoted, span_of}, Value.{one, value, can_stand, is_port, is_port_end}}
-use Rattle.npf_parser.specs.{Filter.filter, Map.{no_ports, kind_details, map_kind, arrow, side, map_ruleset, translation}, Stmt.{map_stmt, map}}
+use Rattle.npf_parser.specs.{Filter.filter, Map.{no_ports, kind_details, map_kind, arrow, side, map_ruleset}, Stmt.{MapRest, translation, map}}
 use Rattle.npf_expand_values.specs.{Protocol.{one_protocol, one_protocol_faults}, Source.declared_of}
 use Rattle.npf_expand.specs.{Elaborates.filter_elements, Map.{algo_of, arrow_of_sign, side_faults, side_of, side_port, side_port_faults, map_filter_faults}}
 use Rattle.npf_expand.specs.Rule.{filter_rule}
@@ -211,11 +211,12 @@ module _ (ifaces : List Iface) (model : Model) where
       ∙ onto_both w al (onto pr (onto si (onto ar (onto so (onto pa ks)))))
 
   -- what stands behind the interface says the map, whatever the interface is
-  abbrev SaysRest : Map → (WrittenIface → Span → Stmt) → Type 0
+  abbrev SaysRest : Map → MapRest → Type 0
   SaysRest m rest = (i : WrittenIface) (span : Span) → SaysOn ifaces model m.on i → SaysPartOf ifaces model (OfMap m) (rest i span)
 
-  translation_goes : (m : Map) → IsFineMap m → (ks : List TokenKind) → Goes translation (λ t. SaysRest m (map_stmt t))
-      (onto (algo_pieces m.algo) (behind_kind m.proto m.inside (onto (arrow_pieces m.arrow) (onto (side_pieces m.outside) (onto (optional_pieces (pass_pieces model) m.filter) (feed ∷ ks)))))) (feed ∷ ks)
+  translation_goes : (m : Map) → IsFineMap m → (ks : List TokenKind) → Goes translation (SaysRest m)
+      (onto (algo_pieces m.algo) (behind_kind m.proto m.inside (onto (arrow_pieces m.arrow)
+      (onto (side_pieces m.outside) (onto (optional_pieces (pass_pieces model) m.filter) (feed ∷ ks)))))) (feed ∷ ks)
   unfolding translation
   translation_goes m is ks =
       let k5 = onto (optional_pieces (pass_pieces model) m.filter) (feed ∷ ks) in
@@ -240,4 +241,4 @@ module _ (ifaces : List Iface) (model : Model) where
       subst (λ from. Goes map (SaysPartOf ifaces model (OfMap m)) from to) (sym (map_kinds m to))
       (make {P = λ a. SaysOn ifaces model m.on a.0 × SaysRest m a.1} (λ ts a q. q.1 a.0 (span_of ts) q.0)
       (said (turn (iface_goes ifaces model m.on is.on (onto (algo_pieces m.algo) k1))
-      (pick_second (no_string m.algo k1) (make {P = λ t. SaysRest m (map_stmt t)} (λ ts t q. q) (translation_goes m is ks))))))
+      (pick_second (no_string m.algo k1) (translation_goes m is ks)))))
