@@ -24,6 +24,7 @@ pub(crate) fn unbuilt_fault(tree: &Tree) -> Option<ConfFault>
     first
 }
 
+#[tactic(auto, using(crate::proofs::FaultLemmas::both_faults))]
 fn unbuilt_stmt(stmt: &Stmt) -> Option<ConfFault>
     ensures { result ≡ first_fault (unbuilt stmt.now) }
 {
@@ -57,6 +58,7 @@ fn unbuilt_stmt(stmt: &Stmt) -> Option<ConfFault>
     }
 }
 
+#[tactic(auto, using(crate::proofs::FaultLemmas::both_faults))]
 fn unbuilt_in_kind(kind: &MapKind, span: Span) -> Option<ConfFault>
     ensures { result ≡ first_fault (fault_if (not (is_built_kind kind.now)) span Unbuilt ++ unbuilt_at (no_ports_of kind.now)) }
 {
@@ -113,6 +115,7 @@ fn unbuilt_item(item: &ItemTree) -> Option<ConfFault>
 }
 
 /// The first `Unbuilt` of a rule of the text, or of one that is added to a ruleset.
+#[tactic(auto, using(crate::proofs::FaultLemmas::both_faults))]
 pub(crate) fn unbuilt_in_rule(rule: &RuleTree) -> Option<ConfFault>
     ensures { result ≡ first_fault (unbuilt_in_rule rule.now) }
 {

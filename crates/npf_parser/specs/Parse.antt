@@ -12,11 +12,11 @@ use Rattle.npf_phrase.specs.Phrase.{Reading, ◌>>=◌, front_of, head}
 use Rattle.npf_phrase.specs.Place.{StandsFirst, Stopped}
 use Rattle.npf_phrase.specs.Grammar.{Grammar, meaning, loose, IsUnfit}
 use Rattle.npf_parser_values.specs.Token.{place_of, span_of}
-use Rattle.npf_parser.specs.Stmt.{translation, file}
+use Rattle.npf_parser.specs.Stmt.{MapRest, file}
 
 -- a map that is read on behind its interface, and begins with the first of all its tokens
-abbrev pub translation_behind : List Token → IfaceTree → List Token → Reading Token Stmt
-translation_behind tokens iface rest = (meaning translation).read rest >>= (λ a. Ok (a.0 iface (span_of (front_of tokens a.1)), a.1))
+abbrev pub map_behind : Grammar Token MapRest → List Token → IfaceTree → List Token → Reading Token Stmt
+map_behind g tokens iface rest = (meaning g).read rest >>= (λ a. Ok (a.0 iface (span_of (front_of tokens a.1)), a.1))
 
 -- the tokens up to the text's end mean this
 abbrev pub Means : {A : Type 0} → Grammar Token A → List Token → A → Type 0

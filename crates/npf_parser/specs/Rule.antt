@@ -45,7 +45,7 @@ unfoldable pub relation : Grammar Token ⊤
 relation = sign Sign.Equals or sign Sign.Exclamation or sign Sign.Less or sign Sign.Greater
 
 -- { "=" | "!" | "<" | ">" }*
-abbrev pub relations : Grammar Token ⊤
+unfoldable pub relations : Grammar Token ⊤
 relations = making (λ _ _. tt) (any_number relation)
 
 -- "user" | "group"

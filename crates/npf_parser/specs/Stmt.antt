@@ -59,9 +59,13 @@ translation =
     making (λ _ a iface span. Stmt.Map iface a.0 a.1.0 a.1.1.0 a.1.1.1.0 a.1.1.1.1.0 a.1.1.1.1.1 span)
     (map_kind & optional (preceded (quoted (codes "proto")) one) & side & arrow & side & optional (preceded (quoted (codes "pass")) filter))
 
+-- STRING [ dir ] [ "on" iface ] | kind [ "proto" one ] side arrow side [ "pass" filter ]
+unfoldable pub map_rest : Grammar Token MapRest
+map_rest = no_translation or translation
+
 -- "map" iface ( STRING [ dir ] [ "on" iface ] | kind [ "proto" one ] side ( "->" | "<-" | "<->" ) side [ "pass" filter ] )
 unfoldable pub map : Grammar Token Stmt
-map = making (λ ts a. a.1 a.0 (span_of ts)) (preceded (quoted (codes "map")) (iface & (no_translation or translation)))
+map = making (λ ts a. a.1 a.0 (span_of ts)) (preceded (quoted (codes "map")) (iface & map_rest))
 
 -- items between braces
 abbrev pub braced : {A : Type 0} → Grammar Token A → Grammar Token A

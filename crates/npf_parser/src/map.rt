@@ -6,8 +6,8 @@ ghost use Rattle.npf_parser_values.specs.Token.{quoted, word};
 ghost use Rattle.npf_parser_values.specs.Value.{one, value};
 ghost use Rattle.npf_parser.specs.Filter.{filter};
 ghost use Rattle.npf_parser.specs.Map.{no_ports, map_kind, arrow, side, map_ruleset};
-ghost use Rattle.npf_parser.specs.Parse.{translation_behind};
-ghost use Rattle.npf_parser.specs.Stmt.{map};
+ghost use Rattle.npf_parser.specs.Parse.{map_behind};
+ghost use Rattle.npf_parser.specs.Stmt.{map, map_rest, translation};
 
 use crate::filter::read_filter;
 use crate::rule::{direction_of, read_on};
@@ -165,7 +165,7 @@ fn read_map_ruleset<'a>(alloc: Global, tokens: &'a [Token]) -> Result<(Str, &'a 
     Ok((name, rest))
 }
 
-// The map whose interface stands in front of the rest of these tokens.
+// The map of these tokens, whose interface stands in front of the rest.
 #[tactic(auto, unfolding(crate::specs::Stmt::translation))]
 fn read_translation<'a>(
     alloc: Global,
@@ -173,7 +173,7 @@ fn read_translation<'a>(
     iface: Boxed<IfaceTree>,
     rest: &'a [Token],
 ) -> Result<(Stmt, &'a [Token]), Stop<'a>>
-    ensures { Answers (translation_behind tokens.now iface rest.now) result }
+    ensures { Answers (map_behind translation tokens.now iface rest.now) result }
 {
     let (kind, rest) = read_map_kind(alloc, rest)?;
     let (proto, rest) = read_optional_proto(alloc, rest)?;
@@ -195,16 +195,15 @@ fn read_translation<'a>(
     Ok((map, rest))
 }
 
-#[tactic(auto, unfolding(crate::specs::Stmt::map, crate::specs::Map::map_ruleset))]
-pub(crate) fn read_map<'a>(
+#[tactic(auto, unfolding(crate::specs::Stmt::map_rest, crate::specs::Map::map_ruleset))]
+fn read_map_rest<'a>(
     alloc: Global,
-    tokens: &'a [Token],
+    tokens: &[Token],
+    iface: Boxed<IfaceTree>,
+    rest: &'a [Token],
 ) -> Result<(Stmt, &'a [Token]), Stop<'a>>
-    ensures { Answers ((meaning map).read tokens.now) result }
+    ensures { Answers (map_behind map_rest tokens.now iface rest.now) result }
 {
-    let rest = after_word("map", tokens)?;
-    let (iface, rest) = read_iface(alloc, rest)?;
-    let iface = Boxed::new(alloc, iface)?;
     match rest.first() {
         Some(first) if matches!(first.kind, TokenKind::Str(_)) => {
             let (_, rest) = read_map_ruleset(alloc, rest)?;
@@ -213,4 +212,16 @@ pub(crate) fn read_map<'a>(
         }
         _ => read_translation(alloc, tokens, iface, rest),
     }
+}
+
+#[tactic(auto, unfolding(crate::specs::Stmt::map))]
+pub(crate) fn read_map<'a>(
+    alloc: Global,
+    tokens: &'a [Token],
+) -> Result<(Stmt, &'a [Token]), Stop<'a>>
+    ensures { Answers ((meaning map).read tokens.now) result }
+{
+    let rest = after_word("map", tokens)?;
+    let (iface, rest) = read_iface(alloc, rest)?;
+    read_map_rest(alloc, tokens, Boxed::new(alloc, iface)?, rest)
 }

@@ -14,7 +14,7 @@ use Rattle.npf_parser_values.specs.Value.{is_range, is_prefix, can_stand, called
 use Rattle.npf_parser_values.specs.Value.{address_value, table_value, written, value, listed_values, value_list, values}
 use Rattle.npf_parser.specs.{Filter.{flags_detail, icmp_detail, detail, proto_part, addresses, ports, ends, the_ends, filter}, Rule.{rule, item, head, items}}
 use Rattle.npf_parser.specs.{Map.side, Procedure.{log_name, call, calls}}
-use Rattle.npf_parser.specs.Stmt.{define, set, alg, table, MapRest, translation, map, group, procedure, stmt, stmts, file}
+use Rattle.npf_parser.specs.Stmt.{define, set, alg, table, MapRest, translation, map_rest, map, group, procedure, stmt, stmts, file}
 use Rattle.npf_check.specs.Undefined.{table_faults}
 use Rattle.npf_show_tokens.specs.{Showable.{IsPlain, FitsAddr}, Tokens.is_run_word}
 use Rattle.npf_show_law.specs.Sound.{IsSoundKind}
@@ -310,11 +310,13 @@ translation_gives =
     (λ ts a is i span. (is.1.1.0, is.1.1.1.1.0, is.1.1.1.1.1))
     (both_gives anything (both_gives anything (both_gives side_gives (both_gives anything (both_gives side_gives (optional_behind (quoted (codes "pass")) filter_gives))))))
 
+map_rest_gives : Gives map_rest IsSoundRest
+unfolding map_rest
+map_rest_gives = either_gives (making_gives {P = λ _. Unit {0}} (λ ts a is i span. tt) anything) translation_gives
+
 map_gives : Gives map IsSoundStmt
 unfolding map
-map_gives =
-    making_gives {P = λ a. Unit {0} × IsSoundRest a.1} (λ ts a is. is.1 a.0 (span_of ts))
-    (behind_gives (both_gives anything (either_gives (making_gives {P = λ _. Unit {0}} (λ ts a is i span. tt) anything) translation_gives)))
+map_gives = making_gives {P = λ a. Unit {0} × IsSoundRest a.1} (λ ts a is. is.1 a.0 (span_of ts)) (behind_gives (both_gives anything map_rest_gives))
 
 group_gives : Gives group IsSoundStmt
 unfolding group items

@@ -12,7 +12,7 @@ use Rattle.npf_model.specs.declared.map.Algo.TheVariants as Algos
 use Rattle.npf_model.specs.declared.map.Arrow.TheVariants as Arrows
 use Rattle.npf_phrase.specs.Grammar.{meaning, optional, preceded}
 use Rattle.npf_parser_values.specs.{Token.{word, quoted, span_of}, Value.{one, value, can_stand, is_port, is_port_end}}
-use Rattle.npf_parser.specs.{Filter.filter, Map.{no_ports, kind_details, map_kind, arrow, side, map_ruleset}, Stmt.{MapRest, translation, map}}
+use Rattle.npf_parser.specs.{Filter.filter, Map.{no_ports, kind_details, map_kind, arrow, side, map_ruleset}, Stmt.{MapRest, translation, map_rest, map}}
 use Rattle.npf_expand_values.specs.{Protocol.{one_protocol, one_protocol_faults}, Source.declared_of}
 use Rattle.npf_expand.specs.{Elaborates.filter_elements, Map.{algo_of, arrow_of_sign, side_faults, side_of, side_port, side_port_faults, map_filter_faults}}
 use Rattle.npf_expand.specs.Rule.{filter_rule}
@@ -233,7 +233,7 @@ module _ (ifaces : List Iface) (model : Model) where
       (turn (side_goes m.outside is.outside k5 (pass_head m.filter ks)) (pass_goes m.filter is.filter ks))))))
 
   pub map_goes : (m : Map) → IsFineMap m → (ks : List TokenKind) → Goes map (SaysPartOf ifaces model (OfMap m)) (onto (map_within m) (feed ∷ ks)) (feed ∷ ks)
-  unfolding map
+  unfolding map map_rest
   map_goes m is ks =
       let to = feed ∷ ks in
       let k3 = onto (arrow_pieces m.arrow) (onto (side_pieces m.outside) (onto (optional_pieces (pass_pieces model) m.filter) to)) in
