@@ -5,7 +5,3 @@ use Rattle.npf_faults.{specs.{declared.fault.ConfFault.ConfFault, First.{earlier
 -- the earlier of the first faults of two lists
 pub joined : (xs ys : List ConfFault) (x y both : Option ConfFault) → x ≡ first_fault xs → y ≡ first_fault ys → both ≡ earlier x y → both ≡ first_fault (xs ++ ys)
 joined xs ys x y both is_x is_y is = is ∙ ap₂ earlier is_x is_y ∙ sym (first_fault-append xs ys)
-
--- the same of two lists alone
-pub both_faults : (xs ys : List ConfFault) → first_fault (xs ++ ys) ≡ earlier (first_fault xs) (first_fault ys)
-both_faults xs ys = first_fault-append xs ys

@@ -24,7 +24,7 @@ pub(crate) fn unbuilt_fault(tree: &Tree) -> Option<ConfFault>
     first
 }
 
-#[tactic(auto, using(crate::proofs::FaultLemmas::both_faults))]
+#[tactic(auto, using(crate::proofs::FaultLemmas::joined))]
 fn unbuilt_stmt(stmt: &Stmt) -> Option<ConfFault>
     ensures { result ≡ first_fault (unbuilt stmt.now) }
 {
@@ -58,7 +58,7 @@ fn unbuilt_stmt(stmt: &Stmt) -> Option<ConfFault>
     }
 }
 
-#[tactic(auto, using(crate::proofs::FaultLemmas::both_faults))]
+#[tactic(auto, using(crate::proofs::FaultLemmas::joined))]
 fn unbuilt_in_kind(kind: &MapKind, span: Span) -> Option<ConfFault>
     ensures { result ≡ first_fault (fault_if (not (is_built_kind kind.now)) span Unbuilt ++ unbuilt_at (no_ports_of kind.now)) }
 {
@@ -89,9 +89,8 @@ fn iface_place(iface: &IfaceTree) -> Span
     ensures { result ≡ iface_place iface.now }
 {
     match iface {
-        IfaceTree::Word { span, .. } | IfaceTree::Str { span, .. } | IfaceTree::Var { span, .. } => {
-            *span
-        }
+        IfaceTree::Word { span, .. } | IfaceTree::Str { span, .. } | IfaceTree::Var { span, .. } =>
+            { *span }
     }
 }
 
@@ -115,14 +114,11 @@ fn unbuilt_item(item: &ItemTree) -> Option<ConfFault>
 }
 
 /// The first `Unbuilt` of a rule of the text, or of one that is added to a ruleset.
-#[tactic(auto, using(crate::proofs::FaultLemmas::both_faults))]
+#[tactic(auto, using(crate::proofs::FaultLemmas::joined))]
 pub(crate) fn unbuilt_in_rule(rule: &RuleTree) -> Option<ConfFault>
     ensures { result ≡ first_fault (unbuilt_in_rule rule.now) }
 {
-    earlier(
-        unbuilt_in_where(&rule.filter.ends),
-        unbuilt_at(rule.owner),
-    )
+    earlier(unbuilt_in_where(&rule.filter.ends), unbuilt_at(rule.owner))
 }
 
 fn unbuilt_in_pass(pass: &Option<Boxed<Filter>>) -> Option<ConfFault>

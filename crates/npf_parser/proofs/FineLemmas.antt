@@ -9,14 +9,14 @@ use Rattle.npf_parser.specs.Procedure.{log_name, opt, options, call, calls}
 use Rattle.npf_parser.specs.Stmt.{define, setting, set, alg, table_type, table, translation, map_rest, map, group, procedure, stmt, stmts, file, lone_rule}
 
 pub file_fine : fine (loose file) ≡ true
-unfolding file stmts stmt set setting alg table table_type map map_rest map_ruleset translation map_kind kind_details side arrow group head items item procedure calls call options opt log_name define rule
-    action answer stateful direction ends_walk on relation relations owner filter family proto_part detail the_ends ends ports addresses protocols one_list ones one values
+unfolding file stmts stmt set setting alg table table_type map map_rest map_ruleset translation map_kind kind_details side arrow group head items item procedure calls call options opt log_name
+    define rule action answer stateful direction ends_walk on relation relations owner filter family proto_part detail the_ends ends ports addresses protocols one_list ones one values
     value_list listed_values value written number_value address_value table_value function function_value iface
 file_fine = refl
 
 pub file_ends : (meaning (loose file)).more None ≡ false
-unfolding file stmts stmt set setting alg table table_type map map_rest map_ruleset translation map_kind kind_details side arrow group head items item procedure calls call options opt log_name define rule
-    action answer stateful direction ends_walk on relation relations owner filter family proto_part detail the_ends ends ports addresses protocols one_list ones one values
+unfolding file stmts stmt set setting alg table table_type map map_rest map_ruleset translation map_kind kind_details side arrow group head items item procedure calls call options opt log_name
+    define rule action answer stateful direction ends_walk on relation relations owner filter family proto_part detail the_ends ends ports addresses protocols one_list ones one values
     value_list listed_values value written number_value address_value table_value function function_value iface
 file_ends = refl
 

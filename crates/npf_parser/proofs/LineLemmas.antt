@@ -49,8 +49,8 @@ unfolding stmt set setting alg table table_type map map_rest map_ruleset transla
 next_stmt_advances = refl
 
 pub file_advances : advances file ≡ true
-unfolding file stmts stmt set setting alg table table_type map map_rest map_ruleset translation map_kind kind_details side arrow group head items item procedure calls call options opt log_name define rule
-    action answer stateful direction ends_walk on relation relations owner filter family proto_part detail the_ends ends ports addresses protocols one_list ones one values
+unfolding file stmts stmt set setting alg table table_type map map_rest map_ruleset translation map_kind kind_details side arrow group head items item procedure calls call options opt log_name
+    define rule action answer stateful direction ends_walk on relation relations owner filter family proto_part detail the_ends ends ports addresses protocols one_list ones one values
     value_list listed_values value written number_value address_value table_value function function_value iface
 file_advances = refl
 

@@ -1,5 +1,4 @@
 -- A map is read on behind its interface.
-use Rattle.std.specs.Bool.{⊤}
 use Rattle.std.proofs.Common.{◌≡◌, Ok, Err, List, codes, refl}
 use Rattle.npf_lexer.specs.declared.token.Token.{Token}
 use Rattle.npf_syntax.specs.declared.value.IfaceTree.{IfaceTree}
