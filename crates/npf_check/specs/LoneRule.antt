@@ -14,6 +14,7 @@ use Rattle.npf_syntax.specs.declared.filter.EndsTree.TheVariants as EndsAre
 use Rattle.npf_syntax.specs.declared.filter.Where.{Where}
 use Rattle.npf_syntax.specs.declared.rule.RuleTree.{RuleTree}
 use Rattle.npf_syntax.specs.declared.value.Value.{Value}
+use Rattle.npf_syntax.specs.declared.value.Values.{Values}
 use Rattle.npf_syntax.specs.declared.word.Str.{Str}
 use Rattle.npf_model.specs.declared.ends.AddrItem.{AddrItem}
 use Rattle.npf_model.specs.declared.ends.AddrItem.TheVariants.{Net, InTable}
@@ -51,6 +52,8 @@ unknown_among values items = flat_map unknown_table (zip (table_places values) (
 
 abbrev pub written_values : Addresses → List Value
 written_values (Written.Any span) = []
+written_values (Written.Excluded (Values.One value _) span) = value ∷ []
+written_values (Written.Excluded (Values.List list _) span) = list.values
 written_values (Written.One value span) = value ∷ []
 written_values (Written.List list span) = list.values
 

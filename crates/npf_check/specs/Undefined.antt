@@ -34,6 +34,7 @@ module _ (is_defined : List ℕ → Bool) where
 
   abbrev pub tables_of_addresses : Addresses → List ConfFault
   tables_of_addresses (Written.Any span) = []
+  tables_of_addresses (Written.Excluded values span) = tables_of_values values
   tables_of_addresses (Written.One value span) = table_faults value
   tables_of_addresses (Written.List list span) = flat_map table_faults list.values
 

@@ -9,7 +9,7 @@ use crate::unbuilt::unbuilt_in_rule;
 use crate::written_rule::rule_fault;
 use npf_faults::{ConfFault, Fault, earlier, fault_if};
 use npf_model::{AddrItem, Ends, Rule};
-use npf_syntax::{Addresses, Boxed, EndsTree as Written, RuleTree, Str, Value, Where};
+use npf_syntax::{Addresses, Boxed, EndsTree as Written, RuleTree, Str, Value, Values, Where};
 use npf_types::Span;
 
 /// The number that a rule has for a table or a procedure that isn't there.
@@ -93,16 +93,24 @@ fn unknown_in_addresses(addresses: &Addresses, items: &[AddrItem]) -> Option<Con
 {
     match addresses {
         Addresses::Any { .. } => None,
-        Addresses::One { value, .. } => {
-            let mut left = TablesLeft {
-                first: None,
-                rest: items,
-            };
-            left.pass(value);
-            left.first
-        }
+        Addresses::Excluded { values, .. } => match values {
+            Values::One { value, .. } => unknown_alone(value, items),
+            Values::List { list, .. } => unknown_among(list.values.as_slice(), items),
+        },
+        Addresses::One { value, .. } => unknown_alone(value, items),
         Addresses::List { list, .. } => unknown_among(list.values.as_slice(), items),
     }
+}
+
+fn unknown_alone(value: &Value, items: &[AddrItem]) -> Option<ConfFault>
+    ensures { result ≡ first_fault (unknown_among (value.now ∷ []) items.now) }
+{
+    let mut left = TablesLeft {
+        first: None,
+        rest: items,
+    };
+    left.pass(value);
+    left.first
 }
 
 fn unknown_among(values: &[Value], items: &[AddrItem]) -> Option<ConfFault>

@@ -121,6 +121,7 @@ fn table_in_addresses(tables: &Names, addresses: &Addresses) -> Option<ConfFault
 {
     match addresses {
         Addresses::Any { .. } => None,
+        Addresses::Excluded { values, .. } => table_in_values(tables, values),
         Addresses::One { value, .. } => table_in_value(tables, value),
         Addresses::List { list, .. } => table_in_list(tables, list.values.as_slice()),
     }

@@ -34,10 +34,11 @@ detail = flags_detail or icmp_detail
 unfoldable pub proto_part : Grammar Token ProtoPart
 proto_part = making (λ ts a. record { protocols = a.0; detail = a.1; span = span_of ts }) (preceded (quoted (codes "proto")) (protocols & optional detail))
 
--- "any" | value | vlist
+-- "any" | [ "!" ] ( value | vlist )
 unfoldable pub addresses : Grammar Token Addresses
 addresses =
     says (codes "any") Addresses.Any
+    or making (λ ts values. Addresses.Excluded values (span_of ts)) (preceded (sign Sign.Exclamation) (values ValueRole.Address))
     or making (λ ts list. Addresses.List list (span_of ts)) (value_list ValueRole.Address)
     or making (λ ts v. Addresses.One v (span_of ts)) (value ValueRole.Address false)
 
@@ -45,7 +46,7 @@ addresses =
 unfoldable pub ports : Grammar Token Values
 ports = preceded (quoted (codes "port")) (values ValueRole.Port)
 
--- ends = ( "any" | value | vlist ) [ "port" ( value | vlist ) ] | "port" ( value | vlist )
+-- ends = ( "any" | [ "!" ] ( value | vlist ) ) [ "port" ( value | vlist ) ] | "port" ( value | vlist )
 unfoldable pub ends : Grammar Token EndsTree
 ends =
     making (λ ts ports. EndsTree.Ports ports (span_of ts)) ports

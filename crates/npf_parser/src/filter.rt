@@ -145,6 +145,11 @@ fn read_addresses<'a>(
         let span = span_to(tokens, rest);
         return Ok((Addresses::Any { span }, rest));
     }
+    if let Some(rest) = behind_sign(Sign::Exclamation, tokens) {
+        let (values, rest) = read_values(alloc, ValueRole::Address, rest)?;
+        let span = span_to(tokens, rest);
+        return Ok((Addresses::Excluded { values, span }, rest));
+    }
     match behind_sign(Sign::OpenBrace, tokens) {
         Some(_) => {
             let (list, rest) = read_value_list(alloc, ValueRole::Address, tokens)?;

@@ -185,6 +185,7 @@ part_gives =
 
 abbrev pub AreSoundAddresses : Addresses → Type 0
 AreSoundAddresses (Addresses.Any span) = Unit {0}
+AreSoundAddresses (Addresses.Excluded values span) = AreSoundValues values
 AreSoundAddresses (Addresses.One v span) = IsSoundValue v
 AreSoundAddresses (Addresses.List list span) = Every IsSoundValue list.values
 
@@ -202,7 +203,8 @@ addresses_give : Gives addresses AreSoundAddresses
 unfolding addresses
 addresses_give =
     either_gives (making_gives {P = λ _. Unit {0}} (λ ts a is. tt) anything)
-    (either_gives (making_gives (λ ts list is. is) (value_list_gives _)) (making_gives (λ ts v is. is) (value_gives _ false)))
+    (either_gives (making_gives (λ ts values is. is) (behind_gives (values_give _)))
+    (either_gives (making_gives (λ ts list is. is) (value_list_gives _)) (making_gives (λ ts v is. is) (value_gives _ false))))
 
 ports_give : Gives ports AreSoundPorts
 unfolding ports

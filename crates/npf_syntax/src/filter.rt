@@ -42,10 +42,11 @@ pub struct ProtoPart {
     pub span: Span,
 }
 
-/// The addresses of an end: any, one value, or a list of values. A written value is an address, a table, a variable or a function.
+/// The addresses of an end: any, one value, a list of values, or all others than those of a value or of a list. A written value is an address, a table, a variable or a function.
 #[derive(Debug, Drop)]
 pub enum Addresses {
     Any { span: Span },
+    Excluded { values: Values, span: Span },
     One { value: Value, span: Span },
     List { list: ValueList, span: Span },
 }
