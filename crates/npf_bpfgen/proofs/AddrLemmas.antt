@@ -1,18 +1,19 @@
 -- The tests of addresses.
-use Rattle.std.proofs.Common.{◌≡◌, ℕ, suc, ◌+◌, ◌-◌, ◌<◌, ◌≤◌, Bool, true, false, List, [], ◌∷◌, ◌++◌, length, get_or, drop, Some, None, refl, sym, ap, subst, ◌∙◌, arith}
-use Rattle.std.{specs.{List.{list_any, sum_by}, Prelude.{◌/◌, ◌%◌, ◌^◌, ◌*◌, ◌==◌, ◌&&◌, if◌then◌else◌, min, nat_le, nat_lt}}, proofs.Math.Nat.min-le_right}
-use Rattle.std.proofs.lemmas.{Bool.{eq-eqb, le-leb, lt-leb}, List.Sums.sum_by-drop_more}
+use Rattle.std.proofs.Common.{append_assoc, ◌≡◌, ℕ, suc, ◌+◌, ◌-◌, ◌<◌, ◌≤◌, Bool, true, false, List, [], ◌∷◌, ◌++◌, length, get_or, drop, Some, None, refl, sym, ap, subst, ◌∙◌, arith}
+use Rattle.std.{specs.{List.{list_any, sum_by}, Prelude.{◌/◌, ◌%◌, ◌^◌, ◌*◌, ◌==◌, ◌&&◌, ◌||◌, if◌then◌else◌, min, nat_le, nat_lt, not}}, proofs.Math.{Nat.min-le_right, Seq.drop-length}}
+use Rattle.std.proofs.lemmas.{Bool.{eq-eqb, le-leb, lt-leb}, List.{length-append, Sums.sum_by-drop_more}}
 use Rattle.npf_types.specs.{declared.{address.Addr.{Addr, TheVariants.{V4, V6}}, facts.Facts.Facts}, Address.{first_bits, shares_first}}
 use Rattle.npf_fields.specs.Field.{number32, number64, number128}
-use Rattle.npf_model.specs.{declared.ends.AddrItem.{AddrItem, TheVariants.{Net, InTable}}, Describes.{Tables, fits_addrs, item_has, table_has}}
+use Rattle.npf_model.specs.{declared.ends.AddrItem.{AddrItem, TheVariants.{Net, InTable}}, Describes.{Tables, fits_addrs, is_v6, item_allows, item_has, list_allows, table_has}}
 use Rattle.npf_packet.specs.{PacketField.HasIpHeader, Place.least_ip_header}
 use Rattle.npf_bpf.specs.{declared.insn.Insn.Insn, Coprocessor.Coprocessor}
 use Rattle.npf_bpfgen.specs.declared.endpoint.Endpoint.{Endpoint, TheVariants.{Source, Destination}}
 use Rattle.npf_bpfgen.specs.Endpoint.{address_of, asked_table, ipv4_place, ipv6_place}
-use Rattle.npf_bpfgen.specs.Instruction.{ask_member, first_bits_of_half, first_bits_of_word, if_equal, jump, load_constant, load_memory, shift_right}
-use Rattle.npf_bpfgen.specs.{Premise.{AreBytes, BranchesOnPacket, GuardsPacket, Tells, header_words, ip_version}, ProgramLength.{block_length, item_length}}
-use Rattle.npf_bpfgen.{specs.Tail.{Extends, Yields}, proofs.StepLemmas.{asks_member, equal, forget, is_equal, is_unequal, loads_version, loads_word, shifts}}
-use Rattle.npf_bpfgen.proofs.TailLemmas.{any_more, member_extended, member_guards}
+use Rattle.npf_bpfgen.specs.Instruction.{ask_member, first_bits_of_half, first_bits_of_word, if_equal, jump, load_constant, load_memory, return_number, shift_right}
+use Rattle.npf_bpfgen.specs.{Condition.allows_family, Premise.{AreBytes, BranchesOnPacket, GuardsPacket, Tells, header_words, ip_version}, ProgramLength.{block_length, item_length}}
+use Rattle.npf_bpfgen.{specs.Tail.{Extends, Guards, Yields}, proofs.StepLemmas.{asks_member, equal, forget, is_equal, is_unequal, loads_version, loads_word, returns, shifts}}
+use Rattle.npf_bpfgen.proofs.ProgramLemmas.{guards_both}
+use Rattle.npf_bpfgen.proofs.TailLemmas.{any_more, extended, grown, member_extended, member_guards, over_return}
 use Rattle.npf_bpfgen.proofs.WordLemmas.{eq_turned, number32_below, number64_below, shared_by_words, shifted_word, word_loaded}
 
 both_chosen : (a b : Bool) (x y : ℕ) → (if a then (if b then x else y) else y) ≡ (if a && b then x else y)
@@ -224,12 +225,12 @@ some_of_item (InTable table) = omega arith
 pub items_more : (e : Endpoint) (items : List AddrItem) (left more over : ℕ) (d : AddrItem) (base tail new : List Insn)
     → more ≡ left + 1 → left < length items
     → Extends (1 + sum_by item_length (drop more items)) 1 base tail
-    → GuardsPacket (λ tables facts. fits_addrs (Some (drop more items)) tables (address_of e facts)) base tail
+    → GuardsPacket (λ tables facts. fits_addrs false (Some (drop more items)) tables (address_of e facts)) base tail
     → over ≡ length tail - length base
     → Extends (item_length (get_or items left d) - 1) 2 (jump over ∷ tail) new
     → BranchesOnPacket (λ tables facts. item_has tables (address_of e facts) (get_or items left d)) (jump over ∷ tail) new
     → Extends (1 + sum_by item_length (drop left items)) 1 base new
-    × GuardsPacket (λ tables facts. fits_addrs (Some (drop left items)) tables (address_of e facts)) base new
+    × GuardsPacket (λ tables facts. fits_addrs false (Some (drop left items)) tables (address_of e facts)) base new
 items_more e items left more over d base tail new next within front guards distance item branches =
     let n : ℕ = 1 + sum_by item_length (drop more items) in
     let m : ℕ = item_length (get_or items left d) - 1 in
@@ -246,3 +247,80 @@ items_more e items left more over d base tail new next within front guards dista
           (item_has tables (address_of e facts) (get_or items left d))
           (guards p cop tables facts seen) (branches p cop tables facts seen) x y),
     )
+
+-- where an item of an excluded list has the address, 0 is returned
+absent_chosen : (test b : Bool) (x : ℕ) → (if test then 0 else (if not b then x else 0)) ≡ (if not (test || b) then x else 0)
+absent_chosen true b x = refl
+absent_chosen false b x = refl
+
+-- behind the end of a list no item has the address
+pub none_absent : (e : Endpoint) (items : List AddrItem) (old : List Insn)
+    → GuardsPacket (λ tables facts. not (list_any (item_has tables (address_of e facts)) (drop (length items) items))) old old
+none_absent e items old = λ p cop tables facts seen x y.
+    subst (λ (xs : List AddrItem). Yields p cop (header_words facts) None old 0 (if not (list_any (item_has tables (address_of e facts)) xs) then x else 0))
+    (sym (drop-length items)) y
+
+-- one more item of an excluded list
+pub absent_more : (e : Endpoint) (items : List AddrItem) (left more : ℕ) (d : AddrItem) (base tail new : List Insn)
+    → more ≡ left + 1 → left < length items
+    → Extends (sum_by item_length (drop more items)) 1 base tail
+    → GuardsPacket (λ tables facts. not (list_any (item_has tables (address_of e facts)) (drop more items))) base tail
+    → Extends (item_length (get_or items left d) - 1) 2 (return_number 0 ∷ tail) new
+    → BranchesOnPacket (λ tables facts. item_has tables (address_of e facts) (get_or items left d)) (return_number 0 ∷ tail) new
+    → Extends (sum_by item_length (drop left items)) 1 base new
+    × GuardsPacket (λ tables facts. not (list_any (item_has tables (address_of e facts)) (drop left items))) base new
+absent_more e items left more d base tail new next within front guards item branches =
+    let n : ℕ = sum_by item_length (drop more items) in
+    let m : ℕ = item_length (get_or items left d) - 1 in
+    let some : 1 ≤ item_length (get_or items left d) = some_of_item (get_or items left d) in
+    let sum : sum_by item_length (drop left items) ≡ item_length (get_or items left d) + sum_by item_length (drop more items) =
+    sum_by-drop_more item_length items left d within
+    ∙ ap (λ (k : ℕ). item_length (get_or items left d) + sum_by item_length (drop k items)) (sym next) in
+    let returned = extended (return_number 0 ∷ []) tail (return_number 0 ∷ tail) 1 1 refl refl refl in (
+      record {
+        front = item.front ++ return_number 0 ∷ front.front;
+        is = item.is ∙ ap (λ (t : List Insn). item.front ++ return_number 0 ∷ t) front.is ∙ sym (append_assoc item.front (return_number 0 ∷ front.front) base);
+        size = omega (arith, item.size, front.size, length-append item.front (return_number 0 ∷ front.front), sum, some);
+        valid = λ some_base valid.
+            item.valid (omega (arith, grown base tail n 1 front, some_base))
+            (returned.valid (omega (arith, grown base tail n 1 front, some_base)) (front.valid some_base valid));
+      },
+      λ p cop tables facts seen x y.
+          let h : ℕ × ℕ × ℕ = header_words facts in
+          let has : AddrItem → Bool = item_has tables (address_of e facts) in
+          let rest : ℕ = if not (list_any has (drop more items)) then x else 0 in
+          subst (λ (t : Bool). Yields p cop h None new 0 (if not t then x else 0))
+          (sym (any_more has items left more d (omega (arith, next)) within))
+          (subst (Yields p cop h None new 0) (absent_chosen (has (get_or items left d)) (list_any has (drop more items)) x)
+          (branches p cop tables facts seen 0 rest (returns p cop h tail 0 None 0)
+          (over_return p cop h None tail rest (guards p cop tables facts seen x y)))),
+    )
+
+-- both ends of a packet are of one family
+same_family : (p : List ℕ) (e : Endpoint) (src dst : Addr) (upper proto : ℕ) → HasIpHeader p 0 upper proto src dst
+    → is_v6 (chosen_address e src dst) ≡ is_v6 src
+same_family p Source src dst upper proto has = refl
+same_family p Destination (V4 s) (V4 d) upper proto has = refl
+same_family p Destination (V6 s) (V6 d) upper proto has = refl
+same_family p Destination (V4 s) (V6 d) upper proto has = absurd has
+same_family p Destination (V6 s) (V4 d) upper proto has = absurd has
+
+listed_families : (items : List AddrItem) (v6 : Bool)
+    → (if v6 then list_any (item_allows true) items else list_any (item_allows false) items) ≡ list_allows v6 (Some items)
+listed_families items true = refl
+listed_families items false = refl
+
+-- the families of an excluded list in front of its items
+pub excluded_guards : (e : Endpoint) (items : List AddrItem) (old mid new : List Insn)
+    → GuardsPacket (λ tables facts. not (list_any (item_has tables (address_of e facts)) items)) old mid
+    → GuardsPacket (λ tables facts. allows_family (list_any (item_allows false) items) (list_any (item_allows true) items) facts.src) mid new
+    → GuardsPacket (λ tables facts. fits_addrs true (Some items) tables (address_of e facts)) old new
+excluded_guards e items old mid new absent families =
+    guards_both (λ tables facts. list_allows (is_v6 (address_of e facts)) (Some items))
+    (λ tables facts. not (list_any (item_has tables (address_of e facts)) items)) old mid new absent
+    (λ p cop tables facts seen.
+    let version : is_v6 (address_of e facts) ≡ is_v6 facts.src =
+    ap is_v6 (address_is e facts) ∙ same_family p e facts.src facts.dst (header_words facts).1 facts.proto seen.packet.fields.header in
+    subst (λ (t : Bool). Guards p cop (header_words facts) None t mid new)
+    (listed_families items (is_v6 facts.src) ∙ ap (λ (v6 : Bool). list_allows v6 (Some items)) (sym version))
+    (families p cop tables facts seen))

@@ -1,13 +1,13 @@
 -- The tests of the header words: the family and the protocols.
 use Rattle.std.proofs.Common.{◌≡◌, ◌≢◌, ℕ, ◌+◌, Bool, true, false, List, [], ◌∷◌, ◌++◌, Some, None, refl, sym, ap, subst, ◌∙◌, suc, ◌-◌, ◌<◌, length, get_or, drop, arith}
-use Rattle.std.specs.{List.list_any, Prelude.{◌==◌, ◌*◌, if◌then◌else◌}}
+use Rattle.std.specs.{List.list_any, Prelude.{◌==◌, ◌*◌, if◌then◌else◌, not}}
 use Rattle.npf_types.specs.declared.address.Addr.{Addr, TheVariants.{V4, V6}}
 use Rattle.npf_model.specs.Describes.{fits_family, fits_protocol}
 use Rattle.npf_bpf.specs.declared.insn.Insn.{Insn}
 use Rattle.npf_bpfgen.specs.{Instruction.{if_equal, jump, load_memory, return_number}, Premise.{GuardsPacket, header_words, ip_version}}
-use Rattle.npf_bpfgen.specs.{ProgramLength.protocols_length, Tail.{Yields, Extends, BranchesOnNumber, GuardsNumber}}
+use Rattle.npf_bpfgen.specs.{Condition.allows_family, ProgramLength.protocols_length, Tail.{Yields, Extends, BranchesOnNumber, GuardsNumber}}
 use Rattle.npf_bpfgen.proofs.StepLemmas.{equal, forget, loads_protocol, loads_version, returns}
-use Rattle.npf_bpfgen.proofs.{TailLemmas.{any_more, extended, member_extended, member_guards}, WordLemmas.eq_turned}
+use Rattle.npf_bpfgen.proofs.{TailLemmas.{any_more, extended, member_extended, member_guards, none_guards}, WordLemmas.eq_turned}
 
 -- the number that stands for a family
 abbrev pub version_of_family : Bool → ℕ
@@ -35,6 +35,36 @@ family_guards v6 version old new of_family is = λ p cop tables facts seen x y.
     (ap (λ (n : ℕ). ip_version facts.src == n) of_family ∙ tells_family v6 facts.src)
     (loads_version p cop h (if_equal version 1 0 ∷ behind) (if h.0 == version then x else 0) None
     (equal p cop h behind x 0 h.0 version 1 0 at_true at_false)))
+
+-- one family may be, both or none
+allows_one : (v6 : Bool) (addr : Addr) → fits_family (Some v6) addr ≡ allows_family (not v6) v6 addr
+allows_one true (V4 a) = refl
+allows_one true (V6 a) = refl
+allows_one false (V4 a) = refl
+allows_one false (V6 a) = refl
+
+allows_both : (addr : Addr) → allows_family true true addr ≡ true
+allows_both (V4 a) = refl
+allows_both (V6 a) = refl
+
+allows_none : (addr : Addr) → allows_family false false addr ≡ false
+allows_none (V4 a) = refl
+allows_none (V6 a) = refl
+
+pub version_allows : (v6 : Bool) (old new : List Insn) → GuardsPacket (λ tables facts. fits_family (Some v6) facts.src) old new
+    → GuardsPacket (λ tables facts. allows_family (not v6) v6 facts.src) old new
+version_allows v6 old new guards = λ p cop tables facts seen x y.
+    subst (λ (t : Bool). Yields p cop (header_words facts) None new 0 (if t then x else 0)) (allows_one v6 facts.src) (guards p cop tables facts seen x y)
+
+pub both_allowed : (old : List Insn) → GuardsPacket (λ tables facts. allows_family true true facts.src) old old
+both_allowed old = λ p cop tables facts seen x y.
+    subst (λ (t : Bool). Yields p cop (header_words facts) None old 0 (if t then x else 0)) (sym (allows_both facts.src)) y
+
+pub none_allowed : (old new : List Insn) → new ≡ return_number 0 ∷ old
+    → GuardsPacket (λ tables facts. allows_family false false facts.src) old new
+none_allowed old new is = λ p cop tables facts seen x y.
+    subst (λ (t : Bool). Yields p cop (header_words facts) None new 0 (if t then x else 0)) (sym (allows_none facts.src))
+    (none_guards p cop (header_words facts) None old new is x y)
 
 -- a protocol of a list
 pub protocol_branches : (proto : ℕ) (old new : List Insn) → new ≡ if_equal proto 0 1 ∷ old

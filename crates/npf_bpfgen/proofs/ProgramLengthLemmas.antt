@@ -1,10 +1,10 @@
 -- A program is no longer than its rule weighs.
 use Rattle.std.{proofs.Common.{ℕ, ◌+◌, ◌≤◌, Bool, true, false, Option, Some, None, List, [], ◌∷◌, length, arith}, specs.Prelude.{◌*◌, if◌then◌else◌}}
-use Rattle.std.{specs.List.sum_by, proofs.lemmas.List.Sums.sum_by-cons}
+use Rattle.std.{specs.List.{list_any, sum_by}, proofs.lemmas.List.Sums.sum_by-cons}
 use Rattle.npf_types.specs.declared.{address.Addr.{Addr, TheVariants.{V4, V6}}, decision.Decision.Decision}
-use Rattle.npf_model.specs.{declared.{ends.{AddrItem.{AddrItem, TheVariants.{Net, InTable}}, Ends.Ends}, rule.{Rule.Rule, StateOpt.StateOpt}}, Count.listed}
+use Rattle.npf_model.specs.{declared.{ends.{AddrItem.{AddrItem, TheVariants.{Net, InTable}}, Ends.Ends}, rule.{Rule.Rule, StateOpt.StateOpt}}, Count.listed, Describes.item_allows}
 use Rattle.npf_bpfgen.specs.Condition.{asks_opening}
-use Rattle.npf_bpfgen.specs.ProgramLength.{addrs_length, block_length, ends_length, family_length, flags_length, icmp_length, item_length, ports_length, program_length, protocols_length}
+use Rattle.npf_bpfgen.specs.ProgramLength.{addrs_length, block_length, ends_length, families_length, family_length, flags_length, icmp_length, item_length, ports_length, program_length, protocols_length}
 use Rattle.npf_bpfgen.specs.RuleWeight.{block_weight, ends_weight, item_weight, items_weight, weight_of}
 
 most_of_family : (v6 : Option Bool) → family_length v6 ≤ 3
@@ -41,16 +41,25 @@ most_of_items [] = omega arith
 most_of_items (item ∷ items) =
     omega (arith, most_of_item item, most_of_items items, sum_by-cons item_length item items, sum_by-cons item_weight item items)
 
-most_of_addrs : (addrs : Option (List AddrItem)) → addrs_length addrs ≤ 1 + items_weight addrs
-most_of_addrs None = omega arith
-most_of_addrs (Some items) = omega (arith, most_of_items items)
+most_of_families : (v4 v6 : Bool) → families_length v4 v6 ≤ 3
+most_of_families true true = omega arith
+most_of_families true false = omega arith
+most_of_families false true = omega arith
+most_of_families false false = omega arith
+
+most_of_addrs : (excluded : Bool) (addrs : Option (List AddrItem)) → addrs_length excluded addrs ≤ 3 + items_weight addrs
+most_of_addrs true None = omega arith
+most_of_addrs false None = omega arith
+most_of_addrs false (Some items) = omega (arith, most_of_items items)
+most_of_addrs true (Some items) =
+    omega (arith, most_of_items items, most_of_families (list_any (item_allows false) items) (list_any (item_allows true) items))
 
 most_of_ports : (ports : Option (List (ℕ × ℕ))) → ports_length ports ≤ 7 + 6 * listed ports
 most_of_ports None = omega arith
 most_of_ports (Some ranges) = omega arith
 
-most_of_ends : (ends : Ends) → ends_length ends ≤ 8 + ends_weight ends
-most_of_ends ends = omega (arith, most_of_addrs ends.addrs, most_of_ports ends.ports)
+most_of_ends : (ends : Ends) → ends_length ends ≤ 10 + ends_weight ends
+most_of_ends ends = omega (arith, most_of_addrs ends.excluded ends.addrs, most_of_ports ends.ports)
 
 pub length_weighs : (rule : Rule) → program_length rule ≤ weight_of rule
 length_weighs rule =

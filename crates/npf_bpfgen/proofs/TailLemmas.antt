@@ -158,6 +158,11 @@ pub any_more : {X : Type 0} (test : X → Bool) (xs : List X) (left more : ℕ) 
 any_more {X} test xs left more d next within =
     ap (list_any test) (drop-cons xs left d within ∙ ap (λ (n : ℕ). get_or xs left d ∷ drop n xs) (sym next))
 
+-- behind an instruction that returns, the rest goes on
+pub over_return : (p : List ℕ) (cop : Coprocessor) (header : ℕ × ℕ × ℕ) (a : Option ℕ) (tail : List Insn) (x : ℕ)
+    → Yields p cop header a tail 0 x → Yields p cop header a (return_number 0 ∷ tail) 1 x
+over_return p cop header a tail x y = λ s ready known. value_behind (return_number 0 ∷ []) tail 0 s p cop ∙ y s ready known
+
 -- at the end of a list none of its members has held
 pub none_guards : (p : List ℕ) (cop : Coprocessor) (header : ℕ × ℕ × ℕ) (a : Option ℕ) (old new : List Insn)
     → new ≡ return_number 0 ∷ old → Guards p cop header a false old new

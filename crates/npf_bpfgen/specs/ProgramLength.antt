@@ -1,7 +1,7 @@
 -- How many instructions the program of a rule has: one that begins it and one that ends it, and in between those that test each of
 -- the rule's conditions. A condition that the rule doesn't have takes none.
-use Rattle.std.specs.Prelude.{ℕ, ◌+◌, ◌*◌, Bool, Option, Some, None, List, [], ◌∷◌, length, if◌then◌else◌}
-use Rattle.std.specs.List.{sum_by}
+use Rattle.std.specs.Prelude.{ℕ, ◌+◌, ◌*◌, Bool, true, false, Option, Some, None, List, [], ◌∷◌, length, if◌then◌else◌}
+use Rattle.std.specs.List.{list_any, sum_by}
 use Rattle.npf_types.specs.declared.address.Addr.{Addr}
 use Rattle.npf_types.specs.declared.address.Addr.TheVariants.{V4, V6}
 use Rattle.npf_types.specs.declared.decision.Decision.{Decision}
@@ -10,6 +10,7 @@ use Rattle.npf_model.specs.declared.ends.AddrItem.TheVariants.{Net, InTable}
 use Rattle.npf_model.specs.declared.ends.Ends.{Ends}
 use Rattle.npf_model.specs.declared.rule.Rule.{Rule}
 use Rattle.npf_model.specs.declared.rule.StateOpt.{StateOpt}
+use Rattle.npf_model.specs.Describes.{item_allows}
 use Rattle.npf_bpfgen.specs.Condition.{asks_opening}
 
 -- the version is loaded and compared, and 0 returned
@@ -33,7 +34,8 @@ icmp_length None = 0
 icmp_length (Some (kind, None)) = 12
 icmp_length (Some (kind, Some code)) = 15
 
--- an IPv6 address is compared word by word, a table asked by the coprocessor; behind each stands a jump over the rest of its list
+-- an IPv6 address is compared word by word, a table asked by the coprocessor; behind each stands a jump over the rest of its list, or 0 is
+-- returned there
 abbrev pub block_length : Addr → ℕ
 block_length (V4 _) = 6
 block_length (V6 _) = 15
@@ -42,10 +44,17 @@ abbrev pub item_length : AddrItem → ℕ
 item_length (Net prefix) = block_length prefix.addr
 item_length (InTable _) = 4
 
--- a list of addresses, behind which 0 is returned
-abbrev pub addrs_length : Option (List AddrItem) → ℕ
-addrs_length None = 0
-addrs_length (Some items) = 1 + sum_by item_length items
+-- where some family has no item of an excluded list, the version is tested; where none has any, 0 is returned
+abbrev pub families_length : Bool → Bool → ℕ
+families_length true true = 0
+families_length false false = 1
+families_length _ _ = 3
+
+-- a list of addresses, behind which 0 is returned, or, where it is excluded, behind each of whose items 0 is returned
+abbrev pub addrs_length : Bool → Option (List AddrItem) → ℕ
+addrs_length excluded None = 0
+addrs_length false (Some items) = 1 + sum_by item_length items
+addrs_length true (Some items) = families_length (list_any (item_allows false) items) (list_any (item_allows true) items) + sum_by item_length items
 
 -- 6 load the port of TCP or UDP, 3 test each range, and 0 is returned
 abbrev pub ports_length : Option (List (ℕ × ℕ)) → ℕ
@@ -53,7 +62,7 @@ ports_length None = 0
 ports_length (Some ranges) = 7 + 3 * length ranges
 
 abbrev pub ends_length : Ends → ℕ
-ends_length ends = addrs_length ends.addrs + ports_length ends.ports
+ends_length ends = addrs_length ends.excluded ends.addrs + ports_length ends.ports
 
 abbrev pub program_length : Rule → ℕ
 program_length rule =

@@ -2,12 +2,12 @@
 //
 // First bits are compared behind a shift, an IPv6 prefix's word by word. A shift by 32 leaves 0, so a prefix of length 0 needs no case; for
 // that each byte has to be below 256.
-ghost use Rattle.std.specs.Prelude.{◌≡◌, ◌≤◌, ◌<◌, ◌+◌, ◌-◌, ◌^◌, ◌/◌, ◌%◌, OnOk, Option, Some, All, length, min};
+ghost use Rattle.std.specs.Prelude.{◌≡◌, ◌≤◌, ◌<◌, ◌+◌, ◌-◌, ◌^◌, ◌/◌, ◌%◌, OnOk, Option, Some, All, false, length, min, not, true};
 ghost use Rattle.std.specs.List.{list_any, sum_by};
 ghost use Rattle.npf_types.specs.Address.{first_bits, shares_first};
 ghost use Rattle.npf_types.specs.declared.address.Addr.TheVariants.{V4, V6};
 ghost use Rattle.npf_types.specs.Prefix.{has_address};
-ghost use Rattle.npf_model.specs.Describes.{fits_addrs, item_has, table_has};
+ghost use Rattle.npf_model.specs.Describes.{fits_addrs, item_allows, item_has, table_has};
 ghost use Rattle.npf_bpfgen.specs.Condition.{HasItemNumber};
 ghost use Rattle.npf_bpfgen.specs.Endpoint.{address_of};
 ghost use Rattle.npf_bpfgen.specs.Premise.{BranchesOnPacket, GuardsPacket};
@@ -16,7 +16,7 @@ ghost use Rattle.npf_bpfgen.specs.Instruction.{first_bits_of_half, first_bits_of
 ghost use Rattle.npf_bpfgen.specs.ProgramLength.{addrs_length, block_length, item_length};
 
 use crate::endpoint::Endpoint;
-use crate::header::VERSION;
+use crate::header::{VERSION, put_families};
 use crate::instruction::{if_equal, shift_right};
 use crate::tail::Tail;
 use npf_bpf::Operation::{AskMember, Jump, LoadAbsolute, LoadConstant, LoadMemory, ReturnConstant};
@@ -26,10 +26,10 @@ use npf_types::{Addr, NoMemory, Prefix};
 
 /// Tests that some item of the list has the endpoint's address.
 pub fn put_addrs(tail: &mut Tail, endpoint: Endpoint, items: &[AddrItem]) -> Result<(), NoMemory>
-    requires room { length tail.old + addrs_length (Some items.now) ≤ 4096 }
+    requires room { length tail.old + addrs_length false (Some items.now) ≤ 4096 }
     requires numbers { All HasItemNumber items.now }
-    ensures front { OnOk result (Extends (addrs_length (Some items.now)) 1 tail.old tail.new) }
-    ensures value { OnOk result (GuardsPacket (λ tables facts. fits_addrs (Some items.now) tables (address_of endpoint facts)) tail.old tail.new) }
+    ensures front { OnOk result (Extends (addrs_length false (Some items.now)) 1 tail.old tail.new) }
+    ensures value { OnOk result (GuardsPacket (λ tables facts. fits_addrs false (Some items.now) tables (address_of endpoint facts)) tail.old tail.new) }
 {
     let behind = tail.len();
     tail.put(&[ReturnConstant(0)])?;
@@ -38,6 +38,38 @@ pub fn put_addrs(tail: &mut Tail, endpoint: Endpoint, items: &[AddrItem]) -> Res
         left -= 1;
         let over = (tail.len() - behind) as u32;
         tail.put(&[Jump(over)])?;
+        put_item(tail, endpoint, items[left])?;
+    }
+    Ok(())
+}
+
+/// Tests that the endpoint's address is of a family that some item of the list can have, and that no item has it.
+pub fn put_excluded(tail: &mut Tail, endpoint: Endpoint, items: &[AddrItem]) -> Result<(), NoMemory>
+    requires numbers { All HasItemNumber items.now }
+    ensures front { OnOk result (Extends (addrs_length true (Some items.now)) 1 tail.old tail.new) }
+    ensures value { OnOk result (GuardsPacket (λ tables facts. fits_addrs true (Some items.now) tables (address_of endpoint facts)) tail.old tail.new) }
+{
+    put_absent(tail, endpoint, items)?;
+    put_families(tail, some_allow(items, false), some_allow(items, true))?;
+    Ok(())
+}
+
+fn some_allow(items: &[AddrItem], v6: bool) -> bool
+    ensures { result ≡ list_any (item_allows v6) items.now }
+{
+    items.iter().any(|item| item.allows(v6))
+}
+
+// Tests that no item of the list has the endpoint's address.
+fn put_absent(tail: &mut Tail, endpoint: Endpoint, items: &[AddrItem]) -> Result<(), NoMemory>
+    requires { All HasItemNumber items.now }
+    ensures front { OnOk result (Extends (sum_by item_length items.now) 1 tail.old tail.new) }
+    ensures value { OnOk result (GuardsPacket (λ tables facts. not (list_any (item_has tables (address_of endpoint facts)) items.now)) tail.old tail.new) }
+{
+    let mut left = items.len();
+    while left > 0 {
+        left -= 1;
+        tail.put(&[ReturnConstant(0)])?;
         put_item(tail, endpoint, items[left])?;
     }
     Ok(())

@@ -1,9 +1,10 @@
 // Tests of the header words that the coprocessor tells: the family and the protocol.
-ghost use Rattle.std.specs.Prelude.{◌≡◌, ◌≤◌, ◌+◌, ◌*◌, ◌==◌, OnOk, List, length, if◌then◌else◌};
+ghost use Rattle.std.specs.Prelude.{◌≡◌, ◌≤◌, ◌+◌, ◌*◌, ◌==◌, OnOk, List, false, length, not, if◌then◌else◌};
 ghost use Rattle.std.specs.List.{list_any};
 ghost use Rattle.npf_model.specs.Describes.{fits_family, fits_protocol};
 ghost use Rattle.npf_bpfgen.specs.Premise.{GuardsPacket};
-ghost use Rattle.npf_bpfgen.specs.ProgramLength.{family_length, protocols_length};
+ghost use Rattle.npf_bpfgen.specs.Condition.{allows_family};
+ghost use Rattle.npf_bpfgen.specs.ProgramLength.{families_length, family_length, protocols_length};
 ghost use Rattle.npf_bpfgen.specs.Tail.{BranchesOnNumber, Extends, GuardsNumber};
 
 use crate::instruction::if_equal;
@@ -30,9 +31,31 @@ pub fn put_family(tail: &mut Tail, v6: Option<bool>) -> Result<(), NoMemory>
     }
 }
 
+/// Tests that the packet is of a family of which it is told that it may be.
+pub fn put_families(tail: &mut Tail, v4: bool, v6: bool) -> Result<(), NoMemory>
+    ensures front { OnOk result (Extends (families_length v4 v6) 1 tail.old tail.new) }
+    ensures value { OnOk result (GuardsPacket (λ tables facts. allows_family v4 v6 facts.src) tail.old tail.new) }
+{
+    match (v4, v6) {
+        (true, true) => Ok(()),
+        (true, false) => put_version(tail, false),
+        (false, true) => put_version(tail, true),
+        (false, false) => put_refusal(tail),
+    }
+}
+
+fn put_refusal(tail: &mut Tail) -> Result<(), NoMemory>
+    ensures front { OnOk result (Extends 1 1 tail.old tail.new) }
+    ensures value { OnOk result (GuardsPacket (λ tables facts. allows_family false false facts.src) tail.old tail.new) }
+{
+    tail.put(&[ReturnConstant(0)])?;
+    Ok(())
+}
+
 fn put_version(tail: &mut Tail, v6: bool) -> Result<(), NoMemory>
     ensures front { OnOk result (Extends 3 1 tail.old tail.new) }
     ensures value { OnOk result (GuardsPacket (λ tables facts. fits_family (Some v6) facts.src) tail.old tail.new) }
+    ensures one { OnOk result (GuardsPacket (λ tables facts. allows_family (not v6) v6 facts.src) tail.old tail.new) }
 {
     tail.put(&[
         LoadMemory(VERSION),

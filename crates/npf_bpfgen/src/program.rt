@@ -11,7 +11,7 @@ ghost use Rattle.npf_bpfgen.specs.Tail.{Extends, IsValidEnd};
 ghost use Rattle.npf_bpfgen.specs.ProgramLength.{addrs_length, ends_length, ports_length, program_length};
 ghost use Rattle.npf_bpfgen.specs.RuleWeight.{HasShortLists, weight_of};
 
-use crate::addr::put_addrs;
+use crate::addr::{put_addrs, put_excluded};
 use crate::endpoint::Endpoint;
 use crate::fault::GenFault;
 use crate::flag::put_flags;
@@ -79,7 +79,7 @@ fn put_ends(tail: &mut Tail, endpoint: Endpoint, ends: &Ends) -> Result<(), NoMe
     ensures value { OnOk result (GuardsPacket (λ tables facts. fits_ends ends.now tables (address_of endpoint facts) (port_of endpoint facts.l4)) tail.old tail.new) }
 {
     put_listed_ports(tail, endpoint, &ends.ports)?;
-    put_listed_addrs(tail, endpoint, &ends.addrs)?;
+    put_listed_addrs(tail, endpoint, ends.excluded, &ends.addrs)?;
     Ok(())
 }
 
@@ -101,14 +101,16 @@ fn put_listed_ports(
 fn put_listed_addrs(
     tail: &mut Tail,
     endpoint: Endpoint,
+    excluded: bool,
     addrs: &Option<List<AddrItem>>,
 ) -> Result<(), NoMemory>
     requires tables { HasItemNumbers addrs.now }
-    requires room { length tail.old + addrs_length addrs.now ≤ 4096 }
-    ensures front { OnOk result (Extends (addrs_length addrs.now) 1 tail.old tail.new) }
-    ensures value { OnOk result (GuardsPacket (λ tables facts. fits_addrs addrs.now tables (address_of endpoint facts)) tail.old tail.new) }
+    requires room { length tail.old + addrs_length excluded addrs.now ≤ 4096 }
+    ensures front { OnOk result (Extends (addrs_length excluded addrs.now) 1 tail.old tail.new) }
+    ensures value { OnOk result (GuardsPacket (λ tables facts. fits_addrs excluded addrs.now tables (address_of endpoint facts)) tail.old tail.new) }
 {
     match addrs {
+        Some(items) if excluded => put_excluded(tail, endpoint, items.as_slice()),
         Some(items) => put_addrs(tail, endpoint, items.as_slice()),
         None => Ok(()),
     }

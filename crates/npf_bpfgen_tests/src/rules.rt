@@ -34,6 +34,7 @@ fn pass_all(alloc: Global) -> Rule {
 
 fn any() -> Ends {
     Ends {
+        excluded: false,
         addrs: None,
         ports: None,
     }

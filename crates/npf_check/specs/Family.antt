@@ -1,14 +1,11 @@
 -- 44: no address family is left for a rule, told at the rule. Its families are the one behind `family`, or both, less those of which
--- a list of addresses behind `from` or `to` has no element; a list with a table, defined or not, takes none away.
+-- a list of addresses behind `from` or `to`, excluded or not, has no element; a list with a table, defined or not, takes none away.
 use Rattle.std.specs.Prelude.{Bool, true, false, not, ◌&&◌, ◌||◌, Option, Some, None, List}
-use Rattle.std.specs.List.{list_any}
 use Rattle.npf_types.specs.declared.span.Span.{Span}
 use Rattle.npf_faults.specs.declared.fault.ConfFault.{ConfFault}
 use Rattle.npf_faults.specs.declared.fault.Fault.TheVariants.{FamilyMix}
-use Rattle.npf_model.specs.declared.ends.AddrItem.{AddrItem}
-use Rattle.npf_model.specs.declared.ends.AddrItem.TheVariants.{Net, InTable}
 use Rattle.npf_model.specs.declared.rule.Rule.{Rule}
-use Rattle.npf_model.specs.Describes.{fits_family}
+use Rattle.npf_model.specs.Describes.{list_allows}
 use Rattle.npf_faults.specs.First.{fault_if}
 
 -- families are told as rules tell them: IPv6 is `true`
@@ -16,16 +13,6 @@ abbrev pub asks_for : Option Bool → Bool → Bool
 asks_for None family = true
 asks_for (Some true) family = family
 asks_for (Some false) family = not family
-
--- the element is of the family, or a table
-abbrev pub item_allows : Bool → AddrItem → Bool
-item_allows family (Net prefix) = fits_family (Some family) prefix.addr
-item_allows family (InTable number) = true
-
--- an absent list takes no family away
-abbrev pub list_allows : Bool → Option (List AddrItem) → Bool
-list_allows family None = true
-list_allows family (Some items) = list_any (item_allows family) items
 
 abbrev pub leaves_family : Rule → Bool → Bool
 leaves_family rule family = asks_for rule.v6 family && list_allows family rule.from.addrs && list_allows family rule.to.addrs

@@ -1,4 +1,4 @@
--- 42 to 45 of one rule that stands in no text, as one that is added to a ruleset, beside what it
+-- 42 to 45 and 48 of one rule that stands in no text, as one that is added to a ruleset, beside what it
 -- means. A rule without variables means as many tables as are written in it, in the same order, and
 -- each by its number: 4,294,967,295 where nothing has the name.
 use Rattle.std.specs.Prelude.{ℕ, ◌==◌, Option, Some, None, List, [], ◌∷◌, ◌++◌, zip}
@@ -14,11 +14,13 @@ use Rattle.npf_syntax.specs.declared.filter.EndsTree.TheVariants as EndsAre
 use Rattle.npf_syntax.specs.declared.filter.Where.{Where}
 use Rattle.npf_syntax.specs.declared.rule.RuleTree.{RuleTree}
 use Rattle.npf_syntax.specs.declared.value.Value.{Value}
+use Rattle.npf_syntax.specs.declared.value.Values.{Values}
 use Rattle.npf_syntax.specs.declared.word.Str.{Str}
 use Rattle.npf_model.specs.declared.ends.AddrItem.{AddrItem}
 use Rattle.npf_model.specs.declared.ends.AddrItem.TheVariants.{Net, InTable}
 use Rattle.npf_model.specs.declared.ends.Ends.{Ends}
 use Rattle.npf_model.specs.declared.rule.Rule.{Rule}
+use Rattle.npf_check.specs.Unbuilt.{unbuilt_in_rule}
 use Rattle.npf_check.specs.WrittenRule.{faults_of_rule}
 
 -- the number of a table or a procedure that isn't there
@@ -50,6 +52,8 @@ unknown_among values items = flat_map unknown_table (zip (table_places values) (
 
 abbrev pub written_values : Addresses → List Value
 written_values (Written.Any span) = []
+written_values (Written.Excluded (Values.One value _) span) = value ∷ []
+written_values (Written.Excluded (Values.List list _) span) = list.values
 written_values (Written.One value span) = value ∷ []
 written_values (Written.List list span) = list.values
 
@@ -68,6 +72,7 @@ unknown_in_target (Some ends) meant = unknown_in_ends ends meant
 abbrev pub unknown_in_where : Where → Rule → List ConfFault
 unknown_in_where (Where.All span) rule = []
 unknown_in_where (Where.From from to span) rule = unknown_in_ends from rule.from ++ unknown_in_target to rule.to
+unknown_in_where (Where.PcapFilter span) rule = []
 unknown_in_where (Where.To to span) rule = unknown_in_ends to rule.to
 
 abbrev pub unknown_applied : Option Str → Option ℕ → List ConfFault
@@ -80,3 +85,4 @@ lone_faults tree rule =
     unknown_in_where tree.filter.ends rule
     ++ unknown_applied tree.apply rule.procedure
     ++ faults_of_rule tree.span rule
+    ++ unbuilt_in_rule tree

@@ -34,6 +34,7 @@ module _ (is_defined : List ℕ → Bool) where
 
   abbrev pub tables_of_addresses : Addresses → List ConfFault
   tables_of_addresses (Written.Any span) = []
+  tables_of_addresses (Written.Excluded values span) = tables_of_values values
   tables_of_addresses (Written.One value span) = table_faults value
   tables_of_addresses (Written.List list span) = flat_map table_faults list.values
 
@@ -48,6 +49,7 @@ module _ (is_defined : List ℕ → Bool) where
   abbrev pub tables_of_where : Where → List ConfFault
   tables_of_where (Where.All span) = []
   tables_of_where (Where.From from to span) = tables_of_ends from ++ tables_of_target to
+  tables_of_where (Where.PcapFilter span) = []
   tables_of_where (Where.To to span) = tables_of_ends to
 
   abbrev pub tables_of_pass : Option Filter → List ConfFault

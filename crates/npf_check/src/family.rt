@@ -1,12 +1,12 @@
 // A rule has an address family left.
 ghost use Rattle.std.specs.Prelude.{◌≡◌};
-ghost use Rattle.std.specs.List.{list_any};
 ghost use Rattle.npf_faults.specs.First.{first_fault};
-ghost use Rattle.npf_check.specs.Family.{asks_for, family_faults, item_allows, leaves_family, list_allows};
+ghost use Rattle.npf_model.specs.Describes.{list_allows};
+ghost use Rattle.npf_check.specs.Family.{asks_for, family_faults, leaves_family};
 
 use npf_faults::{ConfFault, Fault, fault_if};
 use npf_model::{AddrItem, Rule};
-use npf_types::{Addr, List, Span};
+use npf_types::{List, Span};
 
 /// `FamilyMix`, where no family is left for the rule at this place.
 pub(crate) fn family_fault(span: Span, rule: &Rule) -> Option<ConfFault>
@@ -37,24 +37,6 @@ fn list_allows(v6: bool, addrs: &Option<List<AddrItem>>) -> bool
 {
     match addrs {
         None => true,
-        Some(items) => some_allows(v6, items.as_slice()),
-    }
-}
-
-fn some_allows(v6: bool, items: &[AddrItem]) -> bool
-    ensures { result ≡ list_any (item_allows v6) items.now }
-{
-    items.iter().any(|item| item_allows(v6, item))
-}
-
-fn item_allows(v6: bool, item: &AddrItem) -> bool
-    ensures { result ≡ item_allows v6 item.now }
-{
-    match item {
-        AddrItem::Net(prefix) => match prefix.addr {
-            Addr::V4(_) => !v6,
-            Addr::V6(_) => v6,
-        },
-        AddrItem::InTable(_) => true,
+        Some(items) => items.as_slice().iter().any(|item| item.allows(v6)),
     }
 }

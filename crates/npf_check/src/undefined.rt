@@ -87,7 +87,7 @@ fn table_in_where(tables: &Names, ends: &Where) -> Option<ConfFault>
     ensures { result ≡ first_fault (tables_of_where (holds tables.now) ends.now) }
 {
     match ends {
-        Where::All { .. } => None,
+        Where::All { .. } | Where::PcapFilter { .. } => None,
         Where::From { from, to, .. } => {
             earlier(
                 table_in_ends(tables, from.get()),
@@ -121,6 +121,7 @@ fn table_in_addresses(tables: &Names, addresses: &Addresses) -> Option<ConfFault
 {
     match addresses {
         Addresses::Any { .. } => None,
+        Addresses::Excluded { values, .. } => table_in_values(tables, values),
         Addresses::One { value, .. } => table_in_value(tables, value),
         Addresses::List { list, .. } => table_in_list(tables, list.values.as_slice()),
     }

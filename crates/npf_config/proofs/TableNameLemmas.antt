@@ -49,6 +49,7 @@ given_is_named (Stmt.Table name kind file span ∷ stmts) text = ap (λ rest. by
 given_is_named (Stmt.Define var values span ∷ stmts) text = given_is_named stmts text
 given_is_named (Stmt.Set name value span ∷ stmts) text = given_is_named stmts text
 given_is_named (Stmt.Alg name span ∷ stmts) text = given_is_named stmts text
+given_is_named (Stmt.MapRuleset iface span ∷ stmts) text = given_is_named stmts text
 given_is_named (Stmt.Map iface kind proto left arrow right pass span ∷ stmts) text = given_is_named stmts text
 given_is_named (Stmt.Group head items span ∷ stmts) text = given_is_named stmts text
 given_is_named (Stmt.Procedure name calls span ∷ stmts) text = given_is_named stmts text
@@ -147,6 +148,8 @@ module _ (names : List (List ℕ)) (is_defined : List ℕ → Bool) (is_among : 
   module _ (ifaces : List Iface) (env : Env) (all : NamesDefined env) where
     addresses_numbers : (addresses : Addresses) → tables_of_addresses is_defined addresses ≡ [] → HasItemNumbers (address_items ifaces env names addresses)
     addresses_numbers (Written.Any span) none = tt
+    addresses_numbers (Written.Excluded (Values.One value _) span) none = addresses_numbers (Written.One value span) none
+    addresses_numbers (Written.Excluded (Values.List list _) span) none = addresses_numbers (Written.List list span) none
     addresses_numbers (Written.One value span) none = all_numbers (spliced ifaces env (value ∷ [])) (values_defined ifaces env all (value ∷ []) (append-nil (table_faults is_defined value) ∙ none))
     addresses_numbers (Written.List list span) none = all_numbers (spliced ifaces env list.values) (values_defined ifaces env all list.values none)
 
@@ -158,11 +161,13 @@ module _ (names : List (List ℕ)) (is_defined : List ℕ → Bool) (is_among : 
     source_clean : (ends : Where) → tables_of_where is_defined ends ≡ [] → tables_of_target is_defined (source_ends ends) ≡ []
     source_clean (Where.All span) none = refl
     source_clean (Where.From from to span) none = front (tables_of_ends is_defined from) (tables_of_target is_defined to) none
+    source_clean (Where.PcapFilter span) none = refl
     source_clean (Where.To to span) none = refl
 
     destination_clean : (ends : Where) → tables_of_where is_defined ends ≡ [] → tables_of_target is_defined (destination_ends ends) ≡ []
     destination_clean (Where.All span) none = refl
     destination_clean (Where.From from to span) none = back (tables_of_ends is_defined from) (tables_of_target is_defined to) none
+    destination_clean (Where.PcapFilter span) none = refl
     destination_clean (Where.To to span) none = none
 
     pub rule_numbers : (declared : Declared) → declared.tables ≡ names → (rule : RuleTree) → tables_of_where is_defined rule.filter.ends ≡ []

@@ -3,7 +3,7 @@ use Rattle.std.proofs.Common.{◌≡◌, ◌==◌, ◌+◌, ◌||◌, ℕ, Bool,
 use Rattle.std.specs.{List.{flat_map, list_any, zip}, Str.bytes_eq}
 use Rattle.npf_types.specs.declared.address.Addr.{Addr}
 use Rattle.npf_faults.specs.{declared.fault.Fault.TheVariants.UnknownTable, First.fault_if}
-use Rattle.npf_syntax.specs.declared.{filter.{Addresses.Addresses, EndsTree.EndsTree as WrittenEnds, Where.Where}, value.Value.Value}
+use Rattle.npf_syntax.specs.declared.{filter.{Addresses.Addresses, EndsTree.EndsTree as WrittenEnds, Where.Where}, value.{Value.Value, Values.Values}}
 use Rattle.npf_syntax.specs.declared.filter.Addresses.TheVariants as Written
 use Rattle.npf_syntax.specs.declared.filter.EndsTree.TheVariants as EndsAre
 use Rattle.npf_model.specs.{declared.{ends.AddrItem.AddrItem, iface.Iface.Iface, rule.Rule.Rule}, Verdict.first_where}
@@ -76,6 +76,8 @@ module _ (names : List (List ℕ)) (ifaces : List Iface) where
 
   addresses_named : (addresses : Addresses) → unknown_in_addresses addresses (address_items ifaces alone names addresses) ≡ [] → tables_of_addresses (is_among names) addresses ≡ []
   addresses_named (Written.Any span) none = refl
+  addresses_named (Written.Excluded (Values.One value _) span) none = addresses_named (Written.One value span) none
+  addresses_named (Written.Excluded (Values.List list _) span) none = addresses_named (Written.List list span) none
   addresses_named (Written.One value span) none = front (table_faults (is_among names) value) [] (values_named (value ∷ []) none)
   addresses_named (Written.List list span) none = values_named list.values none
 
@@ -93,4 +95,5 @@ module _ (names : List (List ℕ)) (ifaces : List Iface) where
       let one = ends_named (Some source) (ap (unknown_in_ends source) (sym from) ∙ front here there none) in
       let other = ends_named target (ap (unknown_in_target target) (sym to) ∙ back here there none) in
       ap (λ faults. faults ++ tables_of_target (is_among names) target) one ∙ other
+  where_named (Where.PcapFilter span) rule from to none = refl
   where_named (Where.To target span) rule from to none = ends_named (Some target) (ap (unknown_in_ends target) (sym to) ∙ none)

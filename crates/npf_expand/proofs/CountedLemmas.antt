@@ -59,6 +59,7 @@ items_few tables (atom ∷ atoms) =
 module _ (ifaces : List Iface) (env : Env) (tables : List (List ℕ)) where
   pub addresses_few : (addresses : Addresses) → listed (address_items ifaces env tables addresses) ≤ addresses_count ifaces env addresses
   addresses_few (Written.Any span) = omega arith
+  addresses_few (Written.Excluded values span) = items_few tables (spliced ifaces env (listed_values values))
   addresses_few (Written.One value span) = items_few tables (spliced ifaces env (value ∷ []))
   addresses_few (Written.List list span) = items_few tables (spliced ifaces env list.values)
 

@@ -129,6 +129,8 @@ module _ (ifaces : List Iface) (env : Env) (tables : List (List ℕ)) where
 
   addresses_listed : (addresses : Addresses) → addresses_faults ifaces env addresses ≡ [] → listed (address_items ifaces env tables addresses) ≡ addresses_count ifaces env addresses
   addresses_listed (Written.Any span) none = refl
+  addresses_listed (Written.Excluded values span) none = values_items (listed_values values)
+      (nil_from_append_right (empty_list_faults values) (flat_map (each_value_faults ifaces env AsAddress) (listed_values values)) none)
   addresses_listed (Written.One value span) none = values_items (value ∷ []) (append-nil (each_value_faults ifaces env AsAddress value) ∙ none)
   addresses_listed (Written.List list span) none =
       values_items list.values (nil_from_append_right (empty_list_at list.span list.values) (flat_map (each_value_faults ifaces env AsAddress) list.values) none)

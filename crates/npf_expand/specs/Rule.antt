@@ -33,7 +33,7 @@ use Rattle.npf_model.specs.declared.rule.Rule.{Rule}
 use Rattle.npf_model.specs.declared.rule.StateOpt.{StateOpt}
 use Rattle.npf_model.specs.declared.rule.StateOpt.TheVariants.{Not, OnInterface, Everywhere}
 use Rattle.npf_faults.specs.First.{fault_if}
-use Rattle.npf_expand_values.specs.Address.{addresses_count, addresses_faults, address_items}
+use Rattle.npf_expand_values.specs.Address.{addresses_count, addresses_faults, address_items, is_excluded}
 use Rattle.npf_expand_values.specs.Atom.{Env}
 use Rattle.npf_expand_values.specs.Declarations.{Declared, table_number}
 use Rattle.npf_expand_values.specs.Iface.{iface_faults, on_iface}
@@ -102,17 +102,19 @@ detail_of_part None = None
 detail_of_part (Some part) = part.detail
 
 abbrev pub any_ends : Ends
-any_ends = record { addrs = None; ports = None }
+any_ends = record { excluded = false; addrs = None; ports = None }
 
--- the written ends of a filter, the source's first
+-- the written ends of a filter, the source's first; a filter of pcap-filter(7) has none, and a check refuses it by the tree
 abbrev pub source_ends : Where → Option WrittenEnds
 source_ends (Where.All span) = None
 source_ends (Where.From from to span) = Some from
+source_ends (Where.PcapFilter span) = None
 source_ends (Where.To to span) = None
 
 abbrev pub destination_ends : Where → Option WrittenEnds
 destination_ends (Where.All span) = None
 destination_ends (Where.From from to span) = to
+destination_ends (Where.PcapFilter span) = None
 destination_ends (Where.To to span) = Some to
 
 module _ (ifaces : List Iface) (env : Env) where
@@ -157,8 +159,8 @@ module _ (ifaces : List Iface) (env : Env) where
   abbrev pub ends_of_written : List (List ℕ) → Option WrittenEnds → Ends
   ends_of_written tables None = any_ends
   ends_of_written tables (Some (EndsAre.Addresses addresses ports span)) =
-      record { addrs = address_items ifaces env tables addresses; ports = ports_of ifaces env ports }
-  ends_of_written tables (Some (EndsAre.Ports ports span)) = record { addrs = None; ports = ports_of ifaces env (Some ports) }
+      record { excluded = is_excluded addresses; addrs = address_items ifaces env tables addresses; ports = ports_of ifaces env ports }
+  ends_of_written tables (Some (EndsAre.Ports ports span)) = record { excluded = false; addrs = None; ports = ports_of ifaces env (Some ports) }
 
   -- the rule of a filter alone: it passes, keeps no state and is bound to nothing
   abbrev pub filter_rule : List (List ℕ) → Filter → Rule

@@ -3,7 +3,7 @@ ghost use Rattle.std.specs.Prelude.{◌≡◌, ◌+◌, ◌++◌, IfOk, Some, ma
 ghost use Rattle.std.specs.List.{filter_map, flat_map};
 ghost use Rattle.std.specs.Option.{option_map};
 ghost use Rattle.npf_faults.specs.First.{first_fault};
-ghost use Rattle.npf_expand_values.specs.Address.{address_items, addresses_count, addresses_faults, listed_addresses};
+ghost use Rattle.npf_expand_values.specs.Address.{address_items, addresses_count, addresses_faults, is_excluded, listed_addresses};
 ghost use Rattle.npf_expand_values.specs.Atom.{kept_atom};
 ghost use Rattle.npf_expand_values.specs.Port.{atom_ports, ports_count, ports_faults, ports_of};
 ghost use Rattle.npf_expand_values.specs.Protocol.{one_binding, protocol_faults, protocol_of, protocols_faults, written_ones};
@@ -52,6 +52,7 @@ fn addresses_fault<'a>(scope: &Scope<'_, 'a, '_>, addresses: &'a Addresses) -> O
 {
     match addresses {
         Addresses::Any { .. } => None,
+        Addresses::Excluded { values, .. } => scope.values_fault(Role::AsAddress, values),
         Addresses::One { value, .. } => scope.each_value_fault(Role::AsAddress, value),
         Addresses::List { list, .. } => {
             let values = list.values.as_slice();
@@ -266,10 +267,12 @@ fn ends_of<'a>(
                 ..
             },
         ) => Ok(ModelEnds {
+            excluded: is_excluded(addresses),
             addrs: address_items(scope, alloc, addresses)?,
             ports: ports_of(scope, alloc, ports)?,
         }),
         Some(EndsTree::Ports { ports, .. }) => Ok(ModelEnds {
+            excluded: false,
             addrs: None,
             ports: Some(listed_ports(scope, alloc, ports)?),
         }),
@@ -317,7 +320,7 @@ fn destination_ends(ends: &Where) -> Option<&EndsTree>
     ensures { option_map (λ written. written.now) result ≡ destination_ends ends.now }
 {
     match ends {
-        Where::All { .. } => None,
+        Where::All { .. } | Where::PcapFilter { .. } => None,
         Where::From { to, .. } => match to {
             Some(to) => Some(to.get()),
             None => None,
@@ -330,6 +333,7 @@ fn any_ends() -> ModelEnds
     ensures { result ≡ any_ends }
 {
     ModelEnds {
+        excluded: false,
         addrs: None,
         ports: None,
     }
@@ -353,11 +357,18 @@ fn part_icmp(part: &Option<Boxed<ProtoPart>>) -> Option<(u8, Option<u8>)>
     }
 }
 
+fn is_excluded(addresses: &Addresses) -> bool
+    ensures { result ≡ is_excluded addresses.now }
+{
+    matches!(addresses, Addresses::Excluded { .. })
+}
+
 fn listed_addresses(addresses: &Addresses) -> Option<&[Value]>
     ensures { option_map (λ values. values.now) result ≡ listed_addresses addresses.now }
 {
     match addresses {
         Addresses::Any { .. } => None,
+        Addresses::Excluded { values, .. } => Some(listed_values(values)),
         Addresses::One { value, .. } => Some(std::slice::from_ref(value)),
         Addresses::List { list, .. } => Some(list.values.as_slice()),
     }

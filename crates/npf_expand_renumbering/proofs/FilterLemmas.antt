@@ -1,12 +1,12 @@
 -- Filters without faults are the same with a longer list of interfaces. The places where values stand have no name outside of
 -- npf_expand, so `search` finds which one it is.
-use Rattle.std.{proofs.Common.{◌≡◌, ℕ, ◌+◌, Option, Some, None, List, [], ◌++◌, refl, ap, ◌∙◌}, specs.List.{flat_map, filter_map}}
+use Rattle.std.{proofs.Common.{◌≡◌, ℕ, ◌+◌, Bool, false, Option, Some, None, List, [], ◌++◌, refl, ap, ◌∙◌}, specs.List.{flat_map, filter_map}}
 use Rattle.npf_faults.specs.declared.fault.ConfFault.{ConfFault}
 use Rattle.npf_syntax.specs.declared.{filter.{Addresses.Addresses, EndsTree.EndsTree as WrittenEnds, Filter.Filter}, value.Values.Values}
 use Rattle.npf_syntax.specs.declared.filter.Addresses.TheVariants as Written
 use Rattle.npf_syntax.specs.declared.filter.EndsTree.TheVariants as EndsAre
 use Rattle.npf_model.specs.declared.{ends.{AddrItem.AddrItem, Ends.Ends}, iface.Iface.Iface}
-use Rattle.npf_expand_values.specs.{Address.{addresses_count, addresses_faults, address_items, items_of}, Atom.{Binding, Env}}
+use Rattle.npf_expand_values.specs.{Address.{addresses_count, addresses_faults, address_items, is_excluded, items_of}, Atom.{Binding, Env}}
 use Rattle.npf_expand_values.specs.{Port.{atom_ports, ports_count, ports_faults, ports_of}, Use.{atoms_of, element_count}}
 use Rattle.npf_expand_values.specs.Variable.{binding_of, listed_values, spliced}
 use Rattle.npf_expand.specs.Rule.{destination_ends, ends_count, ends_faults, ends_of_written, filter_count, filter_faults, filter_rule, part_count, part_faults, source_ends}
@@ -26,8 +26,8 @@ as_it_is x = x
 abbrev pub no_count : List Iface → ℕ
 no_count list = 0
 
-abbrev ends_with : Option (List AddrItem) → Option (List (ℕ × ℕ)) → Ends
-ends_with addrs ports = record { addrs = addrs; ports = ports }
+abbrev ends_with : Bool → Option (List AddrItem) → Option (List (ℕ × ℕ)) → Ends
+ends_with excluded addrs ports = record { excluded = excluded; addrs = addrs; ports = ports }
 
 module _ (ifaces longer : List Iface) (keeps : KeepsAddresses ifaces longer) (env : Env) where
   ports_same : (ports : Option Values) → ports_faults ifaces env ports ≡ []
@@ -46,6 +46,13 @@ module _ (ifaces longer : List Iface) (keeps : KeepsAddresses ifaces longer) (en
         → IsSame ifaces longer (λ list. addresses_faults list env addresses) (λ list. addresses_count list env addresses)
         (λ list. address_items list env tables addresses) as_it_is
     addresses_same (Written.Any span) none = record { none = refl; counts = refl; means = refl }
+    addresses_same (Written.Excluded values span) none =
+        let same : spliced longer env (listed_values values) ≡ spliced ifaces env (listed_values values) = search (listed_same ifaces longer keeps env, none) in
+        record {
+          none = search (listed_none ifaces longer keeps env, none);
+          counts = ap element_count same;
+          means = ap (λ atoms. Some (flat_map (items_of tables) atoms)) same;
+        }
     addresses_same (Written.One value span) none =
         let same : binding_of longer env value ≡ binding_of ifaces env value = search (each_value_same ifaces longer keeps env, none) in
         record {
@@ -66,7 +73,7 @@ module _ (ifaces longer : List Iface) (keeps : KeepsAddresses ifaces longer) (en
     ends_same None none = record { none = refl; counts = refl; means = refl }
     ends_same (Some (EndsAre.Ports values span)) none =
         let ports = ports_same (Some values) none in
-        record { none = ports.none; counts = ports.counts; means = ap (λ (found : Option (List (ℕ × ℕ))). ends_with None found) ports.means }
+        record { none = ports.none; counts = ports.counts; means = ap (λ (found : Option (List (ℕ × ℕ))). ends_with false None found) ports.means }
     ends_same (Some (EndsAre.Addresses addresses values span)) none =
         let first = addresses_faults ifaces env addresses in
         let second = ports_faults ifaces env values in
@@ -75,8 +82,8 @@ module _ (ifaces longer : List Iface) (keeps : KeepsAddresses ifaces longer) (en
         record {
           none = both (addresses_faults longer env addresses) (ports_faults longer env values) addrs.none ports.none;
           counts = ap (λ n. n + ports_count longer env values) addrs.counts ∙ ap (λ n. addresses_count ifaces env addresses + n) ports.counts;
-          means = ap (λ (items : Option (List AddrItem)). ends_with items (ports_of longer env values)) addrs.means
-              ∙ ap (λ (ranges : Option (List (ℕ × ℕ))). ends_with (address_items ifaces env tables addresses) ranges) ports.means;
+          means = ap (λ (items : Option (List AddrItem)). ends_with (is_excluded addresses) items (ports_of longer env values)) addrs.means
+              ∙ ap (λ (ranges : Option (List (ℕ × ℕ))). ends_with (is_excluded addresses) (address_items ifaces env tables addresses) ranges) ports.means;
         }
 
     pub filter_same : (filter : Filter) → filter_faults ifaces env filter ≡ []

@@ -1,5 +1,5 @@
 -- The addresses of a rule: blocks, tables, and functions, of which every address counts.
-use Rattle.std.specs.Prelude.{ℕ, unwrap_or, Option, Some, None, List, [], ◌∷◌, ◌++◌, map}
+use Rattle.std.specs.Prelude.{ℕ, Bool, true, false, unwrap_or, Option, Some, None, List, [], ◌∷◌, ◌++◌, map}
 use Rattle.std.specs.List.{flat_map}
 use Rattle.std.specs.Option.{option_map}
 use Rattle.npf_types.specs.declared.address.Addr.{Addr}
@@ -16,7 +16,7 @@ use Rattle.npf_expand_values.specs.declared.role.Role.TheVariants.{AsAddress}
 use Rattle.npf_expand_values.specs.Atom.{Atom, BlockAtom, TableAtom, AddressesAtom, Env}
 use Rattle.npf_expand_values.specs.Declarations.{table_number}
 use Rattle.npf_expand_values.specs.Use.{element_count}
-use Rattle.npf_expand_values.specs.Variable.{each_value_faults, empty_list_at, spliced}
+use Rattle.npf_expand_values.specs.Variable.{each_value_faults, empty_list_at, empty_list_faults, listed_values, spliced}
 
 -- one address as a block
 abbrev pub host_item : Addr → AddrItem
@@ -29,15 +29,22 @@ items_of tables (TableAtom name) = InTable (table_number tables name) ∷ []
 items_of tables (AddressesAtom addrs) = map host_item addrs
 items_of tables _ = []
 
+-- whether the values that are listed are those that an address must not have
+abbrev pub is_excluded : Addresses → Bool
+is_excluded (Written.Excluded values span) = true
+is_excluded _ = false
+
 -- the values that are listed, none where any address is asked for
 abbrev pub listed_addresses : Addresses → Option (List Value)
 listed_addresses (Written.Any span) = None
+listed_addresses (Written.Excluded values span) = Some (listed_values values)
 listed_addresses (Written.One value span) = Some (value ∷ [])
 listed_addresses (Written.List list span) = Some list.values
 
 module _ (ifaces : List Iface) (env : Env) where
   abbrev pub addresses_faults : Addresses → List ConfFault
   addresses_faults (Written.Any span) = []
+  addresses_faults (Written.Excluded values span) = empty_list_faults values ++ flat_map (each_value_faults ifaces env AsAddress) (listed_values values)
   addresses_faults (Written.One value span) = each_value_faults ifaces env AsAddress value
   addresses_faults (Written.List list span) = empty_list_at list.span list.values ++ flat_map (each_value_faults ifaces env AsAddress) list.values
 

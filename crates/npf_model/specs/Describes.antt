@@ -2,7 +2,7 @@
 -- blocks, in the order in which the configuration declares the tables. All are tests, so that a program's value or a walk's answer equals
 -- one. A table of a number that isn't there has no addresses, so models that no check accepted are described, too.
 -- READ 7 of docs/READING.md
-use Rattle.std.specs.Prelude.{ℕ, Bool, true, false, ◌==◌, ◌&&◌, nat_le, Option, Some, None, List, [], ◌∷◌, slice_get, bit_and}
+use Rattle.std.specs.Prelude.{ℕ, Bool, true, false, not, ◌==◌, ◌&&◌, nat_le, Option, Some, None, List, [], ◌∷◌, slice_get, bit_and}
 use Rattle.std.specs.List.{list_any}
 use Rattle.npf_types.specs.declared.address.Addr.{Addr}
 use Rattle.npf_types.specs.declared.address.Addr.TheVariants.{V4, V6}
@@ -89,10 +89,22 @@ abbrev pub item_has : Tables → Addr → AddrItem → Bool
 item_has tables addr (Net prefix) = has_address prefix addr
 item_has tables addr (InTable number) = table_has tables number addr
 
--- some item of the list has the address; an absent list has every address, and an empty one none
-abbrev pub fits_addrs : Option (List AddrItem) → Tables → Addr → Bool
-fits_addrs None tables addr = true
-fits_addrs (Some items) tables addr = list_any (item_has tables addr) items
+-- the item can have an address of the family, IPv6 where `true` is asked for: a table can of both
+abbrev pub item_allows : Bool → AddrItem → Bool
+item_allows v6 (Net prefix) = fits_family (Some v6) prefix.addr
+item_allows v6 (InTable number) = true
+
+-- an absent list takes no family away
+abbrev pub list_allows : Bool → Option (List AddrItem) → Bool
+list_allows v6 None = true
+list_allows v6 (Some items) = list_any (item_allows v6) items
+
+-- some item of the list has the address, or, where the list is excluded, some item is of the address's family and none has the address;
+-- an absent list has every address
+abbrev pub fits_addrs : Bool → Option (List AddrItem) → Tables → Addr → Bool
+fits_addrs excluded None tables addr = true
+fits_addrs false (Some items) tables addr = list_any (item_has tables addr) items
+fits_addrs true (Some items) tables addr = list_allows (is_v6 addr) (Some items) && not (list_any (item_has tables addr) items)
 
 -- the port lies in the range, whose ends belong to it
 abbrev pub in_range : ℕ → ℕ × ℕ → Bool
@@ -116,7 +128,7 @@ fits_ports (Some ranges) None = false
 fits_ports (Some ranges) (Some port) = list_any (in_range port) ranges
 
 abbrev pub fits_ends : Ends → Tables → Addr → Option ℕ → Bool
-fits_ends ends tables addr port = fits_addrs ends.addrs tables addr && fits_ports ends.ports port
+fits_ends ends tables addr port = fits_addrs ends.excluded ends.addrs tables addr && fits_ports ends.ports port
 
 -- the packet part: all that a rule says but for direction and interface
 abbrev pub describes_packet : Rule → Tables → Facts → Bool

@@ -96,6 +96,7 @@ impl Duplicate for (u32, Rule) {
 impl Duplicate for Ends {
     fn duplicate(&self, alloc: Global) -> Result<Ends, NoMemory> {
         Ok(Ends {
+            excluded: self.excluded,
             addrs: self.addrs.duplicate(alloc)?,
             ports: self.ports.duplicate(alloc)?,
         })

@@ -1,5 +1,8 @@
 // The ends of a rule: addresses and ports.
-use npf_types::{List, Prefix};
+ghost use Rattle.std.specs.Prelude.{◌≡◌};
+ghost use Rattle.npf_model.specs.Describes.{item_allows};
+
+use npf_types::{Addr, List, Prefix};
 
 /// What an address is compared with: a block, or a table by its place in the model's list, counted from 0.
 #[derive(Clone, Copy, Debug, PartialEq, Eq)]
@@ -8,9 +11,26 @@ pub enum AddrItem {
     InTable(u32),
 }
 
-/// One side of a rule. An absent list means any; a range of ports has its first and its last.
+impl AddrItem {
+    /// Whether it can have an address of the family, IPv6 where `v6` is true: a table can of both.
+    pub fn allows(self, v6: bool) -> bool
+        ensures { result ≡ item_allows v6 self }
+    {
+        match self {
+            AddrItem::Net(prefix) => match prefix.addr {
+                Addr::V4(_) => !v6,
+                Addr::V6(_) => v6,
+            },
+            AddrItem::InTable(_) => true,
+        }
+    }
+}
+
+/// One side of a rule. An absent list means any; a range of ports has its first and its last. Where the addresses are `excluded`, the side is an address
+/// of a family of theirs that none of them has; no text gives `excluded` without addresses, and nothing is said by it then.
 #[derive(Debug, Drop)]
 pub struct Ends {
+    pub excluded: bool,
     pub addrs: Option<List<AddrItem>>,
     pub ports: Option<List<(u16, u16)>>,
 }

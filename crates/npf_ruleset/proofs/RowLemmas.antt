@@ -30,8 +30,8 @@ more_ranges ranges n hull wider lt so_far old next = λ port any. found port any
     found (Some port) any = more (in_range port) ranges n (0, 0) (in_range port wider ≡ true) lt (λ h. old port (so_far (Some port) h)) (λ h. next port h) any
 
 pub more_items : (items : List AddrItem) (n : ℕ) (prefix : Prefix) (hull block wider : AddrHull) → n < length items → (d : AddrItem) → Net prefix ≡ get_or items n d
-    → IsHullOfAddrs (Some (take n items)) (Some hull) → IsHullOfBits prefix.len prefix.addr block → IsWithin hull wider → IsWithin block wider
-    → IsHullOfAddrs (Some (take (n + 1) items)) (Some wider)
+    → IsHullOfAddrs false (Some (take n items)) (Some hull) → IsHullOfBits prefix.len prefix.addr block → IsWithin hull wider → IsWithin block wider
+    → IsHullOfAddrs false (Some (take (n + 1) items)) (Some wider)
 more_items items n prefix hull block wider lt d is so_far of_block old next = λ tables addr any.
     more (item_has tables addr) items n d (in_hull (Some wider) addr ≡ true) lt (λ h. old addr (so_far tables addr h))
     (λ h. next addr (of_block addr (ap (item_has tables addr) is ∙ h))) any
@@ -91,7 +91,7 @@ row_of rule row protocols v6 from to = λ tables facts describes.
     let icmp_parts = and_parts (f && p && g) i from_parts.0 in
     let flag_parts = and_parts (f && p) g icmp_parts.0 in
     let parts = and_parts f p flag_parts.0 in
-    let source = and_parts (fits_addrs rule.from.addrs tables facts.src) (fits_ports rule.from.ports (source_of facts.l4)) from_parts.1 in
-    let destination = and_parts (fits_addrs rule.to.addrs tables facts.dst) (fits_ports rule.to.ports (destination_of facts.l4)) to_parts.1 in
+    let source = and_parts (fits_addrs rule.from.excluded rule.from.addrs tables facts.src) (fits_ports rule.from.ports (source_of facts.l4)) from_parts.1 in
+    let destination = and_parts (fits_addrs rule.to.excluded rule.to.addrs tables facts.dst) (fits_ports rule.to.ports (destination_of facts.l4)) to_parts.1 in
     both_true (both_true (both_true (both_true (both_true (from.addrs tables facts.src source.0) (to.addrs tables facts.dst destination.0)) (protocols facts.proto parts.1))
     (from.ports (source_of facts.l4) source.1)) (to.ports (destination_of facts.l4) destination.1)) (ap (λ v. fits_family v facts.src) v6 ∙ parts.0)

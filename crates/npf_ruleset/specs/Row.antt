@@ -60,15 +60,15 @@ IsRowOf rule row = (tables : Tables) (facts : Facts) → describes_packet rule t
 abbrev pub HasProtocols : List ℕ → ProtocolSet → Type 0
 HasProtocols protos set = (proto : ℕ) → fits_protocol protos proto ≡ true → has_protocol set proto ≡ true
 
-abbrev pub IsHullOfAddrs : Option (List AddrItem) → Option AddrHull → Type 0
-IsHullOfAddrs addrs hull = (tables : Tables) (addr : Addr) → fits_addrs addrs tables addr ≡ true → in_hull hull addr ≡ true
+abbrev pub IsHullOfAddrs : Bool → Option (List AddrItem) → Option AddrHull → Type 0
+IsHullOfAddrs excluded addrs hull = (tables : Tables) (addr : Addr) → fits_addrs excluded addrs tables addr ≡ true → in_hull hull addr ≡ true
 
 abbrev pub IsHullOfPorts : Option (List (ℕ × ℕ)) → Option (ℕ × ℕ) → Type 0
 IsHullOfPorts ports hull = (port : Option ℕ) → fits_ports ports port ≡ true → fits_side_port hull port ≡ true
 
 -- the hulls are those of an end's addresses and ports
 pub record IsEndRowOf (ends : Ends) (row : EndRow) : Type 0 where
-  pub addrs : IsHullOfAddrs ends.addrs row.addrs
+  pub addrs : IsHullOfAddrs ends.excluded ends.addrs row.addrs
   pub ports : IsHullOfPorts ends.ports row.ports
 
 -- one hull lies in the other

@@ -1,11 +1,11 @@
 // The hull of a list of addresses, which may admit more than the list, of either family: the program decides.
-ghost use Rattle.std.specs.Prelude.{◌≡◌, ◌≤◌, ◌-◌, ◌/◌, ◌^◌, Some};
+ghost use Rattle.std.specs.Prelude.{◌≡◌, ◌≤◌, ◌-◌, ◌/◌, ◌^◌, Some, false};
 ghost use Rattle.npf_types.specs.Address.{kept_bits};
 ghost use Rattle.npf_ruleset.specs.Row.{IsHullOfAddrs, IsHullOfBits, IsWithin, hull_number, is_within};
 ghost use Rattle.npf_types.specs.declared.address.Addr.TheVariants.{V6};
 
-use npf_model::AddrItem;
-use npf_types::{Addr, List, Prefix};
+use npf_model::{AddrItem, Ends};
+use npf_types::{Addr, Prefix};
 
 /// The least and the greatest number of some addresses, as `hull_number` has them.
 #[derive(Clone, Copy, Drop)]
@@ -30,19 +30,19 @@ fn upper_half(number: u128) -> u64
     (number >> 64) as u64
 }
 
-/// The hull of all blocks that are listed. None where any address may be meant: without a list, or
-/// where the list names a table, whose addresses change.
-pub(crate) fn addr_hull(addrs: &Option<List<AddrItem>>) -> Option<AddrHull>
-    ensures { IsHullOfAddrs addrs.now result }
+/// The hull of all blocks that are listed. None where any address may be meant: without a list, where
+/// the list is excluded, or where it names a table, whose addresses change.
+pub(crate) fn addr_hull(ends: &Ends) -> Option<AddrHull>
+    ensures { IsHullOfAddrs ends.now.excluded ends.now.addrs result }
 {
-    match addrs {
-        Some(items) => items_hull(items.as_slice()),
-        None => None,
+    match &ends.addrs {
+        Some(items) if !ends.excluded => items_hull(items.as_slice()),
+        _ => None,
     }
 }
 
 fn items_hull(items: &[AddrItem]) -> Option<AddrHull>
-    ensures { IsHullOfAddrs (Some items.now) result }
+    ensures { IsHullOfAddrs false (Some items.now) result }
 {
     let mut hull = AddrHull {
         first: u64::MAX,

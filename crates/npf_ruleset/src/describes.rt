@@ -1,7 +1,7 @@
 // What a rule says of a packet, tested without a program: as a map's filter is.
-ghost use Rattle.std.specs.Prelude.{◌≡◌, ◌==◌};
+ghost use Rattle.std.specs.Prelude.{◌≡◌, ◌==◌, Some, true};
 ghost use Rattle.std.specs.List.{list_any};
-ghost use Rattle.npf_model.specs.Describes.{describes_packet, destination_of, fits_addrs, fits_ends, fits_family, fits_flags, fits_icmp, fits_kept, fits_ports, fits_protocol, in_range, is_message, item_has, opens_if_tcp, shows_flags, source_of};
+ghost use Rattle.npf_model.specs.Describes.{describes_packet, destination_of, fits_addrs, fits_ends, fits_family, fits_flags, fits_icmp, fits_kept, fits_ports, fits_protocol, in_range, is_message, is_v6, item_allows, item_has, opens_if_tcp, shows_flags, source_of};
 ghost use Rattle.npf_model.specs.MapOf.{fits_side_port};
 ghost use Rattle.npf_ruleset.specs.Tables.{entries};
 
@@ -111,16 +111,36 @@ fn is_message(asked: u8, number: Option<u8>, kind: u8, code: u8) -> bool
 fn fits_ends(ends: &Ends, tables: &[Arc<Table>], addr: Addr, port: Option<u16>) -> bool
     ensures { result ≡ fits_ends ends.now (entries tables.now) addr port }
 {
-    fits_addrs(&ends.addrs, tables, addr) && fits_ports(&ends.ports, port)
+    fits_addrs(ends, tables, addr) && fits_ports(&ends.ports, port)
 }
 
-fn fits_addrs(addrs: &Option<List<AddrItem>>, tables: &[Arc<Table>], addr: Addr) -> bool
-    ensures { result ≡ fits_addrs addrs.now (entries tables.now) addr }
+fn fits_addrs(ends: &Ends, tables: &[Arc<Table>], addr: Addr) -> bool
+    ensures { result ≡ fits_addrs ends.now.excluded ends.now.addrs (entries tables.now) addr }
 {
-    match addrs {
+    match &ends.addrs {
         None => true,
+        Some(items) if ends.excluded => is_excluded(items.as_slice(), tables, addr),
         Some(items) => has_addr(items.as_slice(), tables, addr),
     }
+}
+
+// Whether the address is of a family that some item can have, and no item has it.
+fn is_excluded(items: &[AddrItem], tables: &[Arc<Table>], addr: Addr) -> bool
+    ensures { result ≡ fits_addrs true (Some items.now) (entries tables.now) addr }
+{
+    some_allow(items, is_v6(addr)) && !has_addr(items, tables, addr)
+}
+
+fn some_allow(items: &[AddrItem], v6: bool) -> bool
+    ensures { result ≡ list_any (item_allows v6) items.now }
+{
+    items.iter().any(|item| item.allows(v6))
+}
+
+fn is_v6(addr: Addr) -> bool
+    ensures { result ≡ is_v6 addr }
+{
+    matches!(addr, Addr::V6(_))
 }
 
 fn has_addr(items: &[AddrItem], tables: &[Arc<Table>], addr: Addr) -> bool

@@ -84,7 +84,7 @@ impl EndRow {
         ensures { IsEndRowOf ends.now result }
     {
         EndRow {
-            addrs: addr_hull(&ends.addrs),
+            addrs: addr_hull(ends),
             ports: port_hull(&ends.ports),
         }
     }

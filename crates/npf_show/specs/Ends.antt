@@ -1,5 +1,5 @@
 -- The ends of a rule: `from` and `to`, each with addresses, ports or both.
-use Rattle.std.specs.Prelude.{ℕ, Bool, is_some, ◌==◌, ◌||◌, if◌then◌else◌, Option, Some, None, List, [], ◌++◌, slice_get, codes}
+use Rattle.std.specs.Prelude.{ℕ, Bool, true, false, is_some, ◌==◌, ◌||◌, if◌then◌else◌, Option, Some, None, List, [], ◌++◌, slice_get, codes}
 use Rattle.npf_types.specs.declared.prefix.Prefix.{Prefix}
 use Rattle.npf_types.specs.Address.{width}
 use Rattle.npf_types.specs.Name.{name_bytes}
@@ -42,9 +42,14 @@ range_pieces range = spaced (Number range.0) ++ last_pieces range
 abbrev pub ports_pieces : List (ℕ × ℕ) → List Piece
 ports_pieces ports = spaced (Word (codes "port")) ++ list_pieces range_pieces ports
 
+-- the addresses of an end, behind `!` where they are excluded
+abbrev pub addresses_pieces : Model → Bool → List AddrItem → List Piece
+addresses_pieces model true items = spaced (Sign (codes "!")) ++ list_pieces (item_pieces model) items
+addresses_pieces model false items = list_pieces (item_pieces model) items
+
 -- the addresses and the ports of an end; ports alone stand without `any`
 abbrev pub ends_pieces : Model → Ends → List Piece
-ends_pieces model ends = optional_pieces (list_pieces (item_pieces model)) ends.addrs ++ optional_pieces ports_pieces ends.ports
+ends_pieces model ends = optional_pieces (addresses_pieces model ends.excluded) ends.addrs ++ optional_pieces ports_pieces ends.ports
 
 -- whether an end says something
 abbrev pub is_said : Ends → Bool

@@ -1,6 +1,6 @@
 // The ends of rules: addresses and ports.
 ghost use Rattle.std.specs.Prelude.{◌≡◌, ◌++◌, OnOk};
-ghost use Rattle.npf_show.specs.Ends.{item_pieces, prefix_pieces, length_pieces, range_pieces, last_pieces, ports_pieces, ends_pieces, end_pieces, is_said, where_pieces, name_of_table};
+ghost use Rattle.npf_show.specs.Ends.{addresses_pieces, item_pieces, prefix_pieces, length_pieces, range_pieces, last_pieces, ports_pieces, ends_pieces, end_pieces, is_said, where_pieces, name_of_table};
 ghost use Rattle.npf_show.specs.Piece.{spelled, optional_pieces, list_pieces};
 ghost use Rattle.std.specs.Prelude.{slice_get};
 
@@ -77,23 +77,34 @@ impl Shown for Ends {
     ghost pieces = { ends_pieces };
 
     fn show(&self, model: &Model, page: &mut Page) -> Result<(), NoMemory> {
-        show_addresses(&self.addrs, model, page)?;
+        show_addresses(self, model, page)?;
         show_ports(&self.ports, model, page)?;
         Ok(())
     }
 }
 
-fn show_addresses(
-    addrs: &Option<List<AddrItem>>,
+fn show_addresses(ends: &Ends, model: &Model, page: &mut Page) -> Result<(), NoMemory>
+    ensures { OnOk result (page.new ≡ page.old ++ spelled (optional_pieces (addresses_pieces model.now ends.now.excluded) ends.now.addrs)) }
+{
+    match &ends.addrs {
+        Some(items) => show_listed(ends.excluded, items.as_slice(), model, page),
+        None => Ok(()),
+    }
+}
+
+fn show_listed(
+    excluded: bool,
+    items: &[AddrItem],
     model: &Model,
     page: &mut Page,
 ) -> Result<(), NoMemory>
-    ensures { OnOk result (page.new ≡ page.old ++ spelled (optional_pieces (list_pieces (item_pieces model.now)) addrs.now)) }
+    ensures { OnOk result (page.new ≡ page.old ++ spelled (addresses_pieces model.now excluded items.now)) }
 {
-    match addrs {
-        Some(items) => show_list(items.as_slice(), model, page),
-        None => Ok(()),
+    if excluded {
+        page.sign("!")?;
     }
+    show_list(items, model, page)?;
+    Ok(())
 }
 
 fn show_ports(

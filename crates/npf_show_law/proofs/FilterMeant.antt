@@ -10,7 +10,7 @@ use Rattle.npf_syntax.specs.declared.filter.{Addresses.Addresses, Detail.Detail,
 use Rattle.npf_syntax.specs.declared.{filter.{Protocols.Protocols, Where.Where}, value.{One.One, Value.Value, Values.Values}, word.{Number.Number, Word.Word}}
 use Rattle.npf_model.specs.declared.{ends.AddrItem.{AddrItem, TheVariants.{Net, InTable}}, iface.Iface.Iface, model.Model.Model}
 use Rattle.npf_check.specs.Undefined.{table_faults, tables_of_addresses, tables_of_ends, tables_of_target, tables_of_where}
-use Rattle.npf_expand_values.specs.{Address.{items_of, addresses_faults, address_items}, Atom.{Atom, Binding, Env}, Declarations.table_number}
+use Rattle.npf_expand_values.specs.{Address.{items_of, addresses_faults, address_items, is_excluded}, Atom.{Atom, Binding, Env}, Declarations.table_number}
 use Rattle.npf_expand_values.specs.Port.{atom_ports, ports_faults, ports_of}
 use Rattle.npf_expand_values.specs.Protocol.{one_span, one_binding, protocol_of, written_ones, protocol_faults, protocols_faults, spliced_ones, protocols_of}
 use Rattle.npf_expand_values.specs.{Use.{undefined_faults, atoms_of}, Variable.{value_span, empty_list_at, binding_of, own_faults, spliced}}
@@ -20,7 +20,7 @@ use Rattle.npf_parser_values.specs.Token.{nowhere, is_flag}
 use Rattle.npf_show.specs.Filter.{flag_text}
 use Rattle.npf_show_tokens.specs.Showable.{FitsByte, FitsAddr, IsShowableRange, IsShowableItem, AreShowableEnds, AreShowableFlags, IsShowableFilter}
 use Rattle.npf_show_tokens.{specs.Tokens.is_run_word, proofs.Values.values_come_back_lem}
-use Rattle.npf_show_meaning.specs.Regular.{IsRegularItem, IsForward, AreRegularEnds, IsOneDetail, IsRegularFilter}
+use Rattle.npf_show_meaning.specs.Regular.{IsExclusion, IsRegularItem, IsForward, AreRegularEnds, IsOneDetail, IsRegularFilter}
 use Rattle.npf_show_law.proofs.Gives.{Every, IfThere}
 use Rattle.npf_show_law.proofs.Sound.{IsSoundValue, IsSoundPort, AreSoundPorts, IsRunWord, IsSoundDetail, AreSomeProtocols, IsSoundPart, AreSoundAddresses, AreSoundEnds, IsSoundWhere, IsSoundFilter}
 use Rattle.npf_show_law.proofs.Atoms.{IsSoundAtom, IsSoundBinding, IsSoundEnv, every_both, some_left, values_sound, values_some}
@@ -254,6 +254,8 @@ module _ (ifaces : List Iface) (fit : All (λ i. All FitsAddr i.addrs) ifaces) (
 
     addresses_meant : (a : Addresses) → AreSoundAddresses a → addresses_faults ifaces env a ≡ [] → tables_of_addresses d a ≡ [] → IfSome (address_items ifaces env tables a) AreGoodItems
     addresses_meant (Addresses.Any span) is none defined = tt
+    addresses_meant (Addresses.Excluded (Values.One v own) span) is none defined = one_item _ (λ _. []) v is (sym (append-nil _) ∙ none) defined (λ atom is. is)
+    addresses_meant (Addresses.Excluded (Values.List list own) span) is none defined = list_items _ (λ _. []) list.span list.values is none defined (λ atom is. is)
     addresses_meant (Addresses.One v span) is none defined = one_item _ (λ _. []) v is none defined (λ atom is. is)
     addresses_meant (Addresses.List list span) is none defined = list_items _ (λ _. []) list.span list.values is none defined (λ atom is. is)
 
@@ -270,24 +272,32 @@ module _ (ifaces : List Iface) (fit : All (λ i. All FitsAddr i.addrs) ifaces) (
     split_ports None is = (tt, tt)
     split_ports (Some ranges) is = (all_step IsGoodRange IsShowableRange (λ range good. good.0) ranges is.1, (is.0, all_step IsGoodRange IsForward (λ range good. good.1) ranges is.1))
 
+    exclusion_meant : (a : Addresses) → IsExclusion (is_excluded a) (address_items ifaces env tables a)
+    exclusion_meant (Addresses.Any span) = tt
+    exclusion_meant (Addresses.Excluded values span) = tt
+    exclusion_meant (Addresses.One v span) = tt
+    exclusion_meant (Addresses.List list span) = tt
+
     ends_meant : (o : Option WrittenEnds) → IfThere AreSoundEnds o → ends_faults ifaces env o ≡ [] → tables_of_target d o ≡ [] → AreGoodEnds o
-    ends_meant None is none defined = record { shown = record { addrs = tt; ports = tt }; regular = record { addrs = tt; ports = tt } }
+    ends_meant None is none defined = record { shown = record { addrs = tt; ports = tt }; regular = record { excluded = tt; addrs = tt; ports = tt } }
     ends_meant (Some (WrittenEnds.Addresses a o span)) is none defined =
         let items = split_items (address_items ifaces env tables a) (addresses_meant a is.0 (nil_from_append_left (addresses_faults ifaces env a) (ports_faults ifaces env o) none) defined) in
         let ports = split_ports (ports_of ifaces env o) (ports_meant o is.1 (nil_from_append_right (addresses_faults ifaces env a) (ports_faults ifaces env o) none)) in
-        record { shown = record { addrs = items.0; ports = ports.0 }; regular = record { addrs = items.1; ports = ports.1 } }
+        record { shown = record { addrs = items.0; ports = ports.0 }; regular = record { excluded = exclusion_meant a; addrs = items.1; ports = ports.1 } }
     ends_meant (Some (WrittenEnds.Ports p span)) is none defined =
         let ports = split_ports (ports_of ifaces env (Some p)) (ports_meant (Some p) is none) in
-        record { shown = record { addrs = tt; ports = ports.0 }; regular = record { addrs = tt; ports = ports.1 } }
+        record { shown = record { addrs = tt; ports = ports.0 }; regular = record { excluded = tt; addrs = tt; ports = ports.1 } }
 
     source_sound : (w : Where) → IsSoundWhere w → tables_of_where d w ≡ [] → IfThere AreSoundEnds (source_ends w) × (tables_of_target d (source_ends w) ≡ [])
     source_sound (Where.All span) is none = (tt, refl)
     source_sound (Where.From from to span) is none = (is.0, nil_from_append_left (tables_of_ends d from) (tables_of_target d to) none)
+    source_sound (Where.PcapFilter span) is none = (tt, refl)
     source_sound (Where.To to span) is none = (tt, refl)
 
     destination_sound : (w : Where) → IsSoundWhere w → tables_of_where d w ≡ [] → IfThere AreSoundEnds (destination_ends w) × (tables_of_target d (destination_ends w) ≡ [])
     destination_sound (Where.All span) is none = (tt, refl)
     destination_sound (Where.From from to span) is none = (is.1, nil_from_append_right (tables_of_ends d from) (tables_of_target d to) none)
+    destination_sound (Where.PcapFilter span) is none = (tt, refl)
     destination_sound (Where.To to span) is none = (is, none)
 
     pub filter_meant : (f : Filter) → IsSoundFilter f → filter_faults ifaces env f ≡ [] → tables_of_where d f.ends ≡ []

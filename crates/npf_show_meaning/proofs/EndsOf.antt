@@ -11,16 +11,16 @@ use Rattle.npf_syntax.specs.declared.{value.Values.Values, word.{Address.Address
 use Rattle.npf_model.specs.declared.{ends.{AddrItem.{AddrItem, TheVariants.{Net, InTable}}, Ends.Ends}, iface.Iface.Iface, model.Model.Model}
 use Rattle.npf_model.specs.Count.{elements_of_ends}
 use Rattle.npf_phrase.specs.Grammar.{meaning, optional, preceded}
-use Rattle.npf_parser_values.specs.{Token.{quoted, span_of}, Value.{value, values, can_stand, is_port, is_port_end}}
+use Rattle.npf_parser_values.specs.{Token.{quoted, sign, span_of}, Value.{value, values, can_stand, is_port, is_port_end}}
 use Rattle.npf_parser.specs.Filter.{addresses, ports, ends, the_ends}
-use Rattle.npf_expand_values.specs.{Address.{items_of, addresses_faults, addresses_count, address_items}, Atom.Atom}
+use Rattle.npf_expand_values.specs.{Address.{items_of, addresses_faults, addresses_count, address_items, is_excluded}, Atom.Atom}
 use Rattle.npf_expand_values.specs.{Port.{atom_ports, ports_faults, ports_count, ports_of}, Variable.empty_list_at, Source.declared_of}
 use Rattle.npf_expand.specs.Rule.{ends_faults, ends_of_written, ends_count, source_ends, destination_ends}
-use Rattle.npf_show.specs.Ends.{name_of_table, item_pieces, range_pieces, ports_pieces, ends_pieces, is_said, where_pieces}
+use Rattle.npf_show.specs.Ends.{addresses_pieces, name_of_table, item_pieces, range_pieces, ports_pieces, ends_pieces, is_said, where_pieces}
 use Rattle.npf_show.specs.Piece.{Piece, spaced, optional_pieces, list_pieces}
 use Rattle.npf_show.specs.Piece as Pieces
-use Rattle.npf_show_meaning.specs.Regular.{IsRegularItem}
-use Rattle.npf_show_meaning.proofs.Goes.{Goes, Sees, HeadIn, make, turn, keep, pick_first, pick_second, said, absent, present, it_is, none_is, says_goes}
+use Rattle.npf_show_meaning.specs.Regular.{IsExclusion, IsRegularItem}
+use Rattle.npf_show_meaning.proofs.Goes.{Goes, Sees, HeadIn, make, turn, keep, pick_first, pick_second, said, signed, absent, present, it_is, none_is, says_goes}
 use Rattle.npf_show_meaning.proofs.Lists.{onto, onto_both, Each}
 use Rattle.npf_show_meaning.proofs.Says.{nameless, address_list_faults, port_list_faults, IsElement, net_element, table_element, range_element, elements_faults, elements_give, elements_count}
 use Rattle.npf_show_meaning.proofs.{Values.{Behind, keyword, IsRange, net_goes, table_goes, range_goes}, ValueLists.{HasHead, either_goes, list_head}}
@@ -71,6 +71,7 @@ module _ (ifaces : List Iface) (model : Model) where
     opening = λ s. refl;
     closing = λ s. refl;
     any = λ s. refl;
+    exclamation = λ s. refl;
     port = λ s. refl;
   }
   item_head (InTable number) is to = record {
@@ -81,10 +82,12 @@ module _ (ifaces : List Iface) (model : Model) where
     opening = λ s. refl;
     closing = λ s. refl;
     any = λ s. refl;
+    exclamation = λ s. refl;
     port = λ s. refl;
   }
 
-  record SaysAddresses (items : List AddrItem) (a : Addresses) : Type 0 where
+  record SaysAddresses (excluded : Bool) (items : List AddrItem) (a : Addresses) : Type 0 where
+    excludes : is_excluded a ≡ excluded
     faults : addresses_faults ifaces (nameless ifaces) a ≡ []
     gives : address_items ifaces (nameless ifaces) tables a ≡ Some items
     count : addresses_count ifaces (nameless ifaces) a ≡ length items
@@ -95,28 +98,50 @@ module _ (ifaces : List Iface) (model : Model) where
   addresses_both : (xs ys : List Atom) → addresses_give (xs ++ ys) ≡ addresses_give xs ++ addresses_give ys
   addresses_both xs ys = flat_map-append (items_of tables) xs ys
 
-  says_list : (span : Span) (list : ValueList) (x : AddrItem) (xs : List AddrItem) → Each IsItem list.values (x ∷ xs) → SaysAddresses (x ∷ xs) (Addresses.List list span)
+  says_list : (span : Span) (list : ValueList) (x : AddrItem) (xs : List AddrItem) → Each IsItem list.values (x ∷ xs) → SaysAddresses false (x ∷ xs) (Addresses.List list span)
   says_list span list x xs each = record {
+    excludes = refl;
     faults = rw (each_some IsItem list.span list.values x xs each, elements_faults ifaces (address_list_faults ifaces) addresses_give refl refl addresses_both list.values (x ∷ xs) each) refl;
     gives = ap Some (elements_give ifaces (address_list_faults ifaces) addresses_give refl refl addresses_both list.values (x ∷ xs) each);
     count = elements_count ifaces (address_list_faults ifaces) addresses_give refl refl addresses_both list.values (x ∷ xs) each;
   }
 
-  says_one : (span : Span) (v : Value) (x : AddrItem) → IsItem v x → SaysAddresses (x ∷ []) (Addresses.One v span)
+  says_one : (span : Span) (v : Value) (x : AddrItem) → IsItem v x → SaysAddresses false (x ∷ []) (Addresses.One v span)
   says_one span v x is = record {
+    excludes = refl;
     faults = sym (append-nil _) ∙ is.faults [] refl;
     gives = ap Some (elements_give ifaces (address_list_faults ifaces) addresses_give refl refl addresses_both (v ∷ []) (x ∷ []) (is, tt));
     count = elements_count ifaces (address_list_faults ifaces) addresses_give refl refl addresses_both (v ∷ []) (x ∷ []) (is, tt);
   }
 
-  addresses_go : (x : AddrItem) (xs : List AddrItem) → All (IsRegularItem model) (x ∷ xs) → (to : List TokenKind) → Behind false to
-      → Goes addresses (SaysAddresses (x ∷ xs)) (onto (list_pieces (item_pieces model) (x ∷ xs)) to) to
-  unfolding addresses
-  addresses_go x xs all to here =
+  -- the same of values that are excluded
+  abbrev SaysExcluded : List AddrItem → Values → Type 0
+  SaysExcluded items values = (span : Span) → SaysAddresses true items (Addresses.Excluded values span)
+
+  excluded_list : (own : Span) (list : ValueList) (x : AddrItem) (xs : List AddrItem) → Each IsItem list.values (x ∷ xs) → SaysExcluded (x ∷ xs) (Values.List list own)
+  excluded_list own list x xs each span =
+      let is = says_list span list x xs each in record { excludes = refl; faults = is.faults; gives = is.gives; count = is.count }
+
+  excluded_one : (own : Span) (v : Value) (x : AddrItem) → IsItem v x → SaysExcluded (x ∷ []) (Values.One v own)
+  excluded_one own v x is span =
+      let one = says_one span v x is in record { excludes = refl; faults = is.faults [] refl; gives = one.gives; count = one.count }
+
+  addresses_go : (excluded : Bool) (x : AddrItem) (xs : List AddrItem) → All (IsRegularItem model) (x ∷ xs) → (to : List TokenKind) → Behind false to
+      → Goes addresses (SaysAddresses excluded (x ∷ xs)) (onto (addresses_pieces model excluded (x ∷ xs)) to) to
+  unfolding addresses values
+  addresses_go false x xs all to here =
       pick_second (list_head (IsRegularItem model) (item_pieces model) item_head x xs all to (meaning (quoted (codes "any"))).starts (λ ks head s. head.any s) (λ s. refl))
-      (either_goes _ IsItem (IsRegularItem model) (item_pieces model) (item_goes _ (λ a o s. refl) (λ w s. refl)) item_head SaysAddresses
+      (pick_second (list_head (IsRegularItem model) (item_pieces model) item_head x xs all to (meaning (sign Signs.Exclamation)).starts (λ ks head s. head.exclamation s) (λ s. refl))
+      (either_goes _ IsItem (IsRegularItem model) (item_pieces model) (item_goes _ (λ a o s. refl) (λ w s. refl)) item_head (SaysAddresses false)
       (λ ts list. Addresses.List list (span_of ts)) (λ ts v. Addresses.One v (span_of ts))
-      (λ ts list x xs each. says_list (span_of ts) list x xs each) (λ ts v x is. says_one (span_of ts) v x is) x xs all to here)
+      (λ ts list x xs each. says_list (span_of ts) list x xs each) (λ ts v x is. says_one (span_of ts) v x is) x xs all to here))
+  addresses_go true x xs all to here =
+      pick_second (it_is (λ s. refl))
+      (pick_first (it_is (λ s. refl))
+      (make {P = SaysExcluded (x ∷ xs)} (λ ts values is. is (span_of ts))
+      (signed (either_goes _ IsItem (IsRegularItem model) (item_pieces model) (item_goes _ (λ a o s. refl) (λ w s. refl)) item_head SaysExcluded
+      (λ ts list. Values.List list (span_of ts)) (λ ts v. Values.One v (span_of ts))
+      (λ ts list x xs each. excluded_list (span_of ts) list x xs each) (λ ts v x is. excluded_one (span_of ts) v x is) x xs all to here))))
 
   -- ports
   abbrev IsPort : Value → ℕ × ℕ → Type 0
@@ -136,6 +161,7 @@ module _ (ifaces : List Iface) (model : Model) where
     opening = λ s. refl;
     closing = λ s. refl;
     any = λ s. refl;
+    exclamation = λ s. refl;
     port = λ s. refl;
   }
 
@@ -176,34 +202,39 @@ module _ (ifaces : List Iface) (model : Model) where
     pub count : ends_count ifaces (nameless ifaces) o ≡ elements_of_ends e
 
   pub record AreFine (e : Ends) : Type 0 where
+    pub excluded : IsExclusion e.excluded e.addrs
     pub addrs : IfSome e.addrs (λ items. (0 < length items) × All (IsRegularItem model) items)
     pub ports : IfSome e.ports (λ ports. (0 < length ports) × All (IsRange ifaces) ports)
 
   no_elements : {R : Type 0} → 0 < 0 → R
   no_elements some = absurd (let none : ⊥ = omega (arith, some) in none)
 
-  abbrev GoesEnds : Option (List AddrItem) → Option (List (ℕ × ℕ)) → List TokenKind → Type 0
-  GoesEnds addrs those to =
-      Goes ends (λ e. SaysEnds (record { addrs = addrs; ports = those }) (Some e)) (onto (optional_pieces (list_pieces (item_pieces model)) addrs ++ optional_pieces ports_pieces those) to) to
+  abbrev GoesEnds : Bool → Option (List AddrItem) → Option (List (ℕ × ℕ)) → List TokenKind → Type 0
+  GoesEnds excluded addrs those to =
+      Goes ends (λ e. SaysEnds (record { excluded = excluded; addrs = addrs; ports = those }) (Some e))
+      (onto (optional_pieces (addresses_pieces model excluded) addrs ++ optional_pieces ports_pieces those) to) to
 
-  no_port : (x : AddrItem) (xs : List AddrItem) → All (IsRegularItem model) (x ∷ xs) → (to : List TokenKind) → Sees false (meaning ports).starts (onto (list_pieces (item_pieces model) (x ∷ xs)) to)
+  no_port : (excluded : Bool) (x : AddrItem) (xs : List AddrItem) → All (IsRegularItem model) (x ∷ xs) → (to : List TokenKind)
+      → Sees false (meaning ports).starts (onto (addresses_pieces model excluded (x ∷ xs)) to)
   unfolding ports
-  no_port x xs all to =
+  no_port false x xs all to =
       list_head (IsRegularItem model) (item_pieces model) item_head x xs all to (meaning ports).starts (λ ks head s. ap (λ b. b || false) (head.port s)) (λ s. refl)
+  no_port true x xs all to = it_is (λ s. refl)
 
-  says_alone : (span : Span) (x : AddrItem) (xs : List AddrItem) (a : Addresses) (o : Option Values) → SaysAddresses (x ∷ xs) a → o ≡ None
-      → SaysEnds (record { addrs = Some (x ∷ xs); ports = None }) (Some (WrittenEnds.Addresses a o span))
-  says_alone span x xs a o is none = record {
+  says_alone : (span : Span) (excluded : Bool) (x : AddrItem) (xs : List AddrItem) (a : Addresses) (o : Option Values) → SaysAddresses excluded (x ∷ xs) a → o ≡ None
+      → SaysEnds (record { excluded = excluded; addrs = Some (x ∷ xs); ports = None }) (Some (WrittenEnds.Addresses a o span))
+  says_alone span excluded x xs a o is none = record {
     faults = rw (is.faults, none) refl;
-    gives = rw (is.gives, none) refl;
+    gives = rw (is.excludes, is.gives, none) refl;
     count = rw (is.count, none) refl;
   }
 
-  says_both : (span : Span) (x : AddrItem) (xs : List AddrItem) (y : ℕ × ℕ) (ys : List (ℕ × ℕ)) (a : Addresses) (v : Values) → SaysAddresses (x ∷ xs) a → SaysPorts (y ∷ ys) v
-      → SaysEnds (record { addrs = Some (x ∷ xs); ports = Some (y ∷ ys) }) (Some (WrittenEnds.Addresses a (Some v) span))
-  says_both span x xs y ys a v is those = record {
+  says_both : (span : Span) (excluded : Bool) (x : AddrItem) (xs : List AddrItem) (y : ℕ × ℕ) (ys : List (ℕ × ℕ)) (a : Addresses) (v : Values)
+      → SaysAddresses excluded (x ∷ xs) a → SaysPorts (y ∷ ys) v
+      → SaysEnds (record { excluded = excluded; addrs = Some (x ∷ xs); ports = Some (y ∷ ys) }) (Some (WrittenEnds.Addresses a (Some v) span))
+  says_both span excluded x xs y ys a v is those = record {
     faults = rw (is.faults, those.faults) refl;
-    gives = ap₂ (λ a p. record { addrs = a; ports = p }) is.gives those.gives;
+    gives = rw (is.excludes, is.gives, those.gives) refl;
     count = rw (is.count, those.count) refl;
   }
 
@@ -212,49 +243,55 @@ module _ (ifaces : List Iface) (model : Model) where
   AreListed ranges None = ⊥
   AreListed ranges (Some v) = SaysPorts ranges v
 
-  says_listed : (span : Span) (x : AddrItem) (xs : List AddrItem) (y : ℕ × ℕ) (ys : List (ℕ × ℕ)) (a : Addresses) (o : Option Values) → SaysAddresses (x ∷ xs) a → AreListed (y ∷ ys) o
-      → SaysEnds (record { addrs = Some (x ∷ xs); ports = Some (y ∷ ys) }) (Some (WrittenEnds.Addresses a o span))
-  says_listed span x xs y ys a None is those = absurd those
-  says_listed span x xs y ys a (Some v) is those = says_both span x xs y ys a v is those
+  says_listed : (span : Span) (excluded : Bool) (x : AddrItem) (xs : List AddrItem) (y : ℕ × ℕ) (ys : List (ℕ × ℕ)) (a : Addresses) (o : Option Values)
+      → SaysAddresses excluded (x ∷ xs) a → AreListed (y ∷ ys) o
+      → SaysEnds (record { excluded = excluded; addrs = Some (x ∷ xs); ports = Some (y ∷ ys) }) (Some (WrittenEnds.Addresses a o span))
+  says_listed span excluded x xs y ys a None is those = absurd those
+  says_listed span excluded x xs y ys a (Some v) is those = says_both span excluded x xs y ys a v is those
 
-  ends_by : (addrs : Option (List AddrItem)) (those : Option (List (ℕ × ℕ))) → AreFine (record { addrs = addrs; ports = those }) → (is_some addrs || is_some those) ≡ true
-      → (to : List TokenKind) → HeadIn end_stops to → GoesEnds addrs those to
+  ends_by : (excluded : Bool) (addrs : Option (List AddrItem)) (those : Option (List (ℕ × ℕ))) → AreFine (record { excluded = excluded; addrs = addrs; ports = those })
+      → (is_some addrs || is_some those) ≡ true → (to : List TokenKind) → HeadIn end_stops to → GoesEnds excluded addrs those to
   unfolding ends ports
-  ends_by None None fine said_some to here = cc
-  ends_by None (Some []) fine said_some to here = no_elements fine.ports.0
-  ends_by None (Some (y ∷ ys)) fine said_some to here =
+  ends_by excluded None None fine said_some to here = cc
+  ends_by excluded None (Some []) fine said_some to here = no_elements fine.ports.0
+  ends_by true None (Some (y ∷ ys)) fine said_some to here = absurd fine.excluded
+  ends_by false None (Some (y ∷ ys)) fine said_some to here =
       pick_first (it_is (λ s. refl))
       (make (λ ts v is. record {
         faults = is.faults;
-        gives = ap (λ o. record { addrs = None; ports = o }) is.gives;
+        gives = ap (λ o. record { excluded = false; addrs = None; ports = o }) is.gives;
         count = is.count ∙ omega arith;
       }) (ports_go y ys fine.ports.1 to (end_behind to here)))
-  ends_by (Some []) those fine said_some to here = no_elements fine.addrs.0
-  ends_by (Some (x ∷ xs)) None fine said_some to here =
-      subst (λ from. Goes ends (λ e. SaysEnds (record { addrs = Some (x ∷ xs); ports = None }) (Some e)) from to) (sym (onto_both (list_pieces (item_pieces model) (x ∷ xs)) [] to))
-      (pick_second (no_port x xs fine.addrs.1 to)
-      (make {P = λ a. SaysAddresses (x ∷ xs) a.0 × (a.1 ≡ None)} (λ ts a is. says_alone (span_of ts) x xs a.0 a.1 is.0 is.1)
-      (turn (addresses_go x xs fine.addrs.1 to (end_behind to here)) (absent {g = ports} {P = λ o. o ≡ None} (none_is end_stops (λ s. refl) here) refl))))
-  ends_by (Some (x ∷ xs)) (Some []) fine said_some to here = no_elements fine.ports.0
-  ends_by (Some (x ∷ xs)) (Some (y ∷ ys)) fine said_some to here =
+  ends_by excluded (Some []) those fine said_some to here = no_elements fine.addrs.0
+  ends_by excluded (Some (x ∷ xs)) None fine said_some to here =
+      subst (λ from. Goes ends (λ e. SaysEnds (record { excluded = excluded; addrs = Some (x ∷ xs); ports = None }) (Some e)) from to)
+      (sym (onto_both (addresses_pieces model excluded (x ∷ xs)) [] to))
+      (pick_second (no_port excluded x xs fine.addrs.1 to)
+      (make {P = λ a. SaysAddresses excluded (x ∷ xs) a.0 × (a.1 ≡ None)} (λ ts a is. says_alone (span_of ts) excluded x xs a.0 a.1 is.0 is.1)
+      (turn (addresses_go excluded x xs fine.addrs.1 to (end_behind to here)) (absent {g = ports} {P = λ o. o ≡ None} (none_is end_stops (λ s. refl) here) refl))))
+  ends_by excluded (Some (x ∷ xs)) (Some []) fine said_some to here = no_elements fine.ports.0
+  ends_by excluded (Some (x ∷ xs)) (Some (y ∷ ys)) fine said_some to here =
       let behind = onto (ports_pieces (y ∷ ys)) to in
-      subst (λ from. Goes ends (λ e. SaysEnds (record { addrs = Some (x ∷ xs); ports = Some (y ∷ ys) }) (Some e)) from to)
-      (sym (onto_both (list_pieces (item_pieces model) (x ∷ xs)) (ports_pieces (y ∷ ys)) to))
-      (pick_second (no_port x xs fine.addrs.1 behind)
-      (make {P = λ a. SaysAddresses (x ∷ xs) a.0 × AreListed (y ∷ ys) a.1} (λ ts a is. says_listed (span_of ts) x xs y ys a.0 a.1 is.0 is.1)
-      (turn (addresses_go x xs fine.addrs.1 behind (inl (_, refl))) (present {P = AreListed (y ∷ ys)} (it_is (λ s. refl)) (ports_go y ys fine.ports.1 to (end_behind to here))))))
+      subst (λ from. Goes ends (λ e. SaysEnds (record { excluded = excluded; addrs = Some (x ∷ xs); ports = Some (y ∷ ys) }) (Some e)) from to)
+      (sym (onto_both (addresses_pieces model excluded (x ∷ xs)) (ports_pieces (y ∷ ys)) to))
+      (pick_second (no_port excluded x xs fine.addrs.1 behind)
+      (make {P = λ a. SaysAddresses excluded (x ∷ xs) a.0 × AreListed (y ∷ ys) a.1} (λ ts a is. says_listed (span_of ts) excluded x xs y ys a.0 a.1 is.0 is.1)
+      (turn (addresses_go excluded x xs fine.addrs.1 behind (inl (_, refl)))
+      (present {P = AreListed (y ∷ ys)} (it_is (λ s. refl)) (ports_go y ys fine.ports.1 to (end_behind to here))))))
 
   pub ends_go : (e : Ends) → AreFine e → is_said e ≡ true → (to : List TokenKind) → HeadIn end_stops to → Goes ends (λ tree. SaysEnds e (Some tree)) (onto (ends_pieces model e) to) to
-  ends_go e fine said_some to here = ends_by e.addrs e.ports fine said_some to here
+  ends_go e fine said_some to here = ends_by e.excluded e.addrs e.ports fine said_some to here
 
   -- an end that says nothing
-  unsaid_by : (addrs : Option (List AddrItem)) (those : Option (List (ℕ × ℕ))) → (is_some addrs || is_some those) ≡ false → SaysEnds (record { addrs = addrs; ports = those }) None
-  unsaid_by None None none = record { faults = refl; gives = refl; count = refl }
-  unsaid_by (Some items) those none = cc
-  unsaid_by None (Some ranges) none = cc
+  unsaid_by : (excluded : Bool) (addrs : Option (List AddrItem)) (those : Option (List (ℕ × ℕ))) → IsExclusion excluded addrs → (is_some addrs || is_some those) ≡ false
+      → SaysEnds (record { excluded = excluded; addrs = addrs; ports = those }) None
+  unsaid_by true None None is none = absurd is
+  unsaid_by false None None is none = record { faults = refl; gives = refl; count = refl }
+  unsaid_by excluded (Some items) those is none = cc
+  unsaid_by excluded None (Some ranges) is none = cc
 
-  unsaid : (e : Ends) → is_said e ≡ false → SaysEnds e None
-  unsaid e none = unsaid_by e.addrs e.ports none
+  unsaid : (e : Ends) → AreFine e → is_said e ≡ false → SaysEnds e None
+  unsaid e fine none = unsaid_by e.excluded e.addrs e.ports fine.excluded none
 
   -- both ends
   abbrev pub SaysWhere : Ends → Ends → Where → Type 0
@@ -269,7 +306,7 @@ module _ (ifaces : List Iface) (model : Model) where
   target_goes : (t : Bool) (to : Ends) → is_said to ≡ t → AreFine to → (behind : List TokenKind) → HeadIn where_stops behind
       → Goes (optional (preceded (quoted (codes "to")) ends)) (SaysEnds to) (onto (target t to) behind) behind
   target_goes true to is fine behind here = present (it_is (λ s. refl)) (said (ends_go to fine is behind (inr here)))
-  target_goes false to is fine behind here = absent {g = preceded (quoted (codes "to")) ends} (none_is where_stops (λ s. refl) here) (unsaid to is)
+  target_goes false to is fine behind here = absent {g = preceded (quoted (codes "to")) ends} (none_is where_stops (λ s. refl) here) (unsaid to fine is)
 
   target_head : (t : Bool) (to : Ends) (behind : List TokenKind) → HeadIn where_stops behind → HeadIn end_stops (onto (target t to) behind)
   target_head true to behind here = inl (_, refl)
@@ -285,10 +322,10 @@ module _ (ifaces : List Iface) (model : Model) where
       (make {P = λ a. SaysEnds from (Some a.0) × SaysEnds to a.1} (λ ts a says. says)
       (said (turn (ends_go from fine is rest (target_head t to behind here)) (target_goes t to it fair behind here))))))
   where_by false true from to is it fine fair behind here =
-      pick_second (it_is (λ s. refl)) (pick_second (it_is (λ s. refl))
-      (make {P = λ a. SaysEnds to (Some a)} (λ ts a says. (unsaid from is, says)) (said (ends_go to fair it behind (inr here)))))
+      pick_second (it_is (λ s. refl)) (pick_second (it_is (λ s. refl)) (pick_second (it_is (λ s. refl))
+      (make {P = λ a. SaysEnds to (Some a)} (λ ts a says. (unsaid from fine is, says)) (said (ends_go to fair it behind (inr here))))))
   where_by false false from to is it fine fair behind here =
-      pick_first (it_is (λ s. refl)) (says_goes (codes "all") Where.All (SaysWhere from to) behind (λ s. (unsaid from is, unsaid to it)))
+      pick_first (it_is (λ s. refl)) (says_goes (codes "all") Where.All (SaysWhere from to) behind (λ s. (unsaid from fine is, unsaid to fair it)))
 
   pub where_goes : (from to : Ends) → AreFine from → AreFine to → (behind : List TokenKind) → HeadIn where_stops behind
       → Goes the_ends (SaysWhere from to) (onto (where_pieces model from to) behind) behind

@@ -32,6 +32,7 @@ module _ (ifaces : List Iface) (model : Model) where
 
   fine_ends : (e : Ends) → AreShowableEnds model e → AreRegularEnds model e → AreFine ifaces model e
   fine_ends e shows regular = record {
+    excluded = regular.excluded;
     addrs = regular.addrs;
     ports = if_both (All IsShowableRange) (λ ports. (0 < length ports) × All IsForward ports) (λ ports. (0 < length ports) × All (IsRange ifaces) ports)
         (λ ports s r. (r.0, all_pairs IsShowableRange IsForward (IsRange ifaces) fine_range ports s r.1)) e.ports shows.ports regular.ports;

@@ -22,6 +22,7 @@ pub record HasHead (ks : List TokenKind) : Type 0 where
   pub opening : (s : Span) → (meaning (sign Signs.OpenBrace)).starts (Some (at kind s)) ≡ false
   pub closing : (s : Span) → (meaning (sign Signs.CloseBrace)).starts (Some (at kind s)) ≡ false
   pub any : (s : Span) → (meaning (quoted (codes "any"))).starts (Some (at kind s)) ≡ false
+  pub exclamation : (s : Span) → (meaning (sign Signs.Exclamation)).starts (Some (at kind s)) ≡ false
   pub port : (s : Span) → (meaning (quoted (codes "port"))).starts (Some (at kind s)) ≡ false
 
 abbrev pub close : TokenKind

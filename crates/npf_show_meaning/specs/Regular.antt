@@ -47,7 +47,13 @@ IsRegularItem model (InTable number) = IsRegularTable model number
 abbrev pub IsForward : ℕ × ℕ → Type 0
 IsForward range = range.0 ≤ range.1
 
+-- what is excluded is listed
+abbrev pub IsExclusion : Bool → Option (List AddrItem) → Type 0
+IsExclusion true None = ⊥
+IsExclusion _ _ = Unit {0}
+
 pub record AreRegularEnds (model : Model) (ends : Ends) : Type 0 where
+  pub excluded : IsExclusion ends.excluded ends.addrs
   pub addrs : IfSome ends.addrs (λ items. (0 < length items) × All (IsRegularItem model) items)
   pub ports : IfSome ends.ports (λ ports. (0 < length ports) × All IsForward ports)
 

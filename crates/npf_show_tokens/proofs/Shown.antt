@@ -13,7 +13,7 @@ use Rattle.npf_model.specs.declared.{rule.StateOpt.TheVariants.{Not, OnInterface
 use Rattle.npf_model.specs.declared.{settings.Parameter.TheVariants.{StrictRst, KeyInterface}, table.Kind.{Kind, TheVariants.{Ipset, Lpm, Const}}}
 use Rattle.npf_model.specs.{declared.table.TableDecl.TableDecl, Settings.parameter_name}
 use Rattle.npf_show.specs.Bound.{dir_pieces, on_pieces}
-use Rattle.npf_show.specs.Ends.{angled, prefix_pieces, item_pieces, name_of_table, range_pieces, ports_pieces, ends_pieces, end_pieces, is_said, where_pieces}
+use Rattle.npf_show.specs.Ends.{addresses_pieces, angled, prefix_pieces, item_pieces, name_of_table, range_pieces, ports_pieces, ends_pieces, end_pieces, is_said, where_pieces}
 use Rattle.npf_show.specs.Filter.{family_pieces, protocol_pieces, protocols_pieces, flags_pieces, code_pieces, icmp_pieces, filter_pieces}
 use Rattle.npf_show.specs.Group.{within_item, item_line, head_pieces, group_head, group_lines}
 use Rattle.npf_show.specs.Map.{static_pieces, algo_pieces, one_proto_pieces, side_port_pieces, side_pieces, arrow_pieces, pass_pieces, map_line}
@@ -55,10 +55,18 @@ item_follows model (InTable number) is = angled_follows (name_of_table (slice_ge
 ports_follow : (ports : List (ℕ × ℕ)) → All IsShowableRange ports → Follows (ports_pieces ports)
 ports_follow ports are = word_then (codes "port") (list_pieces range_pieces ports) refl (list_follows IsShowableRange range_pieces range_follows ports are)
 
+items_follow : (model : Model) (items : List AddrItem) → All (IsShowableItem model) items → Follows (list_pieces (item_pieces model) items)
+items_follow model = list_follows (IsShowableItem model) (item_pieces model) (item_follows model)
+
+addresses_follow : (model : Model) (excluded : Bool) (items : List AddrItem) → All (IsShowableItem model) items → Follows (addresses_pieces model excluded items)
+addresses_follow model true items are =
+    both_follow (spaced (Pieces.Sign (codes "!"))) (list_pieces (item_pieces model) items) (sign_follows Signs.Exclamation) (items_follow model items are)
+addresses_follow model false items are = items_follow model items are
+
 ends_follow : (model : Model) (ends : Ends) → AreShowableEnds model ends → Follows (ends_pieces model ends)
 ends_follow model ends are =
-    both_follow (optional_pieces (list_pieces (item_pieces model)) ends.addrs) (optional_pieces ports_pieces ends.ports)
-    (option_follows (All (IsShowableItem model)) (list_pieces (item_pieces model)) (list_follows (IsShowableItem model) (item_pieces model) (item_follows model)) ends.addrs are.addrs)
+    both_follow (optional_pieces (addresses_pieces model ends.excluded) ends.addrs) (optional_pieces ports_pieces ends.ports)
+    (option_follows (All (IsShowableItem model)) (addresses_pieces model ends.excluded) (addresses_follow model ends.excluded) ends.addrs are.addrs)
     (option_follows (All IsShowableRange) ports_pieces ports_follow ends.ports are.ports)
 
 if_follows : (b : Bool) (x y : List Piece) → Follows x → Follows y → Follows (if b then x else y)

@@ -42,10 +42,11 @@ pub struct ProtoPart {
     pub span: Span,
 }
 
-/// The addresses of an end: any, one value, or a list of values. A written value is an address, a table, a variable or a function.
+/// The addresses of an end: any, one value, a list of values, or all others than those of a value or of a list. A written value is an address, a table, a variable or a function.
 #[derive(Debug, Drop)]
 pub enum Addresses {
     Any { span: Span },
+    Excluded { values: Values, span: Span },
     One { value: Value, span: Span },
     List { list: ValueList, span: Span },
 }
@@ -65,7 +66,8 @@ pub enum EndsTree {
     },
 }
 
-/// Where packets come from and go to: anywhere, from an end and to another if it is said, or to an end alone.
+/// Where packets come from and go to: anywhere, from an end and to another if it is said, or to an end alone. Or what a
+/// program of pcap-filter(7) says, which isn't built.
 #[derive(Debug, Drop)]
 pub enum Where {
     All {
@@ -74,6 +76,9 @@ pub enum Where {
     From {
         from: Boxed<EndsTree>,
         to: Option<Boxed<EndsTree>>,
+        span: Span,
+    },
+    PcapFilter {
         span: Span,
     },
     To {

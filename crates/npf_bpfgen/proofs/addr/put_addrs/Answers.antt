@@ -1,4 +1,4 @@
-use Rattle.std.proofs.{Common.{◌≡◌, ℕ, List, [], ◌∷◌, ◌+◌, ◌-◌, ◌<◌, length, drop, get_or, Some, None, refl, sym, ap, subst, arith}, Math.Seq.drop-length}
+use Rattle.std.proofs.{Common.{false, ◌≡◌, ℕ, List, [], ◌∷◌, ◌+◌, ◌-◌, ◌<◌, length, drop, get_or, Some, None, refl, sym, ap, subst, arith}, Math.Seq.drop-length}
 use Rattle.std.{proofs.lemmas.List.Sums.sum_by-take-drop, specs.List.sum_by}
 use Rattle.npf_bpf.specs.declared.insn.Insn.{Insn}
 use Rattle.npf_bpfgen.specs.{ProgramLength.item_length, Endpoint.address_of, Instruction.{jump, return_number}}
@@ -17,7 +17,7 @@ loop-left-init c =
       left = omega arith;
       front = counted old new 1 1 _ (extended (return_number 0 ∷ []) old new 1 1 is refl refl) (ap (λ (xs : List AddrItem). 1 + sum_by item_length xs) (sym (drop-length items)));
       value = λ p cop tables facts seen.
-          subst (λ (xs : List AddrItem). Guards p cop (header_words facts) None (fits_addrs (Some xs) tables (address_of c.args.endpoint facts)) old new)
+          subst (λ (xs : List AddrItem). Guards p cop (header_words facts) None (fits_addrs false (Some xs) tables (address_of c.args.endpoint facts)) old new)
           (sym (drop-length items)) (none_guards p cop (header_words facts) None old new is);
     }
 
@@ -53,5 +53,5 @@ returns-clause-front c =
 pub returns-clause-value : goal.returns-clause-value
 returns-clause-value c =
     let done : c.loop-left.left ≡ 0 = omega arith in
-    subst (λ (n : ℕ). GuardsPacket (λ tables facts. fits_addrs (Some (drop n c.args.items.now)) tables
+    subst (λ (n : ℕ). GuardsPacket (λ tables facts. fits_addrs false (Some (drop n c.args.items.now)) tables
     (address_of c.args.endpoint facts)) c.args.tail.now c.loop-left.tail) done c.loop-left.invariant.value

@@ -11,6 +11,6 @@ returns-clause-front c =
 pub returns-clause-value : goal.returns-clause-value
 returns-clause-value c =
     let e = c.args.endpoint in
-    guards_both (λ tables facts. fits_addrs c.args.ends.now.addrs tables (address_of e facts)) (λ tables facts. fits_ports c.args.ends.now.ports (port_of e facts.l4))
+    guards_both (λ tables facts. fits_addrs c.args.ends.now.excluded c.args.ends.now.addrs tables (address_of e facts)) (λ tables facts. fits_ports c.args.ends.now.ports (port_of e facts.l4))
     c.args.tail.now c.put_listed_ports.new.tail c.put_listed_addrs.new.tail
     c.in_ok-put_listed_ports.ensures.value c.in_ok-put_listed_addrs.ensures.value
