@@ -14,10 +14,11 @@ use Rattle.npf_expand_values.specs.declared.role.Role.{Role, TheVariants.{AsPort
 use Rattle.npf_expand_values.specs.Address.{address_items, addresses_count, addresses_faults, host_item, items_of}
 use Rattle.npf_expand_values.specs.{Atom.{Atom, NumberAtom, RangeAtom, WordAtom, StringAtom, BlockAtom, TableAtom, AddressesAtom, Env}, Declarations.Declared}
 use Rattle.npf_expand_values.specs.Port.{atom_ports, ports_count, ports_faults, ports_of, same_port}
-use Rattle.npf_expand_values.specs.Protocol.{one_binding, one_span, protocol_faults, protocol_of, spliced_ones, written_ones}
-use Rattle.npf_expand_values.specs.Service.{number_named, protocols, services}
+use Rattle.npf_expand_values.specs.Protocol.{one_binding, one_span, protocol_faults, protocols_faults, protocol_of, spliced_ones, written_ones}
+use Rattle.npf_names.specs.{Names.number_named, Protocol.protocols, Service.services}
 use Rattle.npf_expand_values.specs.Use.{atoms_of, count_of, element_count, is_unfit, undefined_faults, use_faults, word_faults}
 use Rattle.npf_expand_values.specs.Variable.{binding_of, each_value_faults, empty_list_at, empty_list_faults, env_of, listed_values, own_faults, spliced, value_span}
+use Rattle.npf_expand_values.proofs.FaultLemmas.{none_before}
 use Rattle.npf_expand.specs.LoneRule.{ElaboratesRule, elements_alone}
 use Rattle.npf_expand.specs.Rule.{ends_count, ends_faults, ends_of_written, filter_count, filter_faults, on_faults, part_count, part_faults}
 use Rattle.npf_expand.specs.Rule.{part_protocols, rule_faults, rule_of_tree, source_ends, destination_ends}
@@ -147,7 +148,7 @@ module _ (ifaces : List Iface) (env : Env) (tables : List (List ℕ)) where
       ∙ each_sum AsProtocol (λ atom. kept_size (protocol_of atom)) protocol_size (protocol_faults env) (λ one. atoms_of (one_binding env one))
       (λ one clean. used_sum AsProtocol (λ atom. kept_size (protocol_of atom)) protocol_size (one_span one) (atoms_of (one_binding env one))
       (nil_from_append_right (undefined_faults (one_span one) (one_binding env one)) (use_faults AsProtocol (one_span one) (atoms_of (one_binding env one))) clean))
-      (written_ones part.protocols) none
+      (written_ones part.protocols) (none_before (protocols_faults env part.protocols) _ none)
 
   ends_listed : (ends : Option EndsTree) → ends_faults ifaces env ends ≡ [] → elements_of_ends (ends_of_written ifaces env tables ends) ≡ ends_count ifaces env ends
   ends_listed None none = refl

@@ -1,5 +1,5 @@
 -- What a written rule is: one rule, with its lists spliced, its words numbers and its functions addresses.
-use Rattle.std.specs.Prelude.{ℕ, ◌+◌, Bool, true, false, ◌==◌, ◌&&◌, min, nat_le, nat_lt, if◌then◌else◌, Option, Some, None, List, [], ◌∷◌, ◌++◌, bit_or}
+use Rattle.std.specs.Prelude.{ℕ, ◌+◌, Bool, true, false, ◌==◌, ◌&&◌, nat_le, nat_lt, if◌then◌else◌, Option, Some, None, List, [], ◌∷◌, ◌++◌, bit_or}
 use Rattle.std.specs.Option.{option_map}
 use Rattle.npf_types.specs.declared.decision.Decision.{Decision}
 use Rattle.npf_types.specs.declared.decision.Decision.TheVariants.{Pass, Block}
@@ -25,8 +25,10 @@ use Rattle.npf_syntax.specs.declared.rule.RuleAction.{RuleAction}
 use Rattle.npf_syntax.specs.declared.rule.RuleTree.{RuleTree}
 use Rattle.npf_syntax.specs.declared.rule.Stateful.{Stateful}
 use Rattle.npf_syntax.specs.declared.value.IfaceTree.{IfaceTree as WrittenIface}
-use Rattle.npf_syntax.specs.declared.word.Number.{Number}
+use Rattle.npf_syntax.specs.declared.value.One.{One}
 use Rattle.npf_syntax.specs.declared.word.Word.{Word}
+use Rattle.npf_names.specs.declared.icmp.IcmpNames.{IcmpNames}
+use Rattle.npf_names.specs.Icmp.{codes_of, types_of}
 use Rattle.npf_model.specs.declared.ends.Ends.{Ends}
 use Rattle.npf_model.specs.declared.iface.Iface.{Iface}
 use Rattle.npf_model.specs.declared.rule.Rule.{Rule}
@@ -37,9 +39,10 @@ use Rattle.npf_expand_values.specs.Address.{addresses_count, addresses_faults, a
 use Rattle.npf_expand_values.specs.Atom.{Env}
 use Rattle.npf_expand_values.specs.Declarations.{Declared, table_number}
 use Rattle.npf_expand_values.specs.Iface.{iface_faults, on_iface}
+use Rattle.npf_expand_values.specs.Message.{icmp_names, message_faults, message_number}
 use Rattle.npf_expand_values.specs.Port.{ports_count, ports_faults, ports_of}
 use Rattle.npf_expand_values.specs.Protocol.{protocols_faults, protocols_of, spliced_ones}
-use Rattle.npf_expand_values.specs.Use.{element_count}
+use Rattle.npf_expand_values.specs.Use.{element_count, then_faults}
 
 abbrev pub return_of : Option BlockReturn → Return
 return_of None = Nothing
@@ -89,13 +92,36 @@ abbrev pub flags_of_detail : Option Detail → Option (ℕ × ℕ)
 flags_of_detail (Some (Detail.Flags flags mask span)) = Some (flag_bits flags.text, mask_bits flags mask)
 flags_of_detail _ = None
 
--- a number as a byte; a greater one, which no grammar accepts there, is taken for 255
-abbrev pub as_byte : Number → ℕ
-as_byte number = min number.value 255
+-- a code by itself or as one of the names that its type's codes have
+abbrev pub code_of : Env → IcmpNames → ℕ → Option One → Option ℕ
+code_of env names kind None = None
+code_of env names kind (Some code) = message_number (codes_of names kind) env code
 
-abbrev pub icmp_of_detail : Option Detail → Option (ℕ × Option ℕ)
-icmp_of_detail (Some (Detail.IcmpType number code span)) = Some (as_byte number, option_map as_byte code)
-icmp_of_detail _ = None
+abbrev pub with_code : Env → IcmpNames → Option One → Option ℕ → Option (ℕ × Option ℕ)
+with_code env names code None = None
+with_code env names code (Some kind) = Some (kind, code_of env names kind code)
+
+-- the type of ICMP, and the code where one is written
+abbrev pub icmp_of_detail : Env → IcmpNames → Option Detail → Option (ℕ × Option ℕ)
+icmp_of_detail env names (Some (Detail.IcmpType kind code span)) = with_code env names code (message_number (types_of names) env kind)
+icmp_of_detail env names _ = None
+
+abbrev pub icmp_of_part : Env → Option ProtoPart → Option (ℕ × Option ℕ)
+icmp_of_part env None = None
+icmp_of_part env (Some part) = icmp_of_detail env (icmp_names (spliced_ones env part.protocols)) part.detail
+
+-- a name of a code is looked up among those of its type
+abbrev pub code_faults : Env → IcmpNames → Option ℕ → Option One → List ConfFault
+code_faults env names (Some kind) (Some code) = message_faults (codes_of names kind) env code
+code_faults env names _ _ = []
+
+abbrev pub message_detail_faults : Env → IcmpNames → One → Option One → List ConfFault
+message_detail_faults env names kind code =
+    then_faults (message_faults (types_of names) env kind) (code_faults env names (message_number (types_of names) env kind) code)
+
+abbrev pub detail_faults : Env → IcmpNames → Option Detail → List ConfFault
+detail_faults env names (Some (Detail.IcmpType kind code span)) = message_detail_faults env names kind code
+detail_faults env names _ = []
 
 abbrev pub detail_of_part : Option ProtoPart → Option Detail
 detail_of_part None = None
@@ -125,7 +151,8 @@ module _ (ifaces : List Iface) (env : Env) where
 
   abbrev pub part_faults : Option ProtoPart → List ConfFault
   part_faults None = []
-  part_faults (Some part) = protocols_faults env part.protocols
+  part_faults (Some part) =
+      then_faults (protocols_faults env part.protocols) (detail_faults env (icmp_names (spliced_ones env part.protocols)) part.detail)
 
   abbrev pub filter_faults : Filter → List ConfFault
   filter_faults filter =
@@ -173,7 +200,7 @@ module _ (ifaces : List Iface) (env : Env) where
     v6 = option_map is_inet6 filter.family;
     protos = part_protocols filter.proto;
     flags = flags_of_detail (detail_of_part filter.proto);
-    icmp = icmp_of_detail (detail_of_part filter.proto);
+    icmp = icmp_of_part env filter.proto;
     from = ends_of_written tables (source_ends filter.ends);
     to = ends_of_written tables (destination_ends filter.ends);
     procedure = None;

@@ -1,6 +1,6 @@
 -- What a configuration chooses for the whole of it: its settings, and whether errors of ICMP go back through a translation. A value
 -- that sets nothing is for the checks to refuse.
-use Rattle.std.specs.Prelude.{ℕ, Bool, Option, Some, None, List, [], ◌∷◌, codes}
+use Rattle.std.specs.Prelude.{ℕ, Bool, Option, Some, List, [], ◌∷◌, codes}
 use Rattle.std.specs.List.{flat_map, list_any}
 use Rattle.std.specs.Str.{bytes_eq}
 use Rattle.npf_syntax.specs.declared.stmt.Setting.{Setting}

@@ -10,9 +10,10 @@ ghost use Rattle.npf_expand_values.specs.Protocol.{one_binding, protocol_faults,
 ghost use Rattle.npf_expand_values.specs.Scope.{declared_of_scope, env_of_scope, ifaces_of_scope};
 ghost use Rattle.npf_expand_values.specs.Summary.{counted};
 ghost use Rattle.npf_expand_values.specs.Use.{atoms_of};
-ghost use Rattle.npf_expand.specs.Rule.{any_ends, destination_ends, detail_of_part, ends_count, ends_faults, ends_of_written, filter_count, filter_faults, filter_rule, flags_of_detail, icmp_of_detail, part_count, part_faults, part_protocols, source_ends};
+ghost use Rattle.npf_expand.specs.Rule.{any_ends, destination_ends, detail_of_part, ends_count, ends_faults, ends_of_written, filter_count, filter_faults, filter_rule, flags_of_detail, icmp_of_part, part_count, part_faults, part_protocols, source_ends};
 
-use crate::rule::{flags_of, icmp_of, is_inet6};
+use crate::message::{detail_fault, icmp_of};
+use crate::rule::{flags_of, is_inet6};
 use npf_expand_values::{
     Atom, Role, Scope, counted_both, empty_fault, items_of_each, listed_values,
 };
@@ -34,6 +35,16 @@ fn ones_fault<'a>(scope: &Scope<'_, 'a, '_>, ones: &'a [One]) -> Option<ConfFaul
     first
 }
 
+fn written_part_fault<'a>(scope: &Scope<'_, 'a, '_>, part: &'a ProtoPart) -> Option<ConfFault>
+    ensures { result ≡ first_fault (part_faults (ifaces_of_scope scope.now) (env_of_scope scope.now) (Some part.now)) }
+{
+    let protocols = written_ones(&part.protocols);
+    match ones_fault(scope, protocols) {
+        Some(fault) => Some(fault),
+        None => detail_fault(scope, scope.icmp_names(protocols), &part.detail),
+    }
+}
+
 fn part_fault<'a>(
     scope: &Scope<'_, 'a, '_>,
     part: &'a Option<Boxed<ProtoPart>>,
@@ -41,7 +52,7 @@ fn part_fault<'a>(
     ensures { result ≡ first_fault (part_faults (ifaces_of_scope scope.now) (env_of_scope scope.now) part.now) }
 {
     match part {
-        Some(part) => ones_fault(scope, written_ones(&part.get().protocols)),
+        Some(part) => written_part_fault(scope, part.get()),
         None => None,
     }
 }
@@ -299,7 +310,7 @@ pub(crate) fn filter_rule<'a>(
         v6: is_inet6(&filter.family),
         protos,
         flags: part_flags(&filter.proto),
-        icmp: part_icmp(&filter.proto),
+        icmp: part_icmp(scope, &filter.proto),
         from,
         to,
         procedure: None,
@@ -348,11 +359,21 @@ fn part_flags(part: &Option<Boxed<ProtoPart>>) -> Option<(u8, u8)>
     }
 }
 
-fn part_icmp(part: &Option<Boxed<ProtoPart>>) -> Option<(u8, Option<u8>)>
-    ensures { result ≡ icmp_of_detail (detail_of_part part.now) }
+fn written_part_icmp<'a>(scope: &Scope<'_, 'a, '_>, part: &'a ProtoPart) -> Option<(u8, Option<u8>)>
+    ensures { result ≡ icmp_of_part (env_of_scope scope.now) (Some part.now) }
+{
+    let names = scope.icmp_names(written_ones(&part.protocols));
+    icmp_of(scope, names, &part.detail)
+}
+
+fn part_icmp<'a>(
+    scope: &Scope<'_, 'a, '_>,
+    part: &'a Option<Boxed<ProtoPart>>,
+) -> Option<(u8, Option<u8>)>
+    ensures { result ≡ icmp_of_part (env_of_scope scope.now) part.now }
 {
     match part {
-        Some(part) => icmp_of(&part.get().detail),
+        Some(part) => written_part_icmp(scope, part.get()),
         None => None,
     }
 }

@@ -11,6 +11,7 @@ mod filter;
 mod group;
 mod lone_rule;
 mod map;
+mod message;
 mod met;
 mod procedure;
 mod rule;

@@ -1,10 +1,10 @@
 // The words of a rule.
 ghost use Rattle.std.specs.Prelude.{◌≡◌, length};
 ghost use Rattle.std.specs.Option.{option_map};
-ghost use Rattle.npf_expand.specs.Rule.{as_byte, decision_of, dir_of, flag_bit, flag_bits, flags_of_detail, icmp_of_detail, is_inet6, mask_bits, return_of, state_of_words};
+ghost use Rattle.npf_expand.specs.Rule.{decision_of, dir_of, flag_bit, flag_bits, flags_of_detail, is_inet6, mask_bits, return_of, state_of_words};
 
 use npf_model::StateOpt;
-use npf_syntax::{BlockReturn, Detail, Direction, Family, Number, RuleAction, Stateful, Word};
+use npf_syntax::{BlockReturn, Detail, Direction, Family, RuleAction, Stateful, Word};
 use npf_types::{Decision, Dir, Return};
 
 pub(crate) fn decision_of(action: &RuleAction) -> Decision
@@ -105,29 +105,4 @@ fn flag_bit(letter: u8) -> u8
         b'W' => 128,
         _ => 0,
     }
-}
-
-/// The type of ICMP, and the code where one is written.
-pub(crate) fn icmp_of(detail: &Option<Detail>) -> Option<(u8, Option<u8>)>
-    ensures { result ≡ icmp_of_detail detail.now }
-{
-    match detail {
-        Some(Detail::IcmpType { number, code, .. }) => Some((as_byte(number), byte_of(code))),
-        _ => None,
-    }
-}
-
-fn byte_of(number: &Option<Number>) -> Option<u8>
-    ensures { result ≡ option_map as_byte number.now }
-{
-    match number {
-        None => None,
-        Some(number) => Some(as_byte(number)),
-    }
-}
-
-fn as_byte(number: &Number) -> u8
-    ensures { result ≡ as_byte number.now }
-{
-    number.value.min(255) as u8
 }

@@ -1,9 +1,10 @@
 -- What becomes of values, one behind the other, is what becomes of each, joined.
 use Rattle.std.{proofs.{Common.{◌≡◌, ℕ, ◌+◌, Bool, Option, List, ◌++◌, ap, ◌∙◌, arith}, lemmas.Grind.flat_map-append}, specs.List.flat_map}
-use Rattle.std.proofs.lemmas.List.{Folds.list_any-append, Sums.sum_by-append}
+use Rattle.std.proofs.lemmas.List.{Folds.{list_all-append, list_any-append}, Sums.sum_by-append}
 use Rattle.npf_faults.{specs.{declared.fault.ConfFault.ConfFault, First.first_fault}, proofs.FirstLemmas.first_fault-append}
 use Rattle.npf_expand_values.specs.declared.{role.Role.{Role, TheVariants.{AsPort, AsAddress, AsProtocol, AsInterface}}, summary.{Fate.Fate, Summary.Summary}}
 use Rattle.npf_expand_values.specs.{Atom.Atom, Summary.{counted, fate_of, joined_summary, joined_fate, summary_of}}
+use Rattle.npf_expand_values.specs.Protocol.{is_protocol}
 use Rattle.npf_expand_values.specs.Use.{count_of, element_count, is_unfit, word_faults}
 
 abbrev fate : Bool → Option ConfFault → Fate
@@ -19,13 +20,15 @@ fate_of-append role xs ys = same_fate _ _ _ _ (list_any-append (is_unfit role) x
 pub counted_of_both : (a b : ℕ) → counted (a + b) ≡ counted (counted a + counted b)
 counted_of_both a b = omega arith
 
-abbrev summary : ℕ → Fate → Fate → Fate → Fate → Summary
-summary count port address protocol interface = record { count = count; port = port; address = address; protocol = protocol; interface = interface }
+abbrev summary : ℕ → Fate → Fate → Fate → Fate → Bool → Bool → Summary
+summary count port address protocol interface icmp icmp6 =
+    record { count = count; port = port; address = address; protocol = protocol; interface = interface; icmp = icmp; icmp6 = icmp6 }
 
-same_summary : (n m : ℕ) (p q a b r s i j : Fate) → n ≡ m → p ≡ q → a ≡ b → r ≡ s → i ≡ j → summary n p a r i ≡ summary m q b s j
-same_summary n m p q a b r s i j same_count same_port same_address same_protocol same_interface = cc
+same_summary : (n m : ℕ) (p q a b r s i j : Fate) (v w x y : Bool) → n ≡ m → p ≡ q → a ≡ b → r ≡ s → i ≡ j → v ≡ w → x ≡ y → summary n p a r i v x ≡ summary m q b s j w y
+same_summary n m p q a b r s i j v w x y same_count same_port same_address same_protocol same_interface same_icmp same_icmp6 = cc
 
 pub summary_of-append : (xs ys : List Atom) → summary_of (xs ++ ys) ≡ joined_summary (summary_of xs) (summary_of ys)
-summary_of-append xs ys = same_summary _ _ _ _ _ _ _ _ _ _
+summary_of-append xs ys = same_summary _ _ _ _ _ _ _ _ _ _ _ _ _ _
     (ap counted (sum_by-append count_of xs ys) ∙ counted_of_both (element_count xs) (element_count ys))
     (fate_of-append AsPort xs ys) (fate_of-append AsAddress xs ys) (fate_of-append AsProtocol xs ys) (fate_of-append AsInterface xs ys)
+    (list_all-append (is_protocol 1) xs ys) (list_all-append (is_protocol 58) xs ys)

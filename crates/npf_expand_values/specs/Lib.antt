@@ -3,12 +3,12 @@ pub mod Atom
 pub mod Declarations
 pub mod Iface
 pub mod Kept
+pub mod Message
 pub mod Parted
 pub mod Place
 pub mod Port
 pub mod Protocol
 pub mod Scope
-pub mod Service
 pub mod Source
 pub mod Summary
 pub mod Use

@@ -4,9 +4,10 @@ use Rattle.std.specs.List.{flat_map, filter_map}
 use Rattle.npf_faults.specs.declared.fault.ConfFault.{ConfFault}
 use Rattle.npf_syntax.specs.declared.value.Values.{Values}
 use Rattle.npf_model.specs.declared.iface.Iface.{Iface}
+use Rattle.npf_names.specs.Names.{number_named}
+use Rattle.npf_names.specs.Service.{services}
 use Rattle.npf_expand_values.specs.declared.role.Role.TheVariants.{AsPort}
 use Rattle.npf_expand_values.specs.Atom.{Atom, NumberAtom, RangeAtom, WordAtom, Env}
-use Rattle.npf_expand_values.specs.Service.{services, number_named}
 use Rattle.npf_expand_values.specs.Use.{element_count}
 use Rattle.npf_expand_values.specs.Variable.{each_value_faults, empty_list_faults, listed_values, spliced}
 

@@ -1,13 +1,14 @@
 -- The protocols of a rule and of a map: numbers to 255 and names.
-use Rattle.std.specs.Prelude.{ℕ, false, nat_lt, if◌then◌else◌, Option, Some, None, List, [], ◌∷◌}
+use Rattle.std.specs.Prelude.{ℕ, Bool, false, ◌==◌, nat_lt, if◌then◌else◌, Option, Some, None, List, [], ◌∷◌}
 use Rattle.std.specs.List.{flat_map, filter_map}
 use Rattle.npf_types.specs.declared.span.Span.{Span}
 use Rattle.npf_faults.specs.declared.fault.ConfFault.{ConfFault}
 use Rattle.npf_syntax.specs.declared.filter.Protocols.{Protocols}
 use Rattle.npf_syntax.specs.declared.value.One.{One}
+use Rattle.npf_names.specs.Names.{number_named}
+use Rattle.npf_names.specs.Protocol.{protocols}
 use Rattle.npf_expand_values.specs.declared.role.Role.TheVariants.{AsProtocol}
 use Rattle.npf_expand_values.specs.Atom.{Atom, NumberAtom, WordAtom, Binding, Env}
-use Rattle.npf_expand_values.specs.Service.{protocols, number_named}
 use Rattle.npf_expand_values.specs.Use.{each_use_faults, one_use_faults, atoms_of}
 
 abbrev pub one_span : One → Span
@@ -24,6 +25,14 @@ abbrev pub protocol_of : Atom → Option ℕ
 protocol_of (NumberAtom number) = if nat_lt 255 number then None else Some number
 protocol_of (WordAtom text span) = number_named protocols text
 protocol_of _ = None
+
+abbrev pub is_number : ℕ → Option ℕ → Bool
+is_number wanted None = false
+is_number wanted (Some number) = number == wanted
+
+-- the value is this protocol
+abbrev pub is_protocol : ℕ → Atom → Bool
+is_protocol wanted atom = is_number wanted (protocol_of atom)
 
 abbrev pub written_ones : Protocols → List One
 written_ones (Protocols.One one span) = one ∷ []

@@ -1,7 +1,7 @@
 -- What the code keeps, and no part of what the language means: of values, so that they need not be looked at where they are used, how
 -- many elements they are, up to one more than all lists may have, and what becomes of them in each place.
-use Rattle.std.specs.Prelude.{ℕ, ◌+◌, ◌||◌, min, List}
-use Rattle.std.specs.List.{flat_map, list_any}
+use Rattle.std.specs.Prelude.{ℕ, ◌+◌, ◌&&◌, ◌||◌, min, List}
+use Rattle.std.specs.List.{flat_map, list_all, list_any}
 use Rattle.npf_faults.specs.First.{earlier, first_fault}
 use Rattle.npf_types.specs.declared.limits.TheConstants.{MAX_LIST_ELEMENTS}
 use Rattle.npf_expand_values.specs.declared.role.Role.{Role}
@@ -9,6 +9,7 @@ use Rattle.npf_expand_values.specs.declared.role.Role.TheVariants.{AsPort, AsAdd
 use Rattle.npf_expand_values.specs.declared.summary.Fate.{Fate}
 use Rattle.npf_expand_values.specs.declared.summary.Summary.{Summary}
 use Rattle.npf_expand_values.specs.Atom.{Atom}
+use Rattle.npf_expand_values.specs.Protocol.{is_protocol}
 use Rattle.npf_expand_values.specs.Use.{element_count, is_unfit, word_faults}
 
 -- a number of elements, where all that are more than a configuration may have are one
@@ -25,6 +26,8 @@ summary_of atoms = record {
   address = fate_of AsAddress atoms;
   protocol = fate_of AsProtocol atoms;
   interface = fate_of AsInterface atoms;
+  icmp = list_all (is_protocol 1) atoms;
+  icmp6 = list_all (is_protocol 58) atoms;
 }
 
 abbrev pub joined_fate : Fate → Fate → Fate
@@ -37,6 +40,8 @@ joined_summary one other = record {
   address = joined_fate one.address other.address;
   protocol = joined_fate one.protocol other.protocol;
   interface = joined_fate one.interface other.interface;
+  icmp = one.icmp && other.icmp;
+  icmp6 = one.icmp6 && other.icmp6;
 }
 
 abbrev pub fate_in : Role → Summary → Fate

@@ -8,10 +8,12 @@ use Rattle.npf_types.specs.NameText.{is_name}
 use Rattle.npf_faults.specs.declared.fault.ConfFault.{ConfFault}
 use Rattle.npf_faults.specs.declared.fault.Fault.TheVariants.{Expected, UnknownVariable, UnknownService}
 use Rattle.npf_faults.specs.First.{fault_at, fault_if}
+use Rattle.npf_names.specs.Names.{number_named}
+use Rattle.npf_names.specs.Protocol.{protocols}
+use Rattle.npf_names.specs.Service.{services}
 use Rattle.npf_expand_values.specs.declared.role.Role.{Role}
 use Rattle.npf_expand_values.specs.declared.role.Role.TheVariants.{AsPort, AsAddress, AsProtocol, AsInterface}
 use Rattle.npf_expand_values.specs.Atom.{Atom, NumberAtom, RangeAtom, WordAtom, StringAtom, BlockAtom, TableAtom, AddressesAtom, Binding}
-use Rattle.npf_expand_values.specs.Service.{services, protocols, number_named}
 
 -- the value can't stand in this place
 abbrev pub is_unfit : Role → Atom → Bool
@@ -60,6 +62,11 @@ single_faults role span binding =
 -- a name that isn't defined before its use is told at the use, and makes no further fault
 abbrev pub undefined_faults : Span → Option Binding → List ConfFault
 undefined_faults span binding = fault_if (not (is_some binding)) span UnknownVariable
+
+-- further faults, which are told only where there are none yet
+abbrev pub then_faults : List ConfFault → List ConfFault → List ConfFault
+then_faults [] further = further
+then_faults (fault ∷ faults) further = fault ∷ faults
 
 abbrev pub atoms_of : Option Binding → List Atom
 atoms_of None = []

@@ -1,16 +1,18 @@
 // Values in which no variable is left.
-ghost use Rattle.std.specs.Prelude.{◌≡◌};
+ghost use Rattle.std.specs.Prelude.{◌≡◌, None, Some, if◌then◌else◌, nat_lt};
 ghost use Rattle.std.specs.Option.{option_map};
 ghost use Rattle.npf_faults.specs.First.{first_fault};
 ghost use Rattle.npf_expand_values.specs.Atom.{kept_atom};
 ghost use Rattle.npf_expand_values.specs.Iface.{name_text};
 ghost use Rattle.npf_expand_values.specs.Port.{atom_ports};
-ghost use Rattle.npf_expand_values.specs.Protocol.{protocol_of};
+ghost use Rattle.npf_expand_values.specs.Message.{name_faults, number_among};
+ghost use Rattle.npf_expand_values.specs.Protocol.{is_protocol, protocol_of};
+ghost use Rattle.npf_names.specs.Icmp.{names_in};
 ghost use Rattle.npf_expand_values.specs.Use.{count_of, is_unfit, word_faults};
 
 use crate::role::Role;
-use crate::service::{protocol_number, service_port};
 use npf_faults::{ConfFault, Fault, fault_if};
+use npf_names::{IcmpTable, protocol_number, service_port};
 use npf_syntax::{Str, Word};
 use npf_types::{Addr, Name};
 
@@ -24,6 +26,15 @@ pub enum Atom<'a> {
     Block(Addr, Option<u32>),
     Table(&'a Word),
     Addresses(&'a [Addr]),
+}
+
+fn octet(number: u32) -> Option<u8>
+    ensures { result ≡ (if nat_lt 255 number then None else Some number) }
+{
+    if number > 255 {
+        return None;
+    }
+    Some(number as u8)
 }
 
 impl<'a> Atom<'a> {
@@ -126,17 +137,44 @@ impl<'a> Atom<'a> {
         }
     }
 
+    /// The number that it is, by itself or as a name of this table; None where it is none.
+    pub(crate) fn number_among(&self, table: IcmpTable) -> Option<u8>
+        ensures { result ≡ number_among (names_in table) (kept_atom self.now) }
+    {
+        match self {
+            Atom::Number(number) => octet(*number),
+            Atom::Word(word) => table.number_named(word.text.as_slice()),
+            _ => None,
+        }
+    }
+
+    /// The fault of a word that is no name of this table.
+    pub(crate) fn name_fault(&self, table: IcmpTable) -> Option<ConfFault>
+        ensures { result ≡ first_fault (name_faults (names_in table) (kept_atom self.now)) }
+    {
+        let Atom::Word(word) = self else {
+            return None;
+        };
+        let unknown = table.number_named(word.text.as_slice()).is_none();
+        fault_if(unknown, word.span, Fault::UnknownService)
+    }
+
+    /// Whether it is this protocol.
+    pub(crate) fn is_protocol(&self, wanted: u8) -> bool
+        ensures { result ≡ is_protocol wanted (kept_atom self.now) }
+    {
+        match self.protocol() {
+            Some(number) => number == wanted,
+            None => false,
+        }
+    }
+
     /// The protocol that it is; None where it is none.
     pub fn protocol(&self) -> Option<u8>
         ensures { result ≡ protocol_of (kept_atom self.now) }
     {
         match self {
-            Atom::Number(number) => {
-                if *number > 255 {
-                    return None;
-                }
-                Some(*number as u8)
-            }
+            Atom::Number(number) => octet(*number),
             Atom::Word(word) => protocol_number(word.text.as_slice()),
             _ => None,
         }

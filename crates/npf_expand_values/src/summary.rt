@@ -63,6 +63,10 @@ pub(crate) struct Summary {
     pub(crate) address: Fate,
     pub(crate) protocol: Fate,
     pub(crate) interface: Fate,
+    /// Whether each is the protocol of ICMP.
+    pub(crate) icmp: bool,
+    /// Whether each is that of ICMPv6.
+    pub(crate) icmp6: bool,
 }
 
 /// A number of elements, where all that are more than a configuration may have are one.
@@ -90,6 +94,8 @@ impl Summary {
             address: Fate::none(),
             protocol: Fate::none(),
             interface: Fate::none(),
+            icmp: true,
+            icmp6: true,
         }
     }
 
@@ -102,6 +108,8 @@ impl Summary {
             address: Fate::of(atom, Role::AsAddress),
             protocol: Fate::of(atom, Role::AsProtocol),
             interface: Fate::of(atom, Role::AsInterface),
+            icmp: atom.is_protocol(1),
+            icmp6: atom.is_protocol(58),
         }
     }
 
@@ -115,6 +123,8 @@ impl Summary {
             address: self.address.join(other.address),
             protocol: self.protocol.join(other.protocol),
             interface: self.interface.join(other.interface),
+            icmp: self.icmp && other.icmp,
+            icmp6: self.icmp6 && other.icmp6,
         }
     }
 

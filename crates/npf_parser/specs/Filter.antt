@@ -12,20 +12,20 @@ use Rattle.npf_syntax.specs.declared.filter.Where.{Where}
 use Rattle.npf_syntax.specs.declared.value.Values.{Values}
 use Rattle.npf_phrase.specs.Grammar.{Grammar, making, ◌&◌, ◌or◌, optional, preceded}
 use Rattle.npf_parser_values.specs.declared.role.ValueRole.{ValueRole}
-use Rattle.npf_parser_values.specs.Token.{span_of, quoted, says, sign, string, flags, number_to}
-use Rattle.npf_parser_values.specs.Value.{protocols, value, value_list, values}
+use Rattle.npf_parser_values.specs.Token.{span_of, quoted, says, sign, string, flags}
+use Rattle.npf_parser_values.specs.Value.{one, protocols, value, value_list, values}
 
--- "inet4" | "inet6"
+-- "inet4" | "inet6", and "inet" as older texts have it
 unfoldable pub family : Grammar Token Family
-family = says (codes "inet4") Family.Inet4 or says (codes "inet6") Family.Inet6
+family = says (codes "inet4") Family.Inet4 or says (codes "inet6") Family.Inet6 or says (codes "inet") Family.Inet4
 
 -- "flags" WORD [ "/" WORD ]
 abbrev pub flags_detail : Grammar Token Detail
 flags_detail = making (λ ts a. Detail.Flags a.0 a.1 (span_of ts)) (preceded (quoted (codes "flags")) (flags & optional (preceded (sign Sign.Slash) flags)))
 
--- "icmp-type" NUMBER [ "code" NUMBER ]
+-- "icmp-type" one [ "code" one ]
 abbrev pub icmp_detail : Grammar Token Detail
-icmp_detail = making (λ ts a. Detail.IcmpType a.0 a.1 (span_of ts)) (preceded (quoted (codes "icmp-type")) (number_to 255 & optional (preceded (quoted (codes "code")) (number_to 255))))
+icmp_detail = making (λ ts a. Detail.IcmpType a.0 a.1 (span_of ts)) (preceded (quoted (codes "icmp-type")) (one & optional (preceded (quoted (codes "code")) one)))
 
 unfoldable pub detail : Grammar Token Detail
 detail = flags_detail or icmp_detail
@@ -60,7 +60,7 @@ the_ends =
     or making (λ ts _. Where.PcapFilter (span_of ts)) (preceded (quoted (codes "pcap-filter")) string)
     or making (λ ts to. Where.To to (span_of ts)) (preceded (quoted (codes "to")) ends)
 
--- filter = [ "family" ( "inet4" | "inet6" ) ] [ "proto" .. ] ( "all" | "from" ends [ "to" ends ] | "pcap-filter" STRING | "to" ends )
+-- filter = [ "family" ( "inet4" | "inet6" | "inet" ) ] [ "proto" .. ] ( "all" | "from" ends [ "to" ends ] | "pcap-filter" STRING | "to" ends )
 unfoldable pub filter : Grammar Token Filter
 filter =
     making (λ ts a. record { family = a.0; proto = a.1.0; ends = a.1.1; span = span_of ts })

@@ -1,5 +1,5 @@
 -- The grammar of npf.conf(5) for the calls of procedures.
-use Rattle.std.specs.Prelude.{List, codes}
+use Rattle.std.specs.Prelude.{⊤, List, codes}
 use Rattle.npf_lexer.specs.declared.token.Sign.{Sign}
 use Rattle.npf_lexer.specs.declared.token.Token.{Token}
 use Rattle.npf_syntax.specs.declared.procedure.Call.{Call}
@@ -26,12 +26,16 @@ opt =
 unfoldable pub options : Grammar Token (List Opt)
 options = list_of (sign Sign.Comma) opt
 
--- call = "log" ":" ( WORD | STRING ) | "route" ":" iface | "normalize" ":" opt { "," opt }*
+-- "normalize" | "normalise"
+abbrev pub normalize : Grammar Token ⊤
+normalize = quoted (codes "normalize") or quoted (codes "normalise")
+
+-- call = "log" ":" ( WORD | STRING ) | "route" ":" iface | ( "normalize" | "normalise" ) ":" opt { "," opt }*
 unfoldable pub call : Grammar Token Call
 call =
     making (λ ts name. Call.Log name (span_of ts)) (preceded (quoted (codes "log")) (preceded (sign Sign.Colon) log_name))
     or making (λ ts _. Call.Route (span_of ts)) (preceded (quoted (codes "route")) (preceded (sign Sign.Colon) iface))
-    or making (λ ts options. Call.Normalize options (span_of ts)) (preceded (quoted (codes "normalize")) (preceded (sign Sign.Colon) options))
+    or making (λ ts options. Call.Normalize options (span_of ts)) (preceded normalize (preceded (sign Sign.Colon) options))
 
 -- { [ call ] sep }*
 unfoldable pub calls : Grammar Token (List Call)

@@ -1,6 +1,6 @@
 -- The grammar of npf.conf(5) for statements, and for a whole configuration.
 -- READ 5 of docs/READING.md
-use Rattle.std.specs.Prelude.{Bool, ◌||◌, Option, List, codes}
+use Rattle.std.specs.Prelude.{⊤, Bool, ◌||◌, Option, List, codes}
 use Rattle.npf_types.specs.declared.span.Span.{Span}
 use Rattle.npf_lexer.specs.declared.token.Sign.{Sign}
 use Rattle.npf_lexer.specs.declared.token.Token.{Token}
@@ -35,15 +35,23 @@ set = making (λ ts a. Stmt.Set a.0 a.1 (span_of ts)) (preceded (quoted (codes "
 unfoldable pub alg : Grammar Token Stmt
 alg = making (λ ts name. Stmt.Alg name (span_of ts)) (preceded (quoted (codes "alg")) string)
 
--- "ipset" | "lpm" | "const"
-unfoldable pub table_type : Grammar Token TableType
-table_type = says (codes "ipset") TableType.IpSet or says (codes "lpm") TableType.Lpm or says (codes "const") TableType.Const
+-- "hash" | "tree" | "cdb", by which older texts mean ipset, lpm and const
+abbrev pub older_type : Grammar Token TableType
+older_type = says (codes "hash") TableType.IpSet or says (codes "tree") TableType.Lpm or says (codes "cdb") TableType.Const
 
--- "table" "<" WORD ">" "type" ( "ipset" | "lpm" | "const" ) [ "file" STRING ]
+-- "ipset" | "lpm" | "const" | "hash" | "tree" | "cdb"
+unfoldable pub table_type : Grammar Token TableType
+table_type = says (codes "ipset") TableType.IpSet or says (codes "lpm") TableType.Lpm or says (codes "const") TableType.Const or older_type
+
+-- [ "dynamic" ], which says nothing
+abbrev pub dynamic : Grammar Token ⊤
+dynamic = making (λ _ _. tt) (optional (quoted (codes "dynamic")))
+
+-- "table" "<" WORD ">" "type" ( "ipset" | "lpm" | "const" | "hash" | "tree" | "cdb" ) [ "dynamic" ] [ "file" STRING ]
 unfoldable pub table : Grammar Token Stmt
 table =
     making (λ ts a. Stmt.Table a.0 a.1.0 a.1.1 (span_of ts))
-    (preceded (quoted (codes "table")) (preceded (sign Sign.Less) (terminated name_word (sign Sign.Greater) & preceded (quoted (codes "type")) table_type & optional (preceded (quoted (codes "file")) text_string))))
+    (preceded (quoted (codes "table")) (preceded (sign Sign.Less) (terminated name_word (sign Sign.Greater) & preceded (quoted (codes "type")) (terminated table_type dynamic) & optional (preceded (quoted (codes "file")) text_string))))
 
 -- what stands behind a map's interface, and makes a statement of it
 abbrev pub MapRest : Type 0

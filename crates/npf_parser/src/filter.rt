@@ -3,16 +3,17 @@ ghost use Rattle.std.specs.Prelude.{codes};
 ghost use Rattle.npf_lexer.specs.declared.token.Sign.TheVariants as Sign;
 ghost use Rattle.npf_phrase.specs.Grammar.{meaning, optional, preceded};
 ghost use Rattle.npf_parser_values.specs.Answer.{Answers, AnswersAlone};
-ghost use Rattle.npf_parser_values.specs.Token.{quoted, sign, flags, number_to};
+ghost use Rattle.npf_parser_values.specs.Token.{quoted, sign, flags};
+ghost use Rattle.npf_parser_values.specs.Value.{one};
 ghost use Rattle.npf_parser.specs.Filter.{family, flags_detail, icmp_detail, detail, proto_part, addresses, ports, ends, the_ends, filter};
 
 use npf_lexer::{Sign, Token};
 use npf_parser_values::{
-    Stop, ValueRole, after_word, behind_sign, behind_word, read_flags, read_number_to,
-    read_protocols, read_string, read_value, read_value_list, read_values, span_to,
+    Stop, ValueRole, after_word, behind_sign, behind_word, read_flags, read_one, read_protocols,
+    read_string, read_value, read_value_list, read_values, span_to,
 };
 use npf_syntax::{
-    Addresses, Boxed, Detail, EndsTree, Family, Filter, Number, ProtoPart, Values, Where, Word,
+    Addresses, Boxed, Detail, EndsTree, Family, Filter, One, ProtoPart, Values, Where, Word,
 };
 use std::alloc::Global;
 
@@ -28,7 +29,13 @@ fn read_family(tokens: &[Token]) -> Result<(Family, &[Token]), Stop>
         let span = span_to(tokens, rest);
         return Ok((Family::Inet6 { span }, rest));
     }
-    Err(Stop::Before(tokens))
+    match behind_word("inet", tokens) {
+        Some(rest) => {
+            let span = span_to(tokens, rest);
+            Ok((Family::Inet4 { span }, rest))
+        }
+        None => Err(Stop::Before(tokens)),
+    }
 }
 
 fn read_optional_family(tokens: &[Token]) -> Result<(Option<Family>, &[Token]), Stop>
@@ -58,12 +65,12 @@ fn read_mask<'a>(
     }
 }
 
-fn read_code(tokens: &[Token]) -> Result<(Option<Number>, &[Token]), Stop>
-    ensures { AnswersAlone ((meaning (optional (preceded (quoted (codes "code")) (number_to 255)))).read tokens.now) result }
+fn read_code<'a>(alloc: Global, tokens: &'a [Token]) -> Result<(Option<One>, &'a [Token]), Stop<'a>>
+    ensures { Answers ((meaning (optional (preceded (quoted (codes "code")) one))).read tokens.now) result }
 {
     match behind_word("code", tokens) {
         Some(rest) => {
-            let (code, rest) = read_number_to(255, rest)?;
+            let (code, rest) = read_one(alloc, rest)?;
             Ok((Some(code), rest))
         }
         None => Ok((None, tokens)),
@@ -83,14 +90,17 @@ fn read_flags_detail<'a>(
     Ok((Detail::Flags { flags, mask, span }, rest))
 }
 
-fn read_icmp_detail(tokens: &[Token]) -> Result<(Detail, &[Token]), Stop>
-    ensures { AnswersAlone ((meaning icmp_detail).read tokens.now) result }
+fn read_icmp_detail<'a>(
+    alloc: Global,
+    tokens: &'a [Token],
+) -> Result<(Detail, &'a [Token]), Stop<'a>>
+    ensures { Answers ((meaning icmp_detail).read tokens.now) result }
 {
     let rest = after_word("icmp-type", tokens)?;
-    let (number, rest) = read_number_to(255, rest)?;
-    let (code, rest) = read_code(rest)?;
+    let (kind, rest) = read_one(alloc, rest)?;
+    let (code, rest) = read_code(alloc, rest)?;
     let span = span_to(tokens, rest);
-    Ok((Detail::IcmpType { number, code, span }, rest))
+    Ok((Detail::IcmpType { kind, code, span }, rest))
 }
 
 #[tactic(auto, unfolding(crate::specs::Filter::detail))]
@@ -105,7 +115,7 @@ fn read_detail<'a>(
         return Ok((Some(detail), rest));
     }
     if behind_word("icmp-type", tokens).is_some() {
-        let (detail, rest) = read_icmp_detail(tokens)?;
+        let (detail, rest) = read_icmp_detail(alloc, tokens)?;
         return Ok((Some(detail), rest));
     }
     Ok((None, tokens))

@@ -1,7 +1,7 @@
 // Procedures: a function for each line of the grammar.
 ghost use Rattle.npf_phrase.specs.Grammar.{meaning};
-ghost use Rattle.npf_parser_values.specs.Answer.{Answers, AnswersAlone};
-ghost use Rattle.npf_parser.specs.Procedure.{log_name, opt, options, call, calls};
+ghost use Rattle.npf_parser_values.specs.Answer.{Answers, AnswersAlone, Begins};
+ghost use Rattle.npf_parser.specs.Procedure.{log_name, opt, options, normalize, call, calls};
 ghost use Rattle.npf_parser.specs.Stmt.{procedure};
 
 use crate::group::ends_item;
@@ -64,6 +64,15 @@ fn read_opt(tokens: &[Token]) -> Result<(Opt, &[Token]), Stop>
     }
 }
 
+fn behind_normalize(tokens: &[Token]) -> Option<&[Token]>
+    ensures { Begins normalize tokens.now result }
+{
+    match behind_word("normalize", tokens) {
+        Some(rest) => Some(rest),
+        None => behind_word("normalise", tokens),
+    }
+}
+
 /// The options of `normalize`, up to the last that no comma follows.
 fn read_options<'a>(
     alloc: Global,
@@ -99,7 +108,7 @@ fn read_call<'a>(alloc: Global, tokens: &'a [Token]) -> Result<(Call, &'a [Token
         let span = span_to(tokens, rest);
         return Ok((Call::Route { span }, rest));
     }
-    match behind_word("normalize", tokens) {
+    match behind_normalize(tokens) {
         Some(rest) => {
             let rest = after_sign(Sign::Colon, rest)?;
             let (options, rest) = read_options(alloc, rest)?;

@@ -11,7 +11,7 @@ ghost use Rattle.npf_phrase.specs.Grammar.{meaning, optional, preceded};
 ghost use Rattle.npf_phrase.specs.Phrase.{head};
 ghost use Rattle.npf_parser_values.specs.Answer.{Answers, AnswersAlone};
 ghost use Rattle.npf_parser_values.specs.Token.{quoted, text_string};
-ghost use Rattle.npf_parser.specs.Stmt.{define, setting, set, alg, table_type, table, stmt, ends_stmt, stmts, file, lone_rule};
+ghost use Rattle.npf_parser.specs.Stmt.{define, setting, set, alg, older_type, table_type, dynamic, table, stmt, ends_stmt, stmts, file, lone_rule};
 ghost use Rattle.npf_parser.specs.Parse.{Means, Parses, HasMeaning, HaltsAt, StopsAt, OnFault, AnswersUnlessMemory, FaultsUnlessMemory};
 
 use crate::group::read_group;
@@ -96,12 +96,40 @@ fn read_table_type(tokens: &[Token]) -> Result<(TableType, &[Token]), Stop>
         let span = span_to(tokens, rest);
         return Ok((TableType::Lpm { span }, rest));
     }
-    match behind_word("const", tokens) {
+    if let Some(rest) = behind_word("const", tokens) {
+        let span = span_to(tokens, rest);
+        return Ok((TableType::Const { span }, rest));
+    }
+    read_older_type(tokens)
+}
+
+fn read_older_type(tokens: &[Token]) -> Result<(TableType, &[Token]), Stop>
+    ensures { AnswersAlone ((meaning older_type).read tokens.now) result }
+{
+    if let Some(rest) = behind_word("hash", tokens) {
+        let span = span_to(tokens, rest);
+        return Ok((TableType::IpSet { span }, rest));
+    }
+    if let Some(rest) = behind_word("tree", tokens) {
+        let span = span_to(tokens, rest);
+        return Ok((TableType::Lpm { span }, rest));
+    }
+    match behind_word("cdb", tokens) {
         Some(rest) => {
             let span = span_to(tokens, rest);
             Ok((TableType::Const { span }, rest))
         }
         None => Err(Stop::Before(tokens)),
+    }
+}
+
+/// The tokens behind `dynamic`, which may be left out and says nothing.
+fn behind_dynamic(tokens: &[Token]) -> &[Token]
+    ensures { (meaning dynamic).read tokens.now ≡ Ok (tt, result.now) }
+{
+    match behind_word("dynamic", tokens) {
+        Some(rest) => rest,
+        None => tokens,
     }
 }
 
@@ -130,6 +158,7 @@ fn read_table<'a>(alloc: Global, tokens: &'a [Token]) -> Result<(Stmt, &'a [Toke
     let rest = after_sign(Sign::Greater, rest)?;
     let rest = after_word("type", rest)?;
     let (kind, rest) = read_table_type(rest)?;
+    let rest = behind_dynamic(rest);
     let (file, rest) = read_optional_file(alloc, rest)?;
     let span = span_to(tokens, rest);
     Ok((

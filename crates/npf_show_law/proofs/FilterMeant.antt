@@ -1,5 +1,5 @@
 -- What the filters of a configuration without a fault are.
-use Rattle.std.proofs.Common.{◌≡◌, ◌<◌, ◌^◌, ℕ, ◌-◌, Bool, true, false, ◌==◌, ◌||◌, if◌then◌else◌, Option, Some, None, IfSome, option_map, List, [], ◌∷◌, ◌++◌}
+use Rattle.std.proofs.Common.{◌≡◌, ◌<◌, ◌≤◌, nat_lt, ◌^◌, ℕ, ◌-◌, Bool, true, false, ◌==◌, ◌||◌, if◌then◌else◌, Option, Some, None, IfSome, option_map, List, [], ◌∷◌, ◌++◌}
 use Rattle.std.proofs.{Common.{length, replicate, flat_map, filter_map, refl, sym, subst, ◌∙◌, arith, append-nil, lt_of_lt_of_le}, Math.Seq.take-append_seam}
 use Rattle.std.{proofs.lemmas.{Bool.and_parts, List.Elements.{All-cons, All-head, All-nil, All-tail}, Nat.{or_lt, le_or_l}}, specs.List.{All, list_all}}
 use Rattle.npf_types.specs.{declared.{address.Addr.Addr, span.Span.Span}, Block.block, Name.name_bytes, Named.{named, name_where}, NameText.is_name}
@@ -7,14 +7,17 @@ use Rattle.npf_shelf.proofs.ListLemmas.{nil_from_append_left, nil_from_append_ri
 use Rattle.npf_faults.specs.declared.fault.ConfFault.{ConfFault}
 use Rattle.npf_lexer.specs.Run.{is_word}
 use Rattle.npf_syntax.specs.declared.filter.{Addresses.Addresses, Detail.Detail, EndsTree.EndsTree as WrittenEnds, Filter.Filter, ProtoPart.ProtoPart}
-use Rattle.npf_syntax.specs.declared.{filter.{Protocols.Protocols, Where.Where}, value.{One.One, Value.Value, Values.Values}, word.{Number.Number, Word.Word}}
+use Rattle.npf_syntax.specs.declared.{filter.{Protocols.Protocols, Where.Where}, value.{One.One, Value.Value, Values.Values}, word.Word.Word}
+use Rattle.npf_names.{specs.{declared.icmp.IcmpNames.IcmpNames, Icmp.{codes_of, types_of}, Names.{Names, number_named}}, proofs.BoundLemmas.{type_small, code_small}}
 use Rattle.npf_model.specs.declared.{ends.AddrItem.{AddrItem, TheVariants.{Net, InTable}}, iface.Iface.Iface, model.Model.Model}
 use Rattle.npf_check.specs.Undefined.{table_faults, tables_of_addresses, tables_of_ends, tables_of_target, tables_of_where}
-use Rattle.npf_expand_values.specs.{Address.{items_of, addresses_faults, address_items, is_excluded}, Atom.{Atom, Binding, Env}, Declarations.table_number}
+use Rattle.npf_expand_values.specs.{Address.{items_of, addresses_faults, address_items, is_excluded}, Declarations.table_number}
+use Rattle.npf_expand_values.specs.Atom.{Atom, NumberAtom, RangeAtom, WordAtom, StringAtom, BlockAtom, TableAtom, AddressesAtom, Binding, Env}
+use Rattle.npf_expand_values.{specs.Message.{first_number, icmp_names, message_number, number_among}, proofs.FaultLemmas.none_before}
 use Rattle.npf_expand_values.specs.Port.{atom_ports, ports_faults, ports_of}
 use Rattle.npf_expand_values.specs.Protocol.{one_span, one_binding, protocol_of, written_ones, protocol_faults, protocols_faults, spliced_ones, protocols_of}
 use Rattle.npf_expand_values.specs.{Use.{undefined_faults, atoms_of}, Variable.{value_span, empty_list_at, binding_of, own_faults, spliced}}
-use Rattle.npf_expand.specs.Rule.{flag_bit, flag_bits, mask_bits, flags_of_detail, as_byte, icmp_of_detail, detail_of_part, source_ends, destination_ends}
+use Rattle.npf_expand.specs.Rule.{flag_bit, flag_bits, mask_bits, flags_of_detail, code_of, with_code, icmp_of_detail, icmp_of_part, detail_of_part, source_ends, destination_ends}
 use Rattle.npf_expand.specs.Rule.{ends_faults, part_faults, filter_faults, part_protocols, ends_of_written, filter_rule}
 use Rattle.npf_parser_values.specs.Token.{nowhere, is_flag}
 use Rattle.npf_show.specs.Filter.{flag_text}
@@ -24,7 +27,7 @@ use Rattle.npf_show_meaning.specs.Regular.{IsExclusion, IsRegularItem, IsForward
 use Rattle.npf_show_law.proofs.Gives.{Every, IfThere}
 use Rattle.npf_show_law.proofs.Sound.{IsSoundValue, IsSoundPort, AreSoundPorts, IsRunWord, IsSoundDetail, AreSomeProtocols, IsSoundPart, AreSoundAddresses, AreSoundEnds, IsSoundWhere, IsSoundFilter}
 use Rattle.npf_show_law.proofs.Atoms.{IsSoundAtom, IsSoundBinding, IsSoundEnv, every_both, some_left, values_sound, values_some}
-use Rattle.npf_show_law.proofs.Meant.{IsPortAtom, IsAddressAtom, IsProtocolAtom, uses, usable, block_shows, kept_all, GivesSome, IsGoodRange}
+use Rattle.npf_show_law.proofs.Meant.{byte_small, IsPortAtom, IsAddressAtom, IsProtocolAtom, uses, usable, block_shows, kept_all, GivesSome, IsGoodRange}
 use Rattle.npf_show_law.proofs.Meant.{port_given, protocol_given, every_pairs, all_given, some_given}
 
 pub every_all : {X : Type 0} (P : X → Type 0) (xs : List X) → Every P xs → All P xs
@@ -99,24 +102,48 @@ mask_shown w None is mask = (flags_shown w is, bits_small w.text)
 mask_shown w (Some m) is mask = (flags_shown m mask, bits_small m.text)
 
 -- what is said of protocols
-pub record IsGoodDetail (protos : List ℕ) (d : Option Detail) : Type 0 where
-  pub flags : IfSome (flags_of_detail d) AreShowableFlags
-  pub icmp : IfSome (icmp_of_detail d) (λ icmp. FitsByte icmp.0 × IfSome icmp.1 FitsByte)
-  pub one : IsOneDetail protos (flags_of_detail d) (icmp_of_detail d)
+pub record IsGoodDetail (protos : List ℕ) (flags : Option (ℕ × ℕ)) (icmp : Option (ℕ × Option ℕ)) : Type 0 where
+  pub flags : IfSome flags AreShowableFlags
+  pub icmp : IfSome icmp (λ icmp. FitsByte icmp.0 × IfSome icmp.1 FitsByte)
+  pub one : IsOneDetail protos flags icmp
 
-byte_fits : (n : Number) → FitsByte (as_byte n)
-byte_fits n = omega arith
+-- the type and the code of a message
+module _ (names : Names) (small : (text : List ℕ) (n : ℕ) → number_named names text ≡ Some n → n ≤ 255) where
+  number_fits : (atom : Atom) → IfSome (number_among names atom) FitsByte
+  number_fits (NumberAtom n) = by (nat_lt 255 n) refl where
+    by : (b : Bool) → nat_lt 255 n ≡ b → IfSome (if b then None else Some n) FitsByte
+    by true is = tt
+    by false is = byte_small n is
+  number_fits (WordAtom text span) = by (number_named names text) refl where
+    by : (o : Option ℕ) → number_named names text ≡ o → IfSome o FitsByte
+    by None is = tt
+    by (Some n) is = let fits = small text n is in omega (arith, fits)
+  number_fits (RangeAtom n m) = tt
+  number_fits (StringAtom text) = tt
+  number_fits (BlockAtom addr len) = tt
+  number_fits (TableAtom name) = tt
+  number_fits (AddressesAtom addrs) = tt
 
-code_fits : (code : Option Number) → IfSome (option_map as_byte code) FitsByte
-code_fits None = tt
-code_fits (Some n) = byte_fits n
+  first_fits : (atoms : List Atom) → IfSome (first_number names atoms) FitsByte
+  first_fits [] = tt
+  first_fits (atom ∷ atoms) = number_fits atom
 
-detail_meant : (protos : List ℕ) (d : Option Detail) → IfThere (λ d. (0 < length protos) × IsSoundDetail d) d → IsGoodDetail protos d
-detail_meant protos None is = record { flags = tt; icmp = tt; one = tt }
-detail_meant protos (Some (Detail.Flags w mask span)) is =
-    let masked = mask_shown w mask is.1.0 is.1.1 in
-    record { flags = (flags_shown w is.1.0, masked.0); icmp = tt; one = (is.0, bits_small w.text, masked.1) }
-detail_meant protos (Some (Detail.IcmpType n code span)) is = record { flags = tt; icmp = (byte_fits n, code_fits code); one = is.0 }
+module _ (env : Env) (names : IcmpNames) where
+  code_fits : (kind : ℕ) (code : Option One) → IfSome (code_of env names kind code) FitsByte
+  code_fits kind None = tt
+  code_fits kind (Some code) = first_fits (codes_of names kind) (code_small names kind) (atoms_of (one_binding env code))
+
+  icmp_good : (protos : List ℕ) → 0 < length protos → (code : Option One) (kind : Option ℕ) → IfSome kind FitsByte → IsGoodDetail protos None (with_code env names code kind)
+  icmp_good protos some code None small = record { flags = tt; icmp = tt; one = tt }
+  icmp_good protos some code (Some kind) small = record { flags = tt; icmp = (small, code_fits kind code); one = some }
+
+  detail_meant : (protos : List ℕ) (d : Option Detail) → IfThere (λ d. (0 < length protos) × IsSoundDetail d) d → IsGoodDetail protos (flags_of_detail d) (icmp_of_detail env names d)
+  detail_meant protos None is = record { flags = tt; icmp = tt; one = tt }
+  detail_meant protos (Some (Detail.Flags w mask span)) is =
+      let masked = mask_shown w mask is.1.0 is.1.1 in
+      record { flags = (flags_shown w is.1.0, masked.0); icmp = tt; one = (is.0, bits_small w.text, masked.1) }
+  detail_meant protos (Some (Detail.IcmpType kind code span)) is =
+      icmp_good protos is.0 code (message_number (types_of names) env kind) (first_fits (types_of names) (type_small names) (atoms_of (one_binding env kind)))
 
 module _ (ifaces : List Iface) (fit : All (λ i. All FitsAddr i.addrs) ifaces) (d : List ℕ → Bool) (env : Env) (sound : IsSoundEnv ifaces fit d env) where
   -- the faults of a value that is used where these can't stand, and words have these
@@ -207,11 +234,12 @@ module _ (ifaces : List Iface) (fit : All (λ i. All FitsAddr i.addrs) ifaces) (
   if_detail protos (Some x) some is = (some, is)
 
   part_meant : (o : Option ProtoPart) → IfThere IsSoundPart o → part_faults ifaces env o ≡ [] →
-      All FitsByte (part_protocols ifaces env o) × IsGoodDetail (part_protocols ifaces env o) (detail_of_part o)
-  part_meant None is none = (All-nil FitsByte, detail_meant [] None tt)
+      All FitsByte (part_protocols ifaces env o) × IsGoodDetail (part_protocols ifaces env o) (flags_of_detail (detail_of_part o)) (icmp_of_part env o)
+  part_meant None is none = (All-nil FitsByte, record { flags = tt; icmp = tt; one = tt })
   part_meant (Some part) is none =
-      let protos = protocols_meant part.protocols is.protocols none in
-      (protos.1, detail_meant (protocols_of env part.protocols) part.detail (if_detail (protocols_of env part.protocols) part.detail protos.0 is.detail))
+      let protos = protocols_meant part.protocols is.protocols (none_before (protocols_faults env part.protocols) _ none) in
+      (protos.1, detail_meant env (icmp_names (spliced_ones env part.protocols)) (protocols_of env part.protocols) part.detail
+      (if_detail (protocols_of env part.protocols) part.detail protos.0 is.detail))
 
   module _ (model : Model) (tables : List (List ℕ))
       (numbered : (name : List ℕ) → is_run_word name ≡ true → is_name name ≡ true → d name ≡ true →

@@ -11,7 +11,7 @@ use Rattle.npf_syntax.specs.declared.{filter.Addresses.Addresses, value.{One.One
 use Rattle.npf_expand_values.specs.Address.{items_of, host_item, addresses_faults}
 use Rattle.npf_expand_values.specs.Atom.{Atom, NumberAtom, RangeAtom, WordAtom, StringAtom, BlockAtom, TableAtom, AddressesAtom, Env}
 use Rattle.npf_expand_values.specs.{Declarations.table_number, Port.{atom_ports, same_port}, Protocol.{protocol_of, one_protocol_faults}}
-use Rattle.npf_expand_values.specs.Service.{Names, services, protocols, number_named}
+use Rattle.npf_names.{specs.{Names.{Names, number_named}, Protocol.protocols, Service.services}, proofs.BoundLemmas.{service_small, protocol_small}}
 use Rattle.npf_expand.{specs.Map.side_port_faults, proofs.ElementLemmas.untold}
 use Rattle.npf_parser_values.specs.Token.{nowhere}
 use Rattle.npf_show_tokens.specs.{Showable.{FitsByte, FitsAddr, IsShowablePrefix, IsShowableRange}, Tokens.is_run_word}
@@ -28,16 +28,6 @@ v6_fits a n small = lt_of_le_of_lt (div-mul-le_self a (2 ^ (128 - n))) small
 pub block_shows : (addr : Addr) (len : ℕ) → FitsAddr addr → IsShowablePrefix (block addr len)
 block_shows (V4 a) len fits = record { addr = v4_fits a (min len 32) fits; len = omega arith }
 block_shows (V6 a) len fits = record { addr = v6_fits a (min len 128) fits; len = omega arith }
-
--- numbers of services and protocols
-named_below : (names : Names) (most : ℕ) (text : List ℕ) (n : ℕ) → list_all (λ row. nat_le row.1 most) names ≡ true → number_named names text ≡ Some n → n ≤ most
-named_below [] most text n all is = cc
-named_below (row ∷ rows) most text n all is =
-    let first = and_parts (nat_le row.1 most) (list_all (λ row. nat_le row.1 most) rows) all in
-    by (bytes_eq row.0 text) (leb-true row.1 most first.0) (named_below rows most text n first.1) is where
-      by : {found : Option ℕ} (b : Bool) → row.1 ≤ most → (found ≡ Some n → n ≤ most) → (if b then Some row.1 else found) ≡ Some n → n ≤ most
-      by true small later is = let same : row.1 ≡ n = ap (λ o. unwrap_or o 0) is in omega (arith, same, small)
-      by false small later is = later is
 
 -- the faults of values that are used where these can't stand, and words have these
 abbrev pub uses : (Atom → Bool) → (Atom → List ConfFault) → Span → List Atom → List ConfFault
@@ -99,12 +89,6 @@ is_something names text span none = is_on (is_some (number_named names text)) (u
 number_there : (o : Option ℕ) → is_some o ≡ true → (n : ℕ) × (o ≡ Some n)
 number_there (Some n) is = (n, refl)
 number_there None is = cc
-
-pub service_small : (text : List ℕ) (n : ℕ) → number_named services text ≡ Some n → n ≤ 65535
-service_small text n is = named_below services 65535 text n refl is
-
-pub protocol_small : (text : List ℕ) (n : ℕ) → number_named protocols text ≡ Some n → n ≤ 255
-protocol_small text n is = named_below protocols 255 text n refl is
 
 -- a range of ports that is shown and read again
 abbrev pub IsGoodRange : ℕ × ℕ → Type 0

@@ -12,7 +12,8 @@ use Rattle.npf_model.specs.declared.procedure.Procedure.{Procedure}
 use Rattle.npf_check.specs.Undefined.{table_faults, tables_of_where, tables_of_pass, tables_of_item, tables_of_stmt, applied_faults, procedures_of_item, procedures_of_stmt}
 use Rattle.npf_expand_values.specs.Atom.{Atom, NumberAtom, RangeAtom, WordAtom, StringAtom, BlockAtom, TableAtom, AddressesAtom, Env}
 use Rattle.npf_expand_values.specs.{Declarations.{Declared, table_number}, Iface.{iface_faults, on_text, on_iface}, Port.{same_port, atom_ports}}
-use Rattle.npf_expand_values.specs.{Protocol.{protocol_of, first_protocol, one_binding, one_protocol}, Service.{services, protocols, number_named}}
+use Rattle.npf_expand_values.specs.{Protocol.{protocol_of, first_protocol, one_binding, one_protocol}}
+use Rattle.npf_names.{specs.{Names.number_named, Protocol.protocols, Service.services}, proofs.BoundLemmas.{service_small, protocol_small}}
 use Rattle.npf_expand_values.specs.{Use.atoms_of, Variable.{binding_of, own_faults}, Source.declared_of}
 use Rattle.npf_expand.specs.Elaborates.{stmt_faults, named_group, default_group, maps_of, procedures_of}
 use Rattle.npf_expand.specs.Group.{item_of_tree, item_elements, item_faults, items_faults, head_faults, group_of_tree}
@@ -27,7 +28,7 @@ use Rattle.npf_show_meaning.specs.Regular.{IsRegularRule, IsRegularEntry, IsRegu
 use Rattle.npf_show_law.proofs.Gives.{Every, IfThere}
 use Rattle.npf_show_law.proofs.Sound.{IsSoundValue, IsSoundPort, IsPlainStr, IsSoundFilter, IsSoundItem, IsSoundHead, IsSoundSide, IsSoundCall, IsSoundStmt}
 use Rattle.npf_show_law.proofs.Atoms.{IsSoundAtom, IsSoundEnv, is_on, value_sound, iface_named, bound_atoms}
-use Rattle.npf_show_law.proofs.Meant.{block_shows, IsGoodRange, port_small, byte_small, service_small, protocol_small}
+use Rattle.npf_show_law.proofs.Meant.{block_shows, IsGoodRange, port_small, byte_small}
 use Rattle.npf_show_law.proofs.FilterMeant.{every_all, named_text, filter_meant}
 
 name_again : (text : List ℕ) → is_name text ≡ true → IsOfText (named text)

@@ -13,8 +13,11 @@ use Rattle.npf_phrase.specs.Grammar.{optional, preceded}
 use Rattle.npf_parser_values.specs.{Token.{sign, number, number_to, flags, is_flag, quoted, span_of}, Value.{one, ones, one_list, protocols}}
 use Rattle.npf_parser.specs.Filter.{family, detail, proto_part, filter}
 use Rattle.npf_expand_values.specs.{Atom.{Atom, NumberAtom}, Protocol.{one_binding, protocol_of, protocol_faults, protocols_faults, spliced_ones, protocols_of}}
-use Rattle.npf_expand_values.specs.{Use.{element_count, atoms_of, count_of}, Variable.alone_binding, Source.declared_of}
-use Rattle.npf_expand.specs.Rule.{is_inet6, flag_bits, flags_of_detail, icmp_of_detail, detail_of_part, part_faults, part_protocols, part_count, filter_faults, filter_rule, filter_count, as_byte}
+use Rattle.npf_expand_values.specs.Message.{icmp_names, message_faults, message_number}
+use Rattle.npf_names.specs.{declared.icmp.IcmpNames.IcmpNames, Icmp.{codes_of, types_of}, Names.Names}
+use Rattle.npf_expand_values.specs.{Use.{element_count, atoms_of, count_of, then_faults}, Variable.alone_binding, Source.declared_of}
+use Rattle.npf_expand.specs.Rule.{is_inet6, flag_bits, flags_of_detail, icmp_of_detail, icmp_of_part, with_code, code_of, code_faults, detail_faults}
+use Rattle.npf_expand.specs.Rule.{detail_of_part, part_faults, part_protocols, part_count, filter_faults, filter_rule, filter_count}
 use Rattle.npf_show.specs.Ends.{where_pieces}
 use Rattle.npf_show.specs.Filter.{family_pieces, protocol_pieces, protocols_pieces, letters_of_bits, letter_if_set, flag_text, flags_pieces, code_pieces, icmp_pieces, filter_pieces}
 use Rattle.npf_show.specs.Piece.{Piece, glued, spaced, optional_pieces, comma_list, list_pieces}
@@ -58,7 +61,7 @@ flags_go bits ks =
 family_goes : (v6 : Bool) (ks : List TokenKind) → Goes (preceded (quoted (codes "family")) family) (λ f. is_inet6 f ≡ v6) (onto (family_pieces v6) ks) ks
 unfolding family
 family_goes false ks = said (pick_first (it_is (λ s. refl)) (says_goes (codes "inet4") Family.Inet4 (λ f. is_inet6 f ≡ false) ks (λ s. refl)))
-family_goes true ks = said (pick_second (it_is (λ s. refl)) (says_goes (codes "inet6") Family.Inet6 (λ f. is_inet6 f ≡ true) ks (λ s. refl)))
+family_goes true ks = said (pick_second (it_is (λ s. refl)) (pick_first (it_is (λ s. refl)) (says_goes (codes "inet6") Family.Inet6 (λ f. is_inet6 f ≡ true) ks (λ s. refl))))
 
 module _ (ifaces : List Iface) where
   pub record SaysOne (n : ℕ) (tree : One) : Type 0 where
@@ -139,33 +142,52 @@ module _ (ifaces : List Iface) where
   -- what more is said of protocols
   record SaysDetail (flags : Option (ℕ × ℕ)) (icmp : Option (ℕ × Option ℕ)) (o : Option Detail) : Type 0 where
     flags_are : flags_of_detail o ≡ flags
-    icmp_is : icmp_of_detail o ≡ icmp
+    icmp_is : (names : IcmpNames) → icmp_of_detail (nameless ifaces) names o ≡ icmp
+    none : (names : IcmpNames) → detail_faults (nameless ifaces) names o ≡ []
 
-  as_byte_same : (n : ℕ) → FitsByte n → (number : Number) → number.value ≡ n → as_byte number ≡ n
-  as_byte_same n small number is = rw is (omega (arith, small))
+  -- a number means itself whatever names there are
+  message_says : (n : ℕ) → FitsByte n → (names : Names) (one : One) → SaysOne n one
+      → (message_faults names (nameless ifaces) one ≡ []) × (message_number names (nameless ifaces) one ≡ Some n)
+  message_says n small names one is = let fits : nat_lt 255 n ≡ false = grind (arith, nat_tests) in (rw (is.binding, fits) refl, rw (is.binding, fits) refl)
 
-  abbrev IsCode : Option ℕ → Option Number → Type 0
-  IsCode None o = o ≡ None
-  IsCode (Some n) o = option_map as_byte o ≡ Some n
+  abbrev IsCode : Option ℕ → Option One → Type 0
+  IsCode None None = Unit {0}
+  IsCode (Some n) (Some one) = SaysOne n one
+  IsCode _ _ = ⊥
 
-  code_same : (code : Option ℕ) (o : Option Number) → IsCode code o → option_map as_byte o ≡ code
-  code_same None o is = ap (option_map as_byte) is
-  code_same (Some n) o is = is
+  code_says : (names : IcmpNames) (kind : ℕ) (code : Option ℕ) → IfSome code FitsByte → (o : Option One) → IsCode code o
+      → (code_faults (nameless ifaces) names (Some kind) o ≡ []) × (code_of (nameless ifaces) names kind o ≡ code)
+  code_says names kind None small None is = (refl, refl)
+  code_says names kind (Some n) small (Some one) is = message_says n small (codes_of names kind) one is
+  code_says names kind None small (Some one) is = absurd is
+  code_says names kind (Some n) small None is = absurd is
+
+  says_icmp : (icmp : ℕ × Option ℕ) → FitsByte icmp.0 × IfSome icmp.1 FitsByte → (kind : One) (code : Option One) (span : Span) → SaysOne icmp.0 kind → IsCode icmp.1 code
+      → SaysDetail None (Some icmp) (Some (Detail.IcmpType kind code span))
+  says_icmp icmp small kind code span is those =
+      let env = nameless ifaces in record {
+        flags_are = refl;
+        icmp_is = λ names.
+            ap (with_code env names code) (message_says icmp.0 small.0 (types_of names) kind is).1 ∙ ap (λ o. Some (icmp.0, o)) (code_says names icmp.0 icmp.1 small.1 code those).1;
+        none = λ names.
+            let number = message_number (types_of names) env kind in
+            ap (λ fs. then_faults fs (code_faults env names number code)) (message_says icmp.0 small.0 (types_of names) kind is).0
+            ∙ ap (λ o. code_faults env names o code) (message_says icmp.0 small.0 (types_of names) kind is).1 ∙ (code_says names icmp.0 icmp.1 small.1 code those).0;
+      }
 
   code_goes : (code : Option ℕ) → IfSome code FitsByte → (ks : List TokenKind) → HeadIn where_starts ks
-      → Goes (optional (preceded (quoted (codes "code")) (number_to 255))) (IsCode code) (onto (optional_pieces code_pieces code) ks) ks
-  code_goes None small ks here = absent {g = preceded (quoted (codes "code")) (number_to 255)} (none_is where_starts (λ s. refl) here) refl
+      → Goes (optional (preceded (quoted (codes "code")) one)) (IsCode code) (onto (optional_pieces code_pieces code) ks) ks
+  code_goes None small ks here = absent {g = preceded (quoted (codes "code")) one} (none_is where_starts (λ s. refl) here) tt
   code_goes (Some n) small ks here =
-      present {g = preceded (quoted (codes "code")) (number_to 255)} (it_is (λ s. refl)) (said (keep (λ a is. ap Some (as_byte_same n small a is)) (byte_goes n ks small)))
+      present {g = preceded (quoted (codes "code")) one} {P = IsCode (Some n)} (it_is (λ s. refl)) (said (one_goes n small ks))
 
   icmp_goes : (icmp : ℕ × Option ℕ) → FitsByte icmp.0 × IfSome icmp.1 FitsByte → (ks : List TokenKind) → HeadIn where_starts ks
       → Goes detail (λ d. SaysDetail None (Some icmp) (Some d)) (onto (icmp_pieces icmp) ks) ks
   unfolding detail
   icmp_goes icmp small ks here =
       pick_second (it_is (λ s. refl))
-      (make {P = λ a. (a.0.value ≡ icmp.0) × IsCode icmp.1 a.1}
-      (λ ts a is. record { flags_are = refl; icmp_is = ap₂ (λ n o. Some (n, o)) (as_byte_same icmp.0 small.0 a.0 is.0) (code_same icmp.1 a.1 is.1) })
-      (said (turn (byte_goes icmp.0 (onto (optional_pieces code_pieces icmp.1) ks) small.0) (code_goes icmp.1 small.1 ks here))))
+      (make {P = λ a. SaysOne icmp.0 a.0 × IsCode icmp.1 a.1} (λ ts a is. says_icmp icmp small a.0 a.1 (span_of ts) is.0 is.1)
+      (said (turn (one_goes icmp.0 small.0 (onto (optional_pieces code_pieces icmp.1) ks)) (code_goes icmp.1 small.1 ks here))))
 
   abbrev IsMask : ℕ → Option Word → Type 0
   IsMask bits None = ⊥
@@ -176,7 +198,8 @@ module _ (ifaces : List Iface) where
   says_flags bits small short w None span is mask = absurd mask
   says_flags bits small short w (Some m) span is mask = record {
     flags_are = ap₂ (λ a b. Some (a, b)) (ap flag_bits is ∙ values_come_back_lem.flags bits.0 small) (ap flag_bits mask ∙ values_come_back_lem.flags bits.1 short);
-    icmp_is = refl;
+    icmp_is = λ names. refl;
+    none = λ names. refl;
   }
 
   flags_detail_goes : (bits : ℕ × ℕ) → bits.0 < 2 ^ 8 → bits.1 < 2 ^ 8 → (ks : List TokenKind) → Goes detail (λ d. SaysDetail (Some bits) None (Some d)) (onto (flags_pieces bits) ks) ks
@@ -191,11 +214,19 @@ module _ (ifaces : List Iface) where
     faults : part_faults ifaces (nameless ifaces) o ≡ []
     gives : part_protocols ifaces (nameless ifaces) o ≡ protos
     count : part_count ifaces (nameless ifaces) o ≡ length protos
-    detail_is : SaysDetail flags icmp (detail_of_part o)
+    flags_are : flags_of_detail (detail_of_part o) ≡ flags
+    icmp_is : icmp_of_part (nameless ifaces) o ≡ icmp
 
   says_part : (protos : List ℕ) (flags : Option (ℕ × ℕ)) (icmp : Option (ℕ × Option ℕ)) (tree : Protocols) (o : Option Detail) (span : Span) → SaysProtocols protos tree → SaysDetail flags icmp o
       → SaysPart protos flags icmp (Some (record { protocols = tree; detail = o; span = span }))
-  says_part protos flags icmp tree o span is more = record { faults = is.faults; gives = is.gives; count = is.count; detail_is = more }
+  says_part protos flags icmp tree o span is more = 
+      let names = icmp_names (spliced_ones (nameless ifaces) tree) in record {
+        faults = ap (λ fs. then_faults fs (detail_faults (nameless ifaces) names o)) is.faults ∙ more.none names;
+        gives = is.gives;
+        count = is.count;
+        flags_are = more.flags_are;
+        icmp_is = more.icmp_is names;
+      }
 
   abbrev detail_pieces : Option (ℕ × ℕ) → Option (ℕ × Option ℕ) → List TokenKind → List TokenKind
   detail_pieces bits icmp ks = onto (optional_pieces flags_pieces bits) (onto (optional_pieces icmp_pieces icmp) ks)
@@ -203,7 +234,7 @@ module _ (ifaces : List Iface) where
   detail_goes : (protos : List ℕ) (bits : Option (ℕ × ℕ)) (icmp : Option (ℕ × Option ℕ)) → IsOneDetail protos bits icmp → IfSome icmp (λ icmp. FitsByte icmp.0 × IfSome icmp.1 FitsByte)
       → (ks : List TokenKind) → HeadIn where_starts ks → Goes (optional detail) (SaysDetail bits icmp) (detail_pieces bits icmp ks) ks
   unfolding detail
-  detail_goes protos None None is small ks here = absent {g = detail} (none_is where_starts (λ s. refl) here) (record { flags_are = refl; icmp_is = refl })
+  detail_goes protos None None is small ks here = absent {g = detail} (none_is where_starts (λ s. refl) here) (record { flags_are = refl; icmp_is = λ names. refl; none = λ names. refl })
   detail_goes protos (Some bits) None is small ks here = present {g = detail} (it_is (λ s. refl)) (flags_detail_goes bits is.1 is.2 ks)
   detail_goes protos None (Some icmp) is small ks here = present {g = detail} (it_is (λ s. refl)) (icmp_goes icmp small ks here)
   detail_goes protos (Some bits) (Some icmp) is small ks here = absurd is
@@ -216,7 +247,7 @@ module _ (ifaces : List Iface) where
       → (ks : List TokenKind) → HeadIn where_starts ks → Goes (optional proto_part) (SaysPart protos bits icmp) (part_kinds protos bits icmp ks) ks
   unfolding proto_part
   part_goes [] None None all is small ks here =
-      absent {g = proto_part} (none_is where_starts (λ s. refl) here) (record { faults = refl; gives = refl; count = refl; detail_is = record { flags_are = refl; icmp_is = refl } })
+      absent {g = proto_part} (none_is where_starts (λ s. refl) here) (record { faults = refl; gives = refl; count = refl; flags_are = refl; icmp_is = refl })
   part_goes [] (Some bits) None all is small ks here = absurd (let none : ⊥ = omega (arith, is.0) in none)
   part_goes [] None (Some icmp) all is small ks here = absurd (let none : ⊥ = omega (arith, is) in none)
   part_goes [] (Some bits) (Some icmp) all is small ks here = absurd is
@@ -264,7 +295,7 @@ module _ (ifaces : List Iface) where
         → SaysWhere ifaces model rule.from rule.to ends → SaysFilter rule (record { family = family; proto = part; ends = ends; span = span })
     says_filter rule family part ends span fam is those = record {
       faults = rw (is.faults, those.0.faults, those.1.faults) refl;
-      gives = rw (fam, is.gives, is.detail_is.flags_are, is.detail_is.icmp_is, those.0.gives, those.1.gives) refl;
+      gives = rw (fam, is.gives, is.flags_are, is.icmp_is, those.0.gives, those.1.gives) refl;
       count = rw (is.count, those.0.count, those.1.count) refl;
     }
 

@@ -16,7 +16,7 @@ use Rattle.npf_show.specs.Piece as Pieces
 use Rattle.npf_show.specs.Procedure.{log_line, least_option, greatest_option, fragment_option, normal_options, normalize_line, procedure_head}
 use Rattle.npf_show_tokens.specs.Showable.{FitsByte, IsShowableProcedure}
 use Rattle.npf_show_meaning.specs.Regular.{IsOfText}
-use Rattle.npf_show_meaning.proofs.Goes.{Goes, HeadIn, Anything, token_goes, make, turn, pick_first, pick_second, preceded_goes, said, signed, before, it_is, none_is, sign_goes}
+use Rattle.npf_show_meaning.proofs.Goes.{Goes, HeadIn, Anything, token_goes, word_goes, make, turn, pick_first, pick_second, preceded_goes, said, signed, before, it_is, none_is, sign_goes}
 use Rattle.npf_show_meaning.proofs.{Lists.{onto, onto_both, Each, list_goes}, ValueLists.close, Blocks.{feed, opened_goes}, FilterOf.to_goes}
 use Rattle.npf_show_meaning.proofs.{RuleOf.{IsText, string_goes, name_goes}, Parts.{OfProcedure, SaysPartOf}}
 
@@ -147,7 +147,9 @@ call_goes (LogTo name) is ks =
     pick_first (it_is (λ s. refl)) (make {P = λ n. name_of_log n ≡ name} (λ ts n same p. ap (λ n. record p { log = Some n }) same) (said (signed (log_goes name is (feed ∷ ks)))))
 call_goes (Normal first others) is ks =
     pick_second (it_is (λ s. refl)) (pick_second (it_is (λ s. refl))
-    (make {P = λ trees. Each IsOption trees (first ∷ others)} (λ ts trees each p. with_each trees (first ∷ others) each p) (said (signed (options_go first others is (feed ∷ ks) (inl (ks, refl)))))))
+    (make {P = λ trees. Each IsOption trees (first ∷ others)} (λ ts trees each p. with_each trees (first ∷ others) each p)
+    (make {P = λ a. Unit {0} × Each IsOption a.1 (first ∷ others)} (λ ts a is. is.1)
+    (turn (pick_first (it_is (λ s. refl)) (word_goes (codes "normalize") _)) (signed (options_go first others is (feed ∷ ks) (inl (ks, refl))))))))
 
 line_head : (line : CallLine) (ks : List TokenKind) → HeadIn (Kind.Word (codes "log") ∷ Kind.Word (codes "normalize") ∷ []) (onto (line_within line) ks)
 line_head (LogTo name) ks = inl (_, refl)

@@ -8,14 +8,14 @@ use Rattle.npf_lexer.specs.declared.token.TokenKind.TheVariants as Kind
 use Rattle.npf_syntax.specs.declared.{stmt.{Stmt.Stmt, TableType.TableType}, word.{Str.Str, Word.Word}}
 use Rattle.npf_model.specs.declared.{iface.Iface.Iface, model.Model.Model, table.Kind.{Kind as TableKind, TheVariants.{Ipset, Lpm, Const}}}
 use Rattle.npf_model.specs.declared.table.TableDecl.{TableDecl}
-use Rattle.npf_phrase.specs.Grammar.{optional, preceded}
+use Rattle.npf_phrase.specs.Grammar.{optional, preceded, terminated}
 use Rattle.npf_parser_values.specs.Token.{word, text_string, quoted, span_of}
-use Rattle.npf_parser.specs.Stmt.{table_type, table}
+use Rattle.npf_parser.specs.Stmt.{table_type, dynamic, table}
 use Rattle.npf_expand.specs.Table.{kind_of_type}
 use Rattle.npf_show.specs.{Ends.angled, Piece.{Piece, glued, spaced, optional_pieces}, Table.{kind_pieces, file_pieces}}
 use Rattle.npf_show.specs.Piece as Pieces
 use Rattle.npf_show_meaning.specs.Regular.{IsRegularDecl}
-use Rattle.npf_show_meaning.proofs.Goes.{Goes, token_goes, make, turn, keep, fit, pick_first, pick_second, said, signed, before, absent, present, it_is, says_goes}
+use Rattle.npf_show_meaning.proofs.Goes.{Goes, Anything, token_goes, make, turn, keep, fit, pick_first, pick_second, said, signed, before, absent, present, it_is, says_goes}
 use Rattle.npf_show_meaning.proofs.{Lists.{onto, onto_both}, Blocks.feed, RuleOf.string_goes, Parts.{OfTable, SaysPartOf}}
 
 abbrev pub IsWord : List ℕ → Word → Type 0
@@ -28,7 +28,8 @@ kind_goes : (kind : TableKind) (ks : List TokenKind) → Goes table_type (λ k. 
 unfolding table_type
 kind_goes Ipset ks = pick_first (it_is (λ s. refl)) (says_goes (codes "ipset") TableType.IpSet (λ k. kind_of_type k ≡ Ipset) ks (λ s. refl))
 kind_goes Lpm ks = pick_second (it_is (λ s. refl)) (pick_first (it_is (λ s. refl)) (says_goes (codes "lpm") TableType.Lpm (λ k. kind_of_type k ≡ Lpm) ks (λ s. refl)))
-kind_goes Const ks = pick_second (it_is (λ s. refl)) (pick_second (it_is (λ s. refl)) (says_goes (codes "const") TableType.Const (λ k. kind_of_type k ≡ Const) ks (λ s. refl)))
+kind_goes Const ks =
+    pick_second (it_is (λ s. refl)) (pick_second (it_is (λ s. refl)) (pick_first (it_is (λ s. refl)) (says_goes (codes "const") TableType.Const (λ k. kind_of_type k ≡ Const) ks (λ s. refl))))
 
 abbrev IsFile : Option (List ℕ) → Option Str → Type 0
 IsFile file o = option_map (λ s. s.text) o ≡ file
@@ -39,6 +40,16 @@ file_goes None is ks = absent {g = preceded (quoted (codes "file")) text_string}
 file_goes (Some file) is ks =
     present {g = preceded (quoted (codes "file")) text_string} {P = IsFile (Some file)} (it_is (λ s. refl))
     (said (keep (λ s same. ap Some same) (fit (λ s same. ap is_utf8 same ∙ is) (string_goes file (feed ∷ ks)))))
+
+-- no `dynamic` is shown
+undynamic : (file : Option (List ℕ)) (ks : List TokenKind) → Goes dynamic Anything (onto (optional_pieces file_pieces file) (feed ∷ ks)) (onto (optional_pieces file_pieces file) (feed ∷ ks))
+undynamic None ks = make (λ ts a is. tt) (absent {g = quoted (codes "dynamic")} {P = Anything} (it_is (λ s. refl)) tt)
+undynamic (Some file) ks = make (λ ts a is. tt) (absent {g = quoted (codes "dynamic")} {P = Anything} (it_is (λ s. refl)) tt)
+
+kind_alone : (kind : TableKind) (file : Option (List ℕ)) (ks : List TokenKind) → let to = onto (optional_pieces file_pieces file) (feed ∷ ks) in
+    Goes (terminated table_type dynamic) (λ k. kind_of_type k ≡ kind) (onto (kind_pieces kind) to) to
+kind_alone kind file ks =
+    make {P = λ a. (kind_of_type a.0 ≡ kind) × Unit {0}} (λ ts a is. is.0) (turn (kind_goes kind (onto (optional_pieces file_pieces file) (feed ∷ ks))) (undynamic file ks))
 
 same_presence : (o : Option Str) → is_some (option_map (λ s. s.text) o) ≡ is_some (option_map (λ s. s.span) o)
 same_presence None = refl
@@ -86,4 +97,4 @@ module _ (ifaces : List Iface) (model : Model) where
       Kind.Word name ∷ Kind.Sign Signs.Greater ∷ Kind.Word (codes "type") ∷ from) to) (sym (onto_both kind file to))
       (make {P = λ a. IsWord name a.0 × ((kind_of_type a.1.0 ≡ t.kind) × IsFile t.file a.1.1)} (λ ts a q. says_table t is a.0 a.1.0 a.1.1 (span_of ts) q.0 q.1.0 q.1.1)
       (said (signed (turn (before (fit (λ w same. ap is_name same ∙ t.name.named) (any_word_goes name (Kind.Sign Signs.Greater ∷ Kind.Word (codes "type") ∷ onto kind (onto file to)))))
-      (turn (said (kind_goes t.kind (onto file to))) (file_goes t.file is.file ks))))))
+      (turn (said (kind_alone t.kind t.file ks)) (file_goes t.file is.file ks))))))

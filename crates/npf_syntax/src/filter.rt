@@ -1,7 +1,7 @@
 // The trees of filters.
 use crate::boxed::Boxed;
 use crate::value::{One, OneList, Value, ValueList, Values};
-use crate::word::{Number, Word};
+use crate::word::Word;
 use npf_types::Span;
 
 /// An address family, by its word.
@@ -19,7 +19,7 @@ pub enum Protocols {
 }
 
 /// What more a filter says of its protocols: TCP's flags, and those among which they are looked for, by letters of
-/// `FSRPAUEW`; or ICMP's type, and its code, each at most 255.
+/// `FSRPAUEW`; or the type of an ICMP message, and its code.
 #[derive(Debug, Drop)]
 pub enum Detail {
     Flags {
@@ -28,8 +28,8 @@ pub enum Detail {
         span: Span,
     },
     IcmpType {
-        number: Number,
-        code: Option<Number>,
+        kind: One,
+        code: Option<One>,
         span: Span,
     },
 }

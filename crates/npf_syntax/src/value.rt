@@ -11,7 +11,7 @@ pub enum IfaceTree {
     Var { var: Var, span: Span },
 }
 
-/// A protocol: a word, a number of at most 255, or a variable.
+/// A protocol, or the type or code of an ICMP message: a word, a number of at most 255, or a variable.
 #[derive(Debug, Drop)]
 pub enum One {
     Word { word: Word, span: Span },

@@ -1,4 +1,4 @@
-use Rattle.std.{proofs.Common.{◌≡◌, ◌<◌, ℕ, List, Some, if◌then◌else◌, length, ap, ◌∙◌, sym, arith}, specs.{HashMap.get_by, Map.lookup, Str.bytes_eq}}
+use Rattle.std.{proofs.Common.{◌≡◌, ◌<◌, Some, if◌then◌else◌, length, ap, ◌∙◌, sym, arith}, specs.{HashMap.get_by, Map.lookup, Str.bytes_eq}}
 use Rattle.std.proofs.lemmas.Map.Text.{hash_map_updates_str}
 use Rattle.npf_expand_values.proofs.{FaultLemmas.either_way, KeptLemmas.{pushed_behind, pushed_within, put_bound, put_within}}
 use Rattle.npf_expand_values.proofs.variable.Variables.put.Goals as goal

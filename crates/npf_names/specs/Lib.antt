@@ -1,0 +1,4 @@
+pub mod Icmp
+pub mod Names
+pub mod Protocol
+pub mod Service
