@@ -237,9 +237,11 @@ module _ (ifaces : List Iface) (fit : All (λ i. All FitsAddr i.addrs) ifaces) (
       All FitsByte (part_protocols ifaces env o) × IsGoodDetail (part_protocols ifaces env o) (flags_of_detail (detail_of_part o)) (icmp_of_part env o)
   part_meant None is none = (All-nil FitsByte, record { flags = tt; icmp = tt; one = tt })
   part_meant (Some part) is none =
-      let protos = protocols_meant part.protocols is.protocols (none_before (protocols_faults env part.protocols) _ none) in
-      (protos.1, detail_meant env (icmp_names (spliced_ones env part.protocols)) (protocols_of env part.protocols) part.detail
-      (if_detail (protocols_of env part.protocols) part.detail protos.0 is.detail))
+      let protos = protocols_meant part.protocols is.protocols (none_before (protocols_faults env part.protocols) _ none) in (
+        protos.1,
+        detail_meant env (icmp_names (spliced_ones env part.protocols)) (protocols_of env part.protocols) part.detail
+            (if_detail (protocols_of env part.protocols) part.detail protos.0 is.detail),
+      )
 
   module _ (model : Model) (tables : List (List ℕ))
       (numbered : (name : List ℕ) → is_run_word name ≡ true → is_name name ≡ true → d name ≡ true →

@@ -219,7 +219,7 @@ module _ (ifaces : List Iface) where
 
   says_part : (protos : List ℕ) (flags : Option (ℕ × ℕ)) (icmp : Option (ℕ × Option ℕ)) (tree : Protocols) (o : Option Detail) (span : Span) → SaysProtocols protos tree → SaysDetail flags icmp o
       → SaysPart protos flags icmp (Some (record { protocols = tree; detail = o; span = span }))
-  says_part protos flags icmp tree o span is more = 
+  says_part protos flags icmp tree o span is more =
       let names = icmp_names (spliced_ones (nameless ifaces) tree) in record {
         faults = ap (λ fs. then_faults fs (detail_faults (nameless ifaces) names o)) is.faults ∙ more.none names;
         gives = is.gives;
