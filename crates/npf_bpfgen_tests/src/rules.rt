@@ -68,10 +68,14 @@ fn parse_protocols(alloc: Global, words: &[&str]) -> Result<List<u8>> {
     Ok(List::of_vec(numbers))
 }
 
-/// Adds ports behind the word `port`, and otherwise blocks and tables.
+/// Adds ports behind the word `port`, and otherwise blocks and tables, excluded behind the word `not`.
 fn add_ends(alloc: Global, ends: &mut Ends, words: &[&str]) -> Result<()> {
     match *words {
         ["port", ref ports @ ..] => ends.ports = Some(parse_ports(alloc, ports)?),
+        ["not", ref items @ ..] => {
+            ends.excluded = true;
+            ends.addrs = Some(parse_items(alloc, items)?);
+        }
         _ => ends.addrs = Some(parse_items(alloc, words)?),
     }
     Ok(())
