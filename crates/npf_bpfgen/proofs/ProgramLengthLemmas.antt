@@ -4,7 +4,8 @@ use Rattle.std.{specs.List.{list_any, sum_by}, proofs.lemmas.List.Sums.sum_by-co
 use Rattle.npf_types.specs.declared.{address.Addr.{Addr, TheVariants.{V4, V6}}, decision.Decision.Decision}
 use Rattle.npf_model.specs.{declared.{ends.{AddrItem.{AddrItem, TheVariants.{Net, InTable}}, Ends.Ends}, rule.{Rule.Rule, StateOpt.StateOpt}}, Count.listed, Describes.item_allows}
 use Rattle.npf_bpfgen.specs.Condition.{asks_opening}
-use Rattle.npf_bpfgen.specs.ProgramLength.{addrs_length, block_length, ends_length, families_length, family_length, flags_length, icmp_length, item_length, ports_length, program_length, protocols_length}
+use Rattle.npf_bpfgen.specs.ProgramLength.{addrs_length, block_length, ends_length, families_length, family_length}
+use Rattle.npf_bpfgen.specs.ProgramLength.{flags_length, icmp_length, item_length, ports_length, program_length, protocols_length}
 use Rattle.npf_bpfgen.specs.RuleWeight.{block_weight, ends_weight, item_weight, items_weight, weight_of}
 
 most_of_family : (v6 : Option Bool) → family_length v6 ≤ 3

@@ -7,7 +7,7 @@ ghost use Rattle.std.specs.List.{list_any, sum_by};
 ghost use Rattle.npf_types.specs.Address.{first_bits, shares_first};
 ghost use Rattle.npf_types.specs.declared.address.Addr.TheVariants.{V4, V6};
 ghost use Rattle.npf_types.specs.Prefix.{has_address};
-ghost use Rattle.npf_model.specs.Describes.{fits_addrs, item_allows, item_has, table_has};
+ghost use Rattle.npf_model.specs.Describes.{fits_addrs, item_has, table_has};
 ghost use Rattle.npf_bpfgen.specs.Condition.{HasItemNumber};
 ghost use Rattle.npf_bpfgen.specs.Endpoint.{address_of};
 ghost use Rattle.npf_bpfgen.specs.Premise.{BranchesOnPacket, GuardsPacket};
@@ -21,7 +21,7 @@ use crate::instruction::{if_equal, shift_right};
 use crate::tail::Tail;
 use npf_bpf::Operation::{AskMember, Jump, LoadAbsolute, LoadConstant, LoadMemory, ReturnConstant};
 use npf_bpf::Width::Word;
-use npf_model::AddrItem;
+use npf_model::{AddrItem, some_allow};
 use npf_types::{Addr, NoMemory, Prefix};
 
 /// Tests that some item of the list has the endpoint's address.
@@ -52,12 +52,6 @@ pub fn put_excluded(tail: &mut Tail, endpoint: Endpoint, items: &[AddrItem]) -> 
     put_absent(tail, endpoint, items)?;
     put_families(tail, some_allow(items, false), some_allow(items, true))?;
     Ok(())
-}
-
-fn some_allow(items: &[AddrItem], v6: bool) -> bool
-    ensures { result ≡ list_any (item_allows v6) items.now }
-{
-    items.iter().any(|item| item.allows(v6))
 }
 
 // Tests that no item of the list has the endpoint's address.

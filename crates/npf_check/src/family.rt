@@ -5,7 +5,7 @@ ghost use Rattle.npf_model.specs.Describes.{list_allows};
 ghost use Rattle.npf_check.specs.Family.{asks_for, family_faults, leaves_family};
 
 use npf_faults::{ConfFault, Fault, fault_if};
-use npf_model::{AddrItem, Rule};
+use npf_model::{AddrItem, Rule, some_allow};
 use npf_types::{List, Span};
 
 /// `FamilyMix`, where no family is left for the rule at this place.
@@ -37,6 +37,6 @@ fn list_allows(v6: bool, addrs: &Option<List<AddrItem>>) -> bool
 {
     match addrs {
         None => true,
-        Some(items) => items.as_slice().iter().any(|item| item.allows(v6)),
+        Some(items) => some_allow(items.as_slice(), v6),
     }
 }

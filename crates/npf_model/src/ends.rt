@@ -1,5 +1,6 @@
 // The ends of a rule: addresses and ports.
 ghost use Rattle.std.specs.Prelude.{◌≡◌};
+ghost use Rattle.std.specs.List.{list_any};
 ghost use Rattle.npf_model.specs.Describes.{item_allows};
 
 use npf_types::{Addr, List, Prefix};
@@ -13,7 +14,7 @@ pub enum AddrItem {
 
 impl AddrItem {
     /// Whether it can have an address of the family, IPv6 where `v6` is true: a table can of both.
-    pub fn allows(self, v6: bool) -> bool
+    fn allows(self, v6: bool) -> bool
         ensures { result ≡ item_allows v6 self }
     {
         match self {
@@ -24,6 +25,13 @@ impl AddrItem {
             AddrItem::InTable(_) => true,
         }
     }
+}
+
+/// Whether some item of the list can have an address of the family, IPv6 where `v6` is true.
+pub fn some_allow(items: &[AddrItem], v6: bool) -> bool
+    ensures { result ≡ list_any (item_allows v6) items.now }
+{
+    items.iter().any(|item| item.allows(v6))
 }
 
 /// One side of a rule. An absent list means any; a range of ports has its first and its last. Where the addresses are `excluded`, the side is an address

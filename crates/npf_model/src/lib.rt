@@ -19,7 +19,7 @@ mod rule;
 mod settings;
 mod table;
 
-pub use ends::{AddrItem, Ends};
+pub use ends::{AddrItem, Ends, some_allow};
 pub use group::{Group, Item};
 pub use iface::{Iface, Ifaces, number_of_name, number_of_place};
 pub use map::{Algo, Arrow, Map, Side};

@@ -1,12 +1,12 @@
 // What a rule says of a packet, tested without a program: as a map's filter is.
 ghost use Rattle.std.specs.Prelude.{◌≡◌, ◌==◌, Some, true};
 ghost use Rattle.std.specs.List.{list_any};
-ghost use Rattle.npf_model.specs.Describes.{describes_packet, destination_of, fits_addrs, fits_ends, fits_family, fits_flags, fits_icmp, fits_kept, fits_ports, fits_protocol, in_range, is_message, is_v6, item_allows, item_has, opens_if_tcp, shows_flags, source_of};
+ghost use Rattle.npf_model.specs.Describes.{describes_packet, destination_of, fits_addrs, fits_ends, fits_family, fits_flags, fits_icmp, fits_kept, fits_ports, fits_protocol, in_range, is_message, is_v6, item_has, opens_if_tcp, shows_flags, source_of};
 ghost use Rattle.npf_model.specs.MapOf.{fits_side_port};
 ghost use Rattle.npf_ruleset.specs.Tables.{entries};
 
 use crate::tables::table_has;
-use npf_model::{AddrItem, Ends, Rule, StateOpt};
+use npf_model::{AddrItem, Ends, Rule, StateOpt, some_allow};
 use npf_table::Table;
 use npf_types::{Addr, Decision, Facts, L4, List};
 use std::sync::Arc;
@@ -129,12 +129,6 @@ fn is_excluded(items: &[AddrItem], tables: &[Arc<Table>], addr: Addr) -> bool
     ensures { result ≡ fits_addrs true (Some items.now) (entries tables.now) addr }
 {
     some_allow(items, is_v6(addr)) && !has_addr(items, tables, addr)
-}
-
-fn some_allow(items: &[AddrItem], v6: bool) -> bool
-    ensures { result ≡ list_any (item_allows v6) items.now }
-{
-    items.iter().any(|item| item.allows(v6))
 }
 
 fn is_v6(addr: Addr) -> bool

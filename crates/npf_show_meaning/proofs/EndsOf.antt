@@ -63,28 +63,10 @@ module _ (ifaces : List Iface) (model : Model) where
       keep (λ v says. table_element ifaces tables name number v is.place says) (table_goes ifaces role tables_stand inside name to is.name here)
 
   item_head : (item : AddrItem) → IsRegularItem model item → (to : List TokenKind) → HasHead (onto (item_pieces model item) to)
-  item_head (Net prefix) is to = record {
-    kind = Kind.Address prefix.addr;
-    rest = _;
-    is = refl;
-    feed = λ s. refl;
-    opening = λ s. refl;
-    closing = λ s. refl;
-    any = λ s. refl;
-    exclamation = λ s. refl;
-    port = λ s. refl;
-  }
-  item_head (InTable number) is to = record {
-    kind = Kind.Sign Signs.Less;
-    rest = _;
-    is = refl;
-    feed = λ s. refl;
-    opening = λ s. refl;
-    closing = λ s. refl;
-    any = λ s. refl;
-    exclamation = λ s. refl;
-    port = λ s. refl;
-  }
+  item_head (Net prefix) is to =
+      record { kind = Kind.Address prefix.addr; rest = _; is = refl; feed = λ s. refl; opening = λ s. refl; closing = λ s. refl; any = λ s. refl; exclamation = λ s. refl; port = λ s. refl }
+  item_head (InTable number) is to =
+      record { kind = Kind.Sign Signs.Less; rest = _; is = refl; feed = λ s. refl; opening = λ s. refl; closing = λ s. refl; any = λ s. refl; exclamation = λ s. refl; port = λ s. refl }
 
   record SaysAddresses (excluded : Bool) (items : List AddrItem) (a : Addresses) : Type 0 where
     excludes : is_excluded a ≡ excluded
@@ -153,17 +135,8 @@ module _ (ifaces : List Iface) (model : Model) where
   port_goes role stands inside range is to here = keep (range_element ifaces range) (range_goes ifaces role stands inside range is to here)
 
   port_head : (range : ℕ × ℕ) → IsRange ifaces range → (to : List TokenKind) → HasHead (onto (range_pieces range) to)
-  port_head range is to = record {
-    kind = Kind.Number range.0;
-    rest = _;
-    is = refl;
-    feed = λ s. refl;
-    opening = λ s. refl;
-    closing = λ s. refl;
-    any = λ s. refl;
-    exclamation = λ s. refl;
-    port = λ s. refl;
-  }
+  port_head range is to =
+      record { kind = Kind.Number range.0; rest = _; is = refl; feed = λ s. refl; opening = λ s. refl; closing = λ s. refl; any = λ s. refl; exclamation = λ s. refl; port = λ s. refl }
 
   record SaysPorts (ranges : List (ℕ × ℕ)) (v : Values) : Type 0 where
     faults : ports_faults ifaces (nameless ifaces) (Some v) ≡ []
