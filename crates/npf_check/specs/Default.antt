@@ -12,7 +12,7 @@ use Rattle.npf_faults.specs.First.{fault_at}
 
 -- where a statement that is a default group stands
 abbrev pub default_place : Stmt → List Span
-default_place (Stmt.Group (Head.Default head) items span) = span ∷ []
+default_place (Stmt.Group (Head.Default layer head) items span) = span ∷ []
 default_place _ = []
 
 -- the faults of so many default groups in a text with this end

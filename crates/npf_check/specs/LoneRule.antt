@@ -1,4 +1,4 @@
--- 42 to 45 of one rule that stands in no text, as one that is added to a ruleset, beside what it
+-- 42 to 45 and 48 of one rule that stands in no text, as one that is added to a ruleset, beside what it
 -- means. A rule without variables means as many tables as are written in it, in the same order, and
 -- each by its number: 4,294,967,295 where nothing has the name.
 use Rattle.std.specs.Prelude.{ℕ, ◌==◌, Option, Some, None, List, [], ◌∷◌, ◌++◌, zip}
@@ -19,6 +19,7 @@ use Rattle.npf_model.specs.declared.ends.AddrItem.{AddrItem}
 use Rattle.npf_model.specs.declared.ends.AddrItem.TheVariants.{Net, InTable}
 use Rattle.npf_model.specs.declared.ends.Ends.{Ends}
 use Rattle.npf_model.specs.declared.rule.Rule.{Rule}
+use Rattle.npf_check.specs.Unbuilt.{unbuilt_in_rule}
 use Rattle.npf_check.specs.WrittenRule.{faults_of_rule}
 
 -- the number of a table or a procedure that isn't there
@@ -68,6 +69,7 @@ unknown_in_target (Some ends) meant = unknown_in_ends ends meant
 abbrev pub unknown_in_where : Where → Rule → List ConfFault
 unknown_in_where (Where.All span) rule = []
 unknown_in_where (Where.From from to span) rule = unknown_in_ends from rule.from ++ unknown_in_target to rule.to
+unknown_in_where (Where.PcapFilter span) rule = []
 unknown_in_where (Where.To to span) rule = unknown_in_ends to rule.to
 
 abbrev pub unknown_applied : Option Str → Option ℕ → List ConfFault
@@ -80,3 +82,4 @@ lone_faults tree rule =
     unknown_in_where tree.filter.ends rule
     ++ unknown_applied tree.apply rule.procedure
     ++ faults_of_rule tree.span rule
+    ++ unbuilt_in_rule tree

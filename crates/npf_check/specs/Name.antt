@@ -21,7 +21,7 @@ abbrev pub name_given : NameKind → Stmt → List NameAt
 name_given Names.Variable (Stmt.Define var values span) = record { name = var.name; span = span } ∷ []
 name_given Names.Table (Stmt.Table name kind file span) = record { name = name.text; span = span } ∷ []
 name_given Names.Procedure (Stmt.Procedure name calls span) = record { name = name.text; span = span } ∷ []
-name_given Names.Group (Stmt.Group (Head.Named name dir on head) items span) = record { name = name.text; span = span } ∷ []
+name_given Names.Group (Stmt.Group (Head.Named name dir layer on head) items span) = record { name = name.text; span = span } ∷ []
 name_given _ _ = []
 
 -- all names of this kind, in the order of the text

@@ -48,6 +48,7 @@ module _ (is_defined : List ℕ → Bool) where
   abbrev pub tables_of_where : Where → List ConfFault
   tables_of_where (Where.All span) = []
   tables_of_where (Where.From from to span) = tables_of_ends from ++ tables_of_target to
+  tables_of_where (Where.PcapFilter span) = []
   tables_of_where (Where.To to span) = tables_of_ends to
 
   abbrev pub tables_of_pass : Option Filter → List ConfFault

@@ -34,8 +34,8 @@ faults_of_group (items, group) = flat_map faults_of_item (zip items group.items)
 
 -- the items of a group with a name, and those of a default group
 abbrev pub items_in : GroupKind → Stmt → List (List WrittenItem)
-items_in Named (Stmt.Group (Head.Named name dir on head) items span) = items ∷ []
-items_in Default (Stmt.Group (Head.Default head) items span) = items ∷ []
+items_in Named (Stmt.Group (Head.Named name dir layer on head) items span) = items ∷ []
+items_in Default (Stmt.Group (Head.Default layer head) items span) = items ∷ []
 items_in _ _ = []
 
 -- the items of the text's groups, in the order of the model's groups

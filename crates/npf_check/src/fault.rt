@@ -22,7 +22,7 @@ use std::alloc::Global;
 /// - `NoDefault` at the text's end, `TwoDefaults` at the second default group
 /// - `UnknownTable` at the `<`, `UnknownProcedure` at the string
 /// - `FamilyMix` and `PortNeedsTcpUdp` at the rule, or at a map's filter
-/// - `DuplicateName` at the statement or item, `BadMap` and `Unbuilt` at the statement
+/// - `DuplicateName` at the statement or item, `BadMap` at the statement, `Unbuilt` at the statement or the word
 /// - `TooMany` rules, tables, maps or procedures at the first that is too many
 pub fn check(alloc: Global, tree: &Tree, model: &Model) -> Result<(), Refused>
     ensures ok { IfOk result (λ _. check_faults tree.now model.now ≡ []) }

@@ -5,6 +5,7 @@ ghost use Rattle.npf_faults.specs.First.{IsFirstFaultOf, first_fault};
 ghost use Rattle.npf_check.specs.LoneRule.{lone_faults, table_numbers, table_place, unknown_among, unknown_applied, unknown_in_addresses, unknown_in_ends, unknown_in_target, unknown_in_where, unknown_table, written_values};
 ghost use Rattle.npf_check.specs.Pair.{first_beside};
 
+use crate::unbuilt::unbuilt_in_rule;
 use crate::written_rule::rule_fault;
 use npf_faults::{ConfFault, Fault, earlier, fault_if};
 use npf_model::{AddrItem, Ends, Rule};
@@ -21,6 +22,7 @@ const NUMBER_OF_NONE: u32 = u32::MAX;
 ///
 /// - `UnknownTable` at the `<`, where no table has the name, `UnknownProcedure` at the string
 /// - `FamilyMix` and `PortNeedsTcpUdp` at the rule
+/// - `Unbuilt` at the word
 pub fn check_rule(tree: &RuleTree, rule: &Rule) -> Result<(), ConfFault>
     ensures ok { IfOk result (λ _. lone_faults tree.now rule.now ≡ []) }
     ensures err { IfErr result (IsFirstFaultOf (lone_faults tree.now rule.now)) }
@@ -37,7 +39,8 @@ fn lone_fault(tree: &RuleTree, rule: &Rule) -> Option<ConfFault>
     let table = unknown_in_where(&tree.filter.ends, rule);
     let procedure = unknown_applied(&tree.apply, rule.procedure);
     let unknown = earlier(table, procedure);
-    earlier(unknown, rule_fault(tree.span, rule))
+    let known = earlier(unknown, rule_fault(tree.span, rule));
+    earlier(known, unbuilt_in_rule(tree))
 }
 
 fn unknown_applied(applied: &Option<Str>, number: Option<u32>) -> Option<ConfFault>
@@ -56,7 +59,7 @@ fn unknown_in_where(ends: &Where, rule: &Rule) -> Option<ConfFault>
     ensures { result ≡ first_fault (unknown_in_where ends.now rule.now) }
 {
     match ends {
-        Where::All { .. } => None,
+        Where::All { .. } | Where::PcapFilter { .. } => None,
         Where::From { from, to, .. } => {
             let source = unknown_in_ends(from.get(), &rule.from);
             earlier(source, unknown_in_target(to, &rule.to))

@@ -87,7 +87,7 @@ fn table_in_where(tables: &Names, ends: &Where) -> Option<ConfFault>
     ensures { result ≡ first_fault (tables_of_where (holds tables.now) ends.now) }
 {
     match ends {
-        Where::All { .. } => None,
+        Where::All { .. } | Where::PcapFilter { .. } => None,
         Where::From { from, to, .. } => {
             earlier(
                 table_in_ends(tables, from.get()),

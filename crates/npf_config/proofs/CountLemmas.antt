@@ -23,21 +23,23 @@ module _ (ifaces : List Iface) (declared : Declared) where
   group_placed env items = ap length (append-nil (flat_map rules_at (map (item_of_tree ifaces env declared) items))) ∙ items_placed env items
 
   named_placed : (env : Env) (stmt : Stmt) → length (all_rules (named_group ifaces declared env stmt)) ≡ length (named_rule_places stmt)
-  named_placed env (Stmt.Group (Head.Named name dir on head) items span) = group_placed env items
-  named_placed env (Stmt.Group (Head.Default head) items span) = refl
+  named_placed env (Stmt.Group (Head.Named name dir layer on head) items span) = group_placed env items
+  named_placed env (Stmt.Group (Head.Default layer head) items span) = refl
   named_placed env (Stmt.Define var values span) = refl
   named_placed env (Stmt.Set name value span) = refl
   named_placed env (Stmt.Alg name span) = refl
+  named_placed env (Stmt.MapRuleset iface span) = refl
   named_placed env (Stmt.Table name kind file span) = refl
   named_placed env (Stmt.Map iface kind proto left arrow right pass span) = refl
   named_placed env (Stmt.Procedure name calls span) = refl
 
   default_placed : (env : Env) (stmt : Stmt) → length (all_rules (default_group ifaces declared env stmt)) ≡ length (default_rule_places stmt)
-  default_placed env (Stmt.Group (Head.Named name dir on head) items span) = refl
-  default_placed env (Stmt.Group (Head.Default head) items span) = group_placed env items
+  default_placed env (Stmt.Group (Head.Named name dir layer on head) items span) = refl
+  default_placed env (Stmt.Group (Head.Default layer head) items span) = group_placed env items
   default_placed env (Stmt.Define var values span) = refl
   default_placed env (Stmt.Set name value span) = refl
   default_placed env (Stmt.Alg name span) = refl
+  default_placed env (Stmt.MapRuleset iface span) = refl
   default_placed env (Stmt.Table name kind file span) = refl
   default_placed env (Stmt.Map iface kind proto left arrow right pass span) = refl
   default_placed env (Stmt.Procedure name calls span) = refl
@@ -72,6 +74,7 @@ module _ (ifaces : List Iface) (declared : Declared) where
   one_map env (Stmt.Define var values span) = refl
   one_map env (Stmt.Set name value span) = refl
   one_map env (Stmt.Alg name span) = refl
+  one_map env (Stmt.MapRuleset iface span) = refl
   one_map env (Stmt.Table name kind file span) = refl
   one_map env (Stmt.Procedure name calls span) = refl
 
@@ -87,11 +90,12 @@ module _ (ifaces : List Iface) (declared : Declared) where
 
 -- a statement's rules are inspected with its group
 stmt_places : (stmt : Stmt) → length (named_rule_places stmt) + length (default_rule_places stmt) ≡ length (limited_places Of.Rules stmt)
-stmt_places (Stmt.Group (Head.Named name dir on head) items span) = omega arith
-stmt_places (Stmt.Group (Head.Default head) items span) = omega arith
+stmt_places (Stmt.Group (Head.Named name dir layer on head) items span) = omega arith
+stmt_places (Stmt.Group (Head.Default layer head) items span) = omega arith
 stmt_places (Stmt.Define var values span) = refl
 stmt_places (Stmt.Set name value span) = refl
 stmt_places (Stmt.Alg name span) = refl
+stmt_places (Stmt.MapRuleset iface span) = refl
 stmt_places (Stmt.Table name kind file span) = refl
 stmt_places (Stmt.Map iface kind proto left arrow right pass span) = refl
 stmt_places (Stmt.Procedure name calls span) = refl
@@ -115,6 +119,7 @@ one_table (Stmt.Group head items span) = refl
 one_table (Stmt.Define var values span) = refl
 one_table (Stmt.Set name value span) = refl
 one_table (Stmt.Alg name span) = refl
+one_table (Stmt.MapRuleset iface span) = refl
 one_table (Stmt.Map iface kind proto left arrow right pass span) = refl
 one_table (Stmt.Procedure name calls span) = refl
 
@@ -134,6 +139,7 @@ one_procedure (Stmt.Group head items span) = refl
 one_procedure (Stmt.Define var values span) = refl
 one_procedure (Stmt.Set name value span) = refl
 one_procedure (Stmt.Alg name span) = refl
+one_procedure (Stmt.MapRuleset iface span) = refl
 one_procedure (Stmt.Map iface kind proto left arrow right pass span) = refl
 
 pub procedures_limited : (stmts : List Stmt) → length (flat_map procedures_of stmts) ≡ length (flat_map (limited_places Of.Procedures) stmts)

@@ -31,23 +31,25 @@ module _ (ifaces : List Iface) (declared : Declared) where
   items_first env items = All-map (IsNextWithin 1) (item_of_tree ifaces env declared) items (λ k d below. item_first env (get_or items k d))
 
   named_first : (env : Env) (stmt : Stmt) → HaveFirstIds (named_group ifaces declared env stmt)
-  named_first env (Stmt.Group (Head.Named name dir on head) items span) =
-      All-cons (GroupWithin 1) (group_of_tree ifaces env declared (Head.Named name dir on head) items) [] (items_first env items) (All-nil (GroupWithin 1))
-  named_first env (Stmt.Group (Head.Default head) items span) = All-nil (GroupWithin 1)
+  named_first env (Stmt.Group (Head.Named name dir layer on head) items span) =
+      All-cons (GroupWithin 1) (group_of_tree ifaces env declared (Head.Named name dir layer on head) items) [] (items_first env items) (All-nil (GroupWithin 1))
+  named_first env (Stmt.Group (Head.Default layer head) items span) = All-nil (GroupWithin 1)
   named_first env (Stmt.Define var values span) = All-nil (GroupWithin 1)
   named_first env (Stmt.Set name value span) = All-nil (GroupWithin 1)
   named_first env (Stmt.Alg name span) = All-nil (GroupWithin 1)
+  named_first env (Stmt.MapRuleset iface span) = All-nil (GroupWithin 1)
   named_first env (Stmt.Table name kind file span) = All-nil (GroupWithin 1)
   named_first env (Stmt.Map iface kind proto left arrow right pass span) = All-nil (GroupWithin 1)
   named_first env (Stmt.Procedure name calls span) = All-nil (GroupWithin 1)
 
   default_first : (env : Env) (stmt : Stmt) → HaveFirstIds (default_group ifaces declared env stmt)
-  default_first env (Stmt.Group (Head.Default head) items span) =
-      All-cons (GroupWithin 1) (group_of_tree ifaces env declared (Head.Default head) items) [] (items_first env items) (All-nil (GroupWithin 1))
-  default_first env (Stmt.Group (Head.Named name dir on head) items span) = All-nil (GroupWithin 1)
+  default_first env (Stmt.Group (Head.Default layer head) items span) =
+      All-cons (GroupWithin 1) (group_of_tree ifaces env declared (Head.Default layer head) items) [] (items_first env items) (All-nil (GroupWithin 1))
+  default_first env (Stmt.Group (Head.Named name dir layer on head) items span) = All-nil (GroupWithin 1)
   default_first env (Stmt.Define var values span) = All-nil (GroupWithin 1)
   default_first env (Stmt.Set name value span) = All-nil (GroupWithin 1)
   default_first env (Stmt.Alg name span) = All-nil (GroupWithin 1)
+  default_first env (Stmt.MapRuleset iface span) = All-nil (GroupWithin 1)
   default_first env (Stmt.Table name kind file span) = All-nil (GroupWithin 1)
   default_first env (Stmt.Map iface kind proto left arrow right pass span) = All-nil (GroupWithin 1)
   default_first env (Stmt.Procedure name calls span) = All-nil (GroupWithin 1)
@@ -65,6 +67,7 @@ one_declared (Stmt.Group head items span) = refl
 one_declared (Stmt.Define var values span) = refl
 one_declared (Stmt.Set name value span) = refl
 one_declared (Stmt.Alg name span) = refl
+one_declared (Stmt.MapRuleset iface span) = refl
 one_declared (Stmt.Map iface kind proto left arrow right pass span) = refl
 one_declared (Stmt.Procedure name calls span) = refl
 

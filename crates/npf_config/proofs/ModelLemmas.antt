@@ -79,6 +79,7 @@ module _ (all : List Stmt) (few : length (table_names all) ≤ 64) (ifaces : Lis
     stmt_within counted (Stmt.Define var values span) within none = omega arith
     stmt_within counted (Stmt.Set name value span) within none = omega arith
     stmt_within counted (Stmt.Alg name span) within none = omega arith
+    stmt_within counted (Stmt.MapRuleset iface span) within none = omega arith
     stmt_within counted (Stmt.Table name kind file span) within none = omega arith
     stmt_within counted (Stmt.Procedure name calls span) within none = omega arith
 
@@ -96,21 +97,23 @@ module _ (all : List Stmt) (few : length (table_names all) ≤ 64) (ifaces : Lis
         (All-nil IsCompilable)
 
     pub named_compilable : GivesCompilable (named_group ifaces (declared_in all))
-    named_compilable counted (Stmt.Group (Head.Named name dir on head) items span) within none tables = group_compilable counted (Head.Named name dir on head) items within none tables
-    named_compilable counted (Stmt.Group (Head.Default head) items span) within none tables = All-nil IsCompilable
+    named_compilable counted (Stmt.Group (Head.Named name dir layer on head) items span) within none tables = group_compilable counted (Head.Named name dir layer on head) items within none tables
+    named_compilable counted (Stmt.Group (Head.Default layer head) items span) within none tables = All-nil IsCompilable
     named_compilable counted (Stmt.Define var values span) within none tables = All-nil IsCompilable
     named_compilable counted (Stmt.Set name value span) within none tables = All-nil IsCompilable
     named_compilable counted (Stmt.Alg name span) within none tables = All-nil IsCompilable
+    named_compilable counted (Stmt.MapRuleset iface span) within none tables = All-nil IsCompilable
     named_compilable counted (Stmt.Table name kind file span) within none tables = All-nil IsCompilable
     named_compilable counted (Stmt.Map iface kind proto left arrow right pass span) within none tables = All-nil IsCompilable
     named_compilable counted (Stmt.Procedure name calls span) within none tables = All-nil IsCompilable
 
     pub default_compilable : GivesCompilable (default_group ifaces (declared_in all))
-    default_compilable counted (Stmt.Group (Head.Named name dir on head) items span) within none tables = All-nil IsCompilable
-    default_compilable counted (Stmt.Group (Head.Default head) items span) within none tables = group_compilable counted (Head.Default head) items within none tables
+    default_compilable counted (Stmt.Group (Head.Named name dir layer on head) items span) within none tables = All-nil IsCompilable
+    default_compilable counted (Stmt.Group (Head.Default layer head) items span) within none tables = group_compilable counted (Head.Default layer head) items within none tables
     default_compilable counted (Stmt.Define var values span) within none tables = All-nil IsCompilable
     default_compilable counted (Stmt.Set name value span) within none tables = All-nil IsCompilable
     default_compilable counted (Stmt.Alg name span) within none tables = All-nil IsCompilable
+    default_compilable counted (Stmt.MapRuleset iface span) within none tables = All-nil IsCompilable
     default_compilable counted (Stmt.Table name kind file span) within none tables = All-nil IsCompilable
     default_compilable counted (Stmt.Map iface kind proto left arrow right pass span) within none tables = All-nil IsCompilable
     default_compilable counted (Stmt.Procedure name calls span) within none tables = All-nil IsCompilable
@@ -121,6 +124,7 @@ module _ (all : List Stmt) (few : length (table_names all) ≤ 64) (ifaces : Lis
   behind_defined older (Stmt.Group head items span) are none = are
   behind_defined older (Stmt.Set name value span) are none = are
   behind_defined older (Stmt.Alg name span) are none = are
+  behind_defined older (Stmt.MapRuleset iface span) are none = are
   behind_defined older (Stmt.Table name kind file span) are none = are
   behind_defined older (Stmt.Map iface kind proto left arrow right pass span) are none = are
   behind_defined older (Stmt.Procedure name calls span) are none = are

@@ -49,6 +49,7 @@ given_is_named (Stmt.Table name kind file span ∷ stmts) text = ap (λ rest. by
 given_is_named (Stmt.Define var values span ∷ stmts) text = given_is_named stmts text
 given_is_named (Stmt.Set name value span ∷ stmts) text = given_is_named stmts text
 given_is_named (Stmt.Alg name span ∷ stmts) text = given_is_named stmts text
+given_is_named (Stmt.MapRuleset iface span ∷ stmts) text = given_is_named stmts text
 given_is_named (Stmt.Map iface kind proto left arrow right pass span ∷ stmts) text = given_is_named stmts text
 given_is_named (Stmt.Group head items span ∷ stmts) text = given_is_named stmts text
 given_is_named (Stmt.Procedure name calls span ∷ stmts) text = given_is_named stmts text
@@ -158,11 +159,13 @@ module _ (names : List (List ℕ)) (is_defined : List ℕ → Bool) (is_among : 
     source_clean : (ends : Where) → tables_of_where is_defined ends ≡ [] → tables_of_target is_defined (source_ends ends) ≡ []
     source_clean (Where.All span) none = refl
     source_clean (Where.From from to span) none = front (tables_of_ends is_defined from) (tables_of_target is_defined to) none
+    source_clean (Where.PcapFilter span) none = refl
     source_clean (Where.To to span) none = refl
 
     destination_clean : (ends : Where) → tables_of_where is_defined ends ≡ [] → tables_of_target is_defined (destination_ends ends) ≡ []
     destination_clean (Where.All span) none = refl
     destination_clean (Where.From from to span) none = back (tables_of_ends is_defined from) (tables_of_target is_defined to) none
+    destination_clean (Where.PcapFilter span) none = refl
     destination_clean (Where.To to span) none = none
 
     pub rule_numbers : (declared : Declared) → declared.tables ≡ names → (rule : RuleTree) → tables_of_where is_defined rule.filter.ends ≡ []

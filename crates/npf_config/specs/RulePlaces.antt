@@ -8,11 +8,11 @@ use Rattle.npf_syntax.specs.declared.stmt.Tree.{Tree}
 use Rattle.npf_check.specs.Limit.{rule_place}
 
 abbrev pub named_rule_places : Stmt → List Span
-named_rule_places (Stmt.Group (Head.Named name dir on head) items span) = flat_map rule_place items
+named_rule_places (Stmt.Group (Head.Named name dir layer on head) items span) = flat_map rule_place items
 named_rule_places _ = []
 
 abbrev pub default_rule_places : Stmt → List Span
-default_rule_places (Stmt.Group (Head.Default head) items span) = flat_map rule_place items
+default_rule_places (Stmt.Group (Head.Default layer head) items span) = flat_map rule_place items
 default_rule_places _ = []
 
 abbrev pub inspected_places : List Stmt → List Span

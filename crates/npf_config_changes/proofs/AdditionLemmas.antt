@@ -10,7 +10,7 @@ use Rattle.npf_model.specs.{declared.table.TableDecl.TableDecl, Verdict.{PlacedR
 use Rattle.npf_bpf.specs.declared.insn.Insn.{Insn}
 use Rattle.npf_bpfgen.specs.{Condition.HasTableNumbers, RuleWeight.{HasShortLists, weight_of}}
 use Rattle.npf_expand_values.specs.{Source.declared_of, Variable.env_of}
-use Rattle.npf_check.specs.{LoneRule.{unknown_applied, unknown_in_where}, WrittenRule.faults_of_rule}
+use Rattle.npf_check.specs.{LoneRule.{unknown_applied, unknown_in_where}, Unbuilt.unbuilt_in_rule, WrittenRule.faults_of_rule}
 use Rattle.npf_ruleset.specs.{declared.config.Config.Config, Flat.{IsCompiled, instructions, instructions_of}, Refusal.AreProgramsOf}
 use Rattle.npf_ruleset.proofs.CompileLemmas.{instructions_counted}
 use Rattle.npf_config.{specs.Loaded.{HasNextIds, IsNextWithin}, proofs.TableNameLemmas.{env_defined, rule_numbers}}
@@ -28,7 +28,9 @@ rule_tables config ifaces tree rule (meant means clean) =
     let few_names : length names ≤ 64 = omega arith in
     let tables = unknown_in_where tree.filter.ends rule in
     let procedures = unknown_applied tree.apply rule.procedure in
-    let known = front tables procedures (front (tables ++ procedures) (faults_of_rule tree.span rule) clean) in
+    let of_rule = faults_of_rule tree.span rule in
+    let built = front (tables ++ procedures ++ of_rule) (unbuilt_in_rule tree) clean in
+    let known = front tables procedures (front (tables ++ procedures) of_rule built) in
     let none = where_named names ifaces tree.filter.ends rule (ap (λ one. one.from) means.meant) (ap (λ one. one.to) means.meant) known in
     subst HasTableNumbers (sym means.meant)
     (rule_numbers names (is_among names) (λ text. refl) few_names ifaces (env_of ifaces []) (env_defined names (is_among names) (λ text. refl) few_names ifaces [] tt)

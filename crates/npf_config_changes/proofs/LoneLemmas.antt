@@ -93,4 +93,5 @@ module _ (names : List (List ℕ)) (ifaces : List Iface) where
       let one = ends_named (Some source) (ap (unknown_in_ends source) (sym from) ∙ front here there none) in
       let other = ends_named target (ap (unknown_in_target target) (sym to) ∙ back here there none) in
       ap (λ faults. faults ++ tables_of_target (is_among names) target) one ∙ other
+  where_named (Where.PcapFilter span) rule from to none = refl
   where_named (Where.To target span) rule from to none = ends_named (Some target) (ap (unknown_in_ends target) (sym to) ∙ none)

@@ -26,6 +26,7 @@ module _ (ifaces : List Iface) where
   env_of-behind older (Stmt.Define var values span) = refl
   env_of-behind older (Stmt.Set name value span) = refl
   env_of-behind older (Stmt.Alg name span) = refl
+  env_of-behind older (Stmt.MapRuleset iface span) = refl
   env_of-behind older (Stmt.Table name kind file span) = refl
   env_of-behind older (Stmt.Map iface kind proto left arrow right pass span) = refl
   env_of-behind older (Stmt.Group head items span) = refl
@@ -36,6 +37,7 @@ module _ (ifaces : List Iface) where
     stmt_faults-counted env a b (Stmt.Define var values span) same = refl
     stmt_faults-counted env a b (Stmt.Set name value span) same = refl
     stmt_faults-counted env a b (Stmt.Alg name span) same = refl
+    stmt_faults-counted env a b (Stmt.MapRuleset iface span) same = refl
     stmt_faults-counted env a b (Stmt.Table name kind file span) same = refl
     stmt_faults-counted env a b (Stmt.Map iface kind proto left arrow right pass span) same =
         ap (λ faults. map_faults ifaces env iface proto left right pass ++ faults) (passing_faults-counted a b _ _ span same refl)

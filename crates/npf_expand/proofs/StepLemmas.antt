@@ -112,21 +112,21 @@ module _ (ifaces : List Iface) (env : Env) (declared : Declared) where
 
   pub group_is : (head : GroupHead) (items : List WrittenItem) (built : List Item) → built ≡ map (item_of_tree ifaces env declared) items
       → record (group_of_tree ifaces env declared head []) { items = built } ≡ group_of_tree ifaces env declared head items
-  group_is (Head.Named name dir on span) items built is = ap (λ (l : List Item). record (group_of_tree ifaces env declared (Head.Named name dir on span) []) { items = l }) is
-  group_is (Head.Default span) items built is = ap (λ (l : List Item). record (group_of_tree ifaces env declared (Head.Default span) []) { items = l }) is
+  group_is (Head.Named name dir layer on span) items built is = ap (λ (l : List Item). record (group_of_tree ifaces env declared (Head.Named name dir layer on span) []) { items = l }) is
+  group_is (Head.Default layer span) items built is = ap (λ (l : List Item). record (group_of_tree ifaces env declared (Head.Default layer span) []) { items = l }) is
 
 module _ (ifaces : List Iface) (env : Env) (declared : Declared) (head : GroupHead) (items : List WrittenItem) (span : Span) where
-  pub named_is : (name : Str) (dir : Option Direction) (on : Option WrittenIface) (head_span : Span) → head ≡ Head.Named name dir on head_span
+  pub named_is : (name : Str) (dir : Option Direction) (layer : Option Span) (on : Option WrittenIface) (head_span : Span) → head ≡ Head.Named name dir layer on head_span
       → group_of_tree ifaces env declared head items ∷ [] ≡ named_group ifaces declared env (Stmt.Group head items span)
-  named_is name dir on head_span is = rw is refl
+  named_is name dir layer on head_span is = rw is refl
 
-  pub default_none : (name : Str) (dir : Option Direction) (on : Option WrittenIface) (head_span : Span) → head ≡ Head.Named name dir on head_span
+  pub default_none : (name : Str) (dir : Option Direction) (layer : Option Span) (on : Option WrittenIface) (head_span : Span) → head ≡ Head.Named name dir layer on head_span
       → [] ≡ default_group ifaces declared env (Stmt.Group head items span)
-  default_none name dir on head_span is = rw is refl
+  default_none name dir layer on head_span is = rw is refl
 
-  pub default_is : (head_span : Span) → head ≡ Head.Default head_span
+  pub default_is : (layer : Option Span) (head_span : Span) → head ≡ Head.Default layer head_span
       → group_of_tree ifaces env declared head items ∷ [] ≡ default_group ifaces declared env (Stmt.Group head items span)
-  default_is head_span is = rw is refl
+  default_is layer head_span is = rw is refl
 
-  pub named_none : (head_span : Span) → head ≡ Head.Default head_span → [] ≡ named_group ifaces declared env (Stmt.Group head items span)
-  named_none head_span is = rw is refl
+  pub named_none : (layer : Option Span) (head_span : Span) → head ≡ Head.Default layer head_span → [] ≡ named_group ifaces declared env (Stmt.Group head items span)
+  named_none layer head_span is = rw is refl

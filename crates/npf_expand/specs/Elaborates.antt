@@ -60,12 +60,12 @@ module _ (ifaces : List Iface) (declared : Declared) where
       stmt_faults env counted stmt ++ stmts_faults (behind older stmt) (counted + stmt_elements env stmt) stmts
 
   abbrev pub named_group : Env → Stmt → List Group
-  named_group env (Stmt.Group (Head.Named name dir on head) items span) =
-      group_of_tree ifaces env declared (Head.Named name dir on head) items ∷ []
+  named_group env (Stmt.Group (Head.Named name dir layer on head) items span) =
+      group_of_tree ifaces env declared (Head.Named name dir layer on head) items ∷ []
   named_group env _ = []
 
   abbrev pub default_group : Env → Stmt → List Group
-  default_group env (Stmt.Group (Head.Default head) items span) = group_of_tree ifaces env declared (Head.Default head) items ∷ []
+  default_group env (Stmt.Group (Head.Default layer head) items span) = group_of_tree ifaces env declared (Head.Default layer head) items ∷ []
   default_group env _ = []
 
   abbrev pub maps_of : Env → Stmt → List Map

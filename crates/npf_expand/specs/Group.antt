@@ -41,15 +41,15 @@ module _ (ifaces : List Iface) (env : Env) (declared : Declared) where
   items_elements (item ∷ items) = item_elements item + items_elements items
 
   abbrev pub head_faults : GroupHead → List ConfFault
-  head_faults (Head.Named name dir on span) = on_faults ifaces env on
-  head_faults (Head.Default span) = []
+  head_faults (Head.Named name dir layer on span) = on_faults ifaces env on
+  head_faults (Head.Default layer span) = []
 
   abbrev pub group_of_tree : GroupHead → List WrittenItem → Group
-  group_of_tree (Head.Named name dir on span) items = record {
+  group_of_tree (Head.Named name dir layer on span) items = record {
     name = name.text;
     default = false;
     dir = option_map dir_of dir;
     on = option_map (on_iface ifaces env) on;
     items = map item_of_tree items;
   }
-  group_of_tree (Head.Default span) items = record { name = []; default = true; dir = None; on = None; items = map item_of_tree items }
+  group_of_tree (Head.Default layer span) items = record { name = []; default = true; dir = None; on = None; items = map item_of_tree items }

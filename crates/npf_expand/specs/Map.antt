@@ -1,5 +1,5 @@
 -- The maps of a configuration. Of a side that isn't one block, as a table is, the block of every IPv4 address stands in the
--- model, and of an algorithm that isn't known `netmap`: a check refuses both by the tree.
+-- model, and of an algorithm that isn't known `netmap`, or ports that are drawn: a check refuses both by the tree.
 use Rattle.std.specs.Prelude.{ℕ, if◌then◌else◌, unwrap_or, Option, Some, None, List, [], ◌∷◌, ◌++◌, codes}
 use Rattle.std.specs.Option.{option_map}
 use Rattle.std.specs.Str.{bytes_eq}
@@ -37,8 +37,8 @@ algo_named None = Algo.Netmap
 algo_named (Some word) = if bytes_eq word.text (codes "npt66") then Algo.Npt66 else Algo.Netmap
 
 abbrev pub algo_of : MapKind → Algo
-algo_of (MapKind.Dynamic span) = Algo.Dynamic
-algo_of (MapKind.Static algo span) = algo_named algo
+algo_of (MapKind.Dynamic algo no_ports span) = Algo.Dynamic
+algo_of (MapKind.Static algo no_ports span) = algo_named algo
 
 abbrev pub arrow_of_sign : WrittenArrow → Arrow
 arrow_of_sign (ArrowIs.Right span) = Arrow.ToOutside

@@ -1,4 +1,5 @@
--- The procedures of a configuration: of calls and options that stand there more than once the last in the text counts.
+-- The procedures of a configuration: of calls and options that stand there more than once the last in the text counts. What isn't
+-- built changes nothing: a check refuses it by the tree.
 use Rattle.std.specs.Prelude.{ℕ, true, false, Some, None, List, [], ◌∷◌, min}
 use Rattle.npf_types.specs.declared.name.Name.{Name}
 use Rattle.npf_types.specs.Named.{named}
@@ -16,6 +17,7 @@ abbrev pub with_option : Procedure → Opt → Procedure
 with_option procedure (Opt.MinTtl number span) = record procedure { min_ttl = Some (min number.value 255) }
 with_option procedure (Opt.MaxMss number span) = record procedure { max_mss = Some (min number.value 65535) }
 with_option procedure (Opt.NoDf span) = record procedure { no_df = true }
+with_option procedure (Opt.RandomId span) = procedure
 
 abbrev pub with_options : Procedure → List Opt → Procedure
 with_options procedure [] = procedure
@@ -24,6 +26,7 @@ with_options procedure (option ∷ options) = with_options (with_option procedur
 abbrev pub with_call : Procedure → Call → Procedure
 with_call procedure (Call.Log name span) = record procedure { log = Some (log_name name) }
 with_call procedure (Call.Normalize options span) = with_options procedure options
+with_call procedure (Call.Route span) = procedure
 
 abbrev pub with_calls : Procedure → List Call → Procedure
 with_calls procedure [] = procedure

@@ -104,15 +104,17 @@ detail_of_part (Some part) = part.detail
 abbrev pub any_ends : Ends
 any_ends = record { addrs = None; ports = None }
 
--- the written ends of a filter, the source's first
+-- the written ends of a filter, the source's first; a filter of pcap-filter(7) has none, and a check refuses it by the tree
 abbrev pub source_ends : Where → Option WrittenEnds
 source_ends (Where.All span) = None
 source_ends (Where.From from to span) = Some from
+source_ends (Where.PcapFilter span) = None
 source_ends (Where.To to span) = None
 
 abbrev pub destination_ends : Where → Option WrittenEnds
 destination_ends (Where.All span) = None
 destination_ends (Where.From from to span) = to
+destination_ends (Where.PcapFilter span) = None
 destination_ends (Where.To to span) = Some to
 
 module _ (ifaces : List Iface) (env : Env) where

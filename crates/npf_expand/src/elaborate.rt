@@ -140,6 +140,7 @@ impl<'a> State<'a> {
             }
             Stmt::Set { .. } => Ok(()),
             Stmt::Alg { .. } => Ok(()),
+            Stmt::MapRuleset { .. } => Ok(()),
             Stmt::Table { .. } => Ok(()),
             Stmt::Procedure { .. } => Ok(()),
         }

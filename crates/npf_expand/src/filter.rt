@@ -317,7 +317,7 @@ fn destination_ends(ends: &Where) -> Option<&EndsTree>
     ensures { option_map (λ written. written.now) result ≡ destination_ends ends.now }
 {
     match ends {
-        Where::All { .. } => None,
+        Where::All { .. } | Where::PcapFilter { .. } => None,
         Where::From { to, .. } => match to {
             Some(to) => Some(to.get()),
             None => None,

@@ -42,6 +42,7 @@ fn set_call(procedure: &mut Procedure, call: &Call)
     match call {
         Call::Log { name, .. } => procedure.log = Some(log_name(name)),
         Call::Normalize { options, .. } => set_options(procedure, options.as_slice()),
+        Call::Route { .. } => {}
     }
 }
 
@@ -70,5 +71,6 @@ fn set_option(procedure: &mut Procedure, option: &Opt)
         Opt::MinTtl { number, .. } => procedure.min_ttl = Some(number.value.min(255) as u8),
         Opt::MaxMss { number, .. } => procedure.max_mss = Some(number.value.min(65535) as u16),
         Opt::NoDf { .. } => procedure.no_df = true,
+        Opt::RandomId { .. } => {}
     }
 }

@@ -57,8 +57,8 @@ module _ (ifaces longer : List Iface) (keeps : KeepsAddresses ifaces longer) (de
         → head_faults ifaces env declared head ++ items_faults ifaces env declared counted items ≡ []
         → IsSame ifaces longer (λ list. head_faults list env declared head ++ items_faults list env declared counted items)
         (λ list. items_elements list env declared items) (λ list. group_of_tree list env declared head items) (numbered_group longer)
-    group_same (Head.Named name dir on span) items counted none =
-        let head = Head.Named name dir on span in
+    group_same (Head.Named name dir layer on span) items counted none =
+        let head = Head.Named name dir layer on span in
         let one = head_faults ifaces env declared head in
         let other = items_faults ifaces env declared counted items in
         let same = items_same counted items (back one other none) in
@@ -69,10 +69,10 @@ module _ (ifaces longer : List Iface) (keeps : KeepsAddresses ifaces longer) (de
               ∙ ap (λ (found : Option OnIf). record (numbered_group longer (group_of_tree ifaces env declared head items)) { on = found })
               (option_same ifaces longer keeps env whole on (front one other none));
         }
-    group_same (Head.Default span) items counted none =
+    group_same (Head.Default layer span) items counted none =
         let same = items_same counted items none in
         record {
           none = same.none;
           counts = same.counts;
-          means = ap (λ (l : List Item). record (group_of_tree longer env declared (Head.Default span) items) { items = l }) same.means;
+          means = ap (λ (l : List Item). record (group_of_tree longer env declared (Head.Default layer span) items) { items = l }) same.means;
         }

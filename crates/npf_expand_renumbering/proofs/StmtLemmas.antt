@@ -40,14 +40,15 @@ module _ (ifaces longer : List Iface) (keeps : KeepsAddresses ifaces longer) (de
           defaults = refl;
           maps = ap (λ (m : Map). m ∷ []) same.means;
         }
-    stmt_same counted (Stmt.Group (Head.Named name dir on at) items span) none =
-        let same = group_same ifaces longer keeps declared env whole (Head.Named name dir on at) items counted none in
+    stmt_same counted (Stmt.Group (Head.Named name dir layer on at) items span) none =
+        let same = group_same ifaces longer keeps declared env whole (Head.Named name dir layer on at) items counted none in
         record { none = same.none; counts = same.counts; groups = ap (λ (g : Group). g ∷ []) same.means; defaults = refl; maps = refl }
-    stmt_same counted (Stmt.Group (Head.Default at) items span) none =
-        let same = group_same ifaces longer keeps declared env whole (Head.Default at) items counted none in
+    stmt_same counted (Stmt.Group (Head.Default layer at) items span) none =
+        let same = group_same ifaces longer keeps declared env whole (Head.Default layer at) items counted none in
         record { none = same.none; counts = same.counts; groups = refl; defaults = ap (λ (g : Group). g ∷ []) same.means; maps = refl }
     stmt_same counted (Stmt.Set name value span) none = record { none = refl; counts = refl; groups = refl; defaults = refl; maps = refl }
     stmt_same counted (Stmt.Alg name span) none = record { none = refl; counts = refl; groups = refl; defaults = refl; maps = refl }
+    stmt_same counted (Stmt.MapRuleset iface span) none = record { none = refl; counts = refl; groups = refl; defaults = refl; maps = refl }
     stmt_same counted (Stmt.Table name kind file span) none = record { none = refl; counts = refl; groups = refl; defaults = refl; maps = refl }
     stmt_same counted (Stmt.Procedure name calls span) none = record { none = refl; counts = refl; groups = refl; defaults = refl; maps = refl }
 
@@ -58,6 +59,7 @@ module _ (ifaces longer : List Iface) (keeps : KeepsAddresses ifaces longer) (de
   clean_behind older counted (Stmt.Group head items span) clean none = clean
   clean_behind older counted (Stmt.Set name value span) clean none = clean
   clean_behind older counted (Stmt.Alg name span) clean none = clean
+  clean_behind older counted (Stmt.MapRuleset iface span) clean none = clean
   clean_behind older counted (Stmt.Table name kind file span) clean none = clean
   clean_behind older counted (Stmt.Procedure name calls span) clean none = clean
 

@@ -24,12 +24,13 @@ impl Sign {
             Sign::Slash => "/",
             Sign::Dash => "-",
             Sign::Colon => ":",
+            Sign::Exclamation => "!",
         }
     }
 }
 
 /// The signs, each before those that it begins with.
-const LONGEST_FIRST: [Sign; 14] = [
+const LONGEST_FIRST: [Sign; 15] = [
     Sign::Both,
     Sign::Left,
     Sign::Right,
@@ -44,6 +45,7 @@ const LONGEST_FIRST: [Sign; 14] = [
     Sign::Slash,
     Sign::Dash,
     Sign::Colon,
+    Sign::Exclamation,
 ];
 
 /// The longest sign that the text begins with.

@@ -1,7 +1,7 @@
 // What tokens are.
 use npf_types::{Addr, Span, Text};
 
-/// A sign of npf.conf(5): `<->`, `<-`, `->`, `<`, `>`, `=`, `{`, `}`, `(`, `)`, `,`, `/`, `-` and `:`.
+/// A sign of npf.conf(5): `<->`, `<-`, `->`, `<`, `>`, `=`, `{`, `}`, `(`, `)`, `,`, `/`, `-`, `:` and `!`.
 #[derive(Clone, Copy, Debug, PartialEq, Eq)]
 pub enum Sign {
     Both,
@@ -18,6 +18,7 @@ pub enum Sign {
     Slash,
     Dash,
     Colon,
+    Exclamation,
 }
 
 /// What a token of npf.conf(5) is. A string is without its quotes, a variable without its `$`. `End` is the text's end.

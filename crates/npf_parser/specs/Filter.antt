@@ -12,7 +12,7 @@ use Rattle.npf_syntax.specs.declared.filter.Where.{Where}
 use Rattle.npf_syntax.specs.declared.value.Values.{Values}
 use Rattle.npf_phrase.specs.Grammar.{Grammar, making, ◌&◌, ◌or◌, optional, preceded}
 use Rattle.npf_parser_values.specs.declared.role.ValueRole.{ValueRole}
-use Rattle.npf_parser_values.specs.Token.{span_of, quoted, says, sign, flags, number_to}
+use Rattle.npf_parser_values.specs.Token.{span_of, quoted, says, sign, string, flags, number_to}
 use Rattle.npf_parser_values.specs.Value.{protocols, value, value_list, values}
 
 -- "inet4" | "inet6"
@@ -51,14 +51,15 @@ ends =
     making (λ ts ports. EndsTree.Ports ports (span_of ts)) ports
     or making (λ ts a. EndsTree.Addresses a.0 a.1 (span_of ts)) (addresses & optional ports)
 
--- "all" | "from" ends [ "to" ends ] | "to" ends
+-- "all" | "from" ends [ "to" ends ] | "pcap-filter" STRING | "to" ends
 unfoldable pub the_ends : Grammar Token Where
 the_ends =
     says (codes "all") Where.All
     or making (λ ts a. Where.From a.0 a.1 (span_of ts)) (preceded (quoted (codes "from")) (ends & optional (preceded (quoted (codes "to")) ends)))
+    or making (λ ts _. Where.PcapFilter (span_of ts)) (preceded (quoted (codes "pcap-filter")) string)
     or making (λ ts to. Where.To to (span_of ts)) (preceded (quoted (codes "to")) ends)
 
--- filter = [ "family" ( "inet4" | "inet6" ) ] [ "proto" .. ] ( "all" | "from" ends [ "to" ends ] | "to" ends )
+-- filter = [ "family" ( "inet4" | "inet6" ) ] [ "proto" .. ] ( "all" | "from" ends [ "to" ends ] | "pcap-filter" STRING | "to" ends )
 unfoldable pub filter : Grammar Token Filter
 filter =
     making (λ ts a. record { family = a.0; proto = a.1.0; ends = a.1.1; span = span_of ts })

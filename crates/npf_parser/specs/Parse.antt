@@ -5,12 +5,18 @@ use Rattle.npf_faults.specs.declared.fault.ConfFault.{ConfFault}
 use Rattle.npf_faults.specs.declared.fault.Refused.{Refused}
 use Rattle.npf_faults.specs.declared.fault.Refused.TheVariants.{Fault, NoMemory}
 use Rattle.npf_lexer.specs.declared.token.Token.{Token}
+use Rattle.npf_syntax.specs.declared.stmt.Stmt.{Stmt}
 use Rattle.npf_syntax.specs.declared.stmt.Tree.{Tree}
-use Rattle.npf_phrase.specs.Phrase.{head}
+use Rattle.npf_syntax.specs.declared.value.IfaceTree.{IfaceTree}
+use Rattle.npf_phrase.specs.Phrase.{Reading, ◌>>=◌, front_of, head}
 use Rattle.npf_phrase.specs.Place.{StandsFirst, Stopped}
 use Rattle.npf_phrase.specs.Grammar.{Grammar, meaning, loose, IsUnfit}
-use Rattle.npf_parser_values.specs.Token.{place_of}
-use Rattle.npf_parser.specs.Stmt.{file}
+use Rattle.npf_parser_values.specs.Token.{place_of, span_of}
+use Rattle.npf_parser.specs.Stmt.{MapRest, file}
+
+-- a map that is read on behind its interface, and begins with the first of all its tokens
+abbrev pub map_behind : Grammar Token MapRest → List Token → IfaceTree → List Token → Reading Token Stmt
+map_behind g tokens iface rest = (meaning g).read rest >>= (λ a. Ok (a.0 iface (span_of (front_of tokens a.1)), a.1))
 
 -- the tokens up to the text's end mean this
 abbrev pub Means : {A : Type 0} → Grammar Token A → List Token → A → Type 0

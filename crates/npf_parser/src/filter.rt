@@ -9,7 +9,7 @@ ghost use Rattle.npf_parser.specs.Filter.{family, flags_detail, icmp_detail, det
 use npf_lexer::{Sign, Token};
 use npf_parser_values::{
     Stop, ValueRole, after_word, behind_sign, behind_word, read_flags, read_number_to,
-    read_protocols, read_value, read_value_list, read_values, span_to,
+    read_protocols, read_string, read_value, read_value_list, read_values, span_to,
 };
 use npf_syntax::{
     Addresses, Boxed, Detail, EndsTree, Family, Filter, Number, ProtoPart, Values, Where, Word,
@@ -230,6 +230,11 @@ fn read_where<'a>(alloc: Global, tokens: &'a [Token]) -> Result<(Where, &'a [Tok
         let (to, rest) = read_optional_to(alloc, rest)?;
         let span = span_to(tokens, rest);
         return Ok((Where::From { from, to, span }, rest));
+    }
+    if let Some(rest) = behind_word("pcap-filter", tokens) {
+        let (_, rest) = read_string(alloc, rest)?;
+        let span = span_to(tokens, rest);
+        return Ok((Where::PcapFilter { span }, rest));
     }
     match behind_word("to", tokens) {
         Some(rest) => {

@@ -1,9 +1,9 @@
 // Groups of rules: a function for each line of the grammar.
-ghost use Rattle.std.specs.Prelude.{◌≡◌};
-ghost use Rattle.npf_phrase.specs.Grammar.{meaning};
+ghost use Rattle.std.specs.Prelude.{◌≡◌, Ok};
+ghost use Rattle.npf_phrase.specs.Grammar.{meaning, optional};
 ghost use Rattle.npf_phrase.specs.Phrase.{head as first_of};
 ghost use Rattle.npf_parser_values.specs.Answer.{Answers};
-ghost use Rattle.npf_parser.specs.Rule.{item, head, items, ends_item};
+ghost use Rattle.npf_parser.specs.Rule.{item, layer, head, items, ends_item};
 ghost use Rattle.npf_parser.specs.Stmt.{group};
 
 use crate::rule::{direction_of, read_on, read_rule};
@@ -13,7 +13,7 @@ use npf_parser_values::{
     read_name_string, read_string, span_to,
 };
 use npf_syntax::{GroupHead, ItemTree, Stmt};
-use npf_types::List;
+use npf_types::{List, Span};
 use std::alloc::Global;
 
 #[tactic(auto, unfolding(crate::specs::Rule::item))]
@@ -44,24 +44,36 @@ fn read_item<'a>(alloc: Global, tokens: &'a [Token]) -> Result<(ItemTree, &'a [T
     }
 }
 
+fn layer_of(tokens: &[Token]) -> (Option<Span>, &[Token])
+    ensures { (meaning (optional layer)).read tokens.now ≡ Ok (result.0, result.1.now) }
+{
+    match behind_word("layer-2", tokens) {
+        Some(rest) => (Some(span_to(tokens, rest)), rest),
+        None => (None, tokens),
+    }
+}
+
 #[tactic(auto, unfolding(crate::specs::Rule::head))]
 fn read_head<'a>(alloc: Global, tokens: &'a [Token]) -> Result<(GroupHead, &'a [Token]), Stop<'a>>
     ensures { Answers ((meaning head).read tokens.now) result }
 {
     match behind_word("default", tokens) {
         Some(rest) => {
+            let (layer, rest) = layer_of(rest);
             let span = span_to(tokens, rest);
-            Ok((GroupHead::Default { span }, rest))
+            Ok((GroupHead::Default { layer, span }, rest))
         }
         None => {
             let (name, rest) = read_string(alloc, tokens)?;
             let (dir, rest) = direction_of(rest);
+            let (layer, rest) = layer_of(rest);
             let (on, rest) = read_on(alloc, rest)?;
             let span = span_to(tokens, rest);
             Ok((
                 GroupHead::Named {
                     name,
                     dir,
+                    layer,
                     on,
                     span,
                 },

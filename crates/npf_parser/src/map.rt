@@ -1,20 +1,25 @@
 // Maps: a function for each line of the grammar.
-ghost use Rattle.std.specs.Prelude.{codes, false};
+ghost use Rattle.std.specs.Prelude.{◌≡◌, codes, false, Ok};
 ghost use Rattle.npf_phrase.specs.Grammar.{meaning, optional, preceded};
 ghost use Rattle.npf_parser_values.specs.Answer.{Answers, AnswersAlone};
 ghost use Rattle.npf_parser_values.specs.Token.{quoted, word};
 ghost use Rattle.npf_parser_values.specs.Value.{one, value};
 ghost use Rattle.npf_parser.specs.Filter.{filter};
-ghost use Rattle.npf_parser.specs.Map.{map_kind, arrow, side};
-ghost use Rattle.npf_parser.specs.Stmt.{map};
+ghost use Rattle.npf_parser.specs.Map.{no_ports, map_kind, arrow, side, map_ruleset};
+ghost use Rattle.npf_parser.specs.Parse.{map_behind};
+ghost use Rattle.npf_parser.specs.Stmt.{map, map_rest, translation};
 
 use crate::filter::read_filter;
-use npf_lexer::{Sign, Token};
+use crate::rule::{direction_of, read_on};
+use npf_lexer::{Sign, Token, TokenKind};
 use npf_parser_values::{
-    Stop, ValueRole, after_word, behind_sign, behind_word, read_iface, read_one, read_value,
-    read_word, span_to,
+    Stop, ValueRole, after_word, behind_sign, behind_word, read_iface, read_one, read_string,
+    read_value, read_word, span_to,
 };
-use npf_syntax::{ArrowTree, Boxed, Filter, MapKind, One, SideTree, Stmt, Value, Word};
+use npf_syntax::{
+    ArrowTree, Boxed, Filter, IfaceTree, MapKind, One, SideTree, Stmt, Str, Value, Word,
+};
+use npf_types::Span;
 use std::alloc::Global;
 
 fn read_algo<'a>(
@@ -32,19 +37,45 @@ fn read_algo<'a>(
     }
 }
 
-#[tactic(auto, unfolding(crate::specs::Map::map_kind))]
+fn no_ports_of(tokens: &[Token]) -> (Option<Span>, &[Token])
+    ensures { (meaning (optional no_ports)).read tokens.now ≡ Ok (result.0, result.1.now) }
+{
+    match behind_word("no-ports", tokens) {
+        Some(rest) => (Some(span_to(tokens, rest)), rest),
+        None => (None, tokens),
+    }
+}
+
+#[tactic(auto, unfolding(crate::specs::Map::map_kind, crate::specs::Map::kind_details))]
 fn read_map_kind<'a>(alloc: Global, tokens: &'a [Token]) -> Result<(MapKind, &'a [Token]), Stop<'a>>
     ensures { Answers ((meaning map_kind).read tokens.now) result }
 {
     if let Some(rest) = behind_word("dynamic", tokens) {
+        let (algo, rest) = read_algo(alloc, rest)?;
+        let (no_ports, rest) = no_ports_of(rest);
         let span = span_to(tokens, rest);
-        return Ok((MapKind::Dynamic { span }, rest));
+        return Ok((
+            MapKind::Dynamic {
+                algo,
+                no_ports,
+                span,
+            },
+            rest,
+        ));
     }
     match behind_word("static", tokens) {
         Some(rest) => {
             let (algo, rest) = read_algo(alloc, rest)?;
+            let (no_ports, rest) = no_ports_of(rest);
             let span = span_to(tokens, rest);
-            Ok((MapKind::Static { algo, span }, rest))
+            Ok((
+                MapKind::Static {
+                    algo,
+                    no_ports,
+                    span,
+                },
+                rest,
+            ))
         }
         None => Err(Stop::Before(tokens)),
     }
@@ -124,15 +155,26 @@ fn read_optional_pass<'a>(
     }
 }
 
-#[tactic(auto, unfolding(crate::specs::Stmt::map))]
-pub(crate) fn read_map<'a>(
-    alloc: Global,
-    tokens: &'a [Token],
-) -> Result<(Stmt, &'a [Token]), Stop<'a>>
-    ensures { Answers ((meaning map).read tokens.now) result }
+#[tactic(auto, unfolding(crate::specs::Map::map_ruleset))]
+fn read_map_ruleset<'a>(alloc: Global, tokens: &'a [Token]) -> Result<(Str, &'a [Token]), Stop<'a>>
+    ensures { Answers ((meaning map_ruleset).read tokens.now) result }
 {
-    let rest = after_word("map", tokens)?;
-    let (iface, rest) = read_iface(alloc, rest)?;
+    let (name, rest) = read_string(alloc, tokens)?;
+    let (_, rest) = direction_of(rest);
+    let (_, rest) = read_on(alloc, rest)?;
+    Ok((name, rest))
+}
+
+// The map of these tokens, whose interface stands in front of the rest.
+#[tactic(auto, unfolding(crate::specs::Stmt::translation))]
+fn read_translation<'a>(
+    alloc: Global,
+    tokens: &[Token],
+    iface: Boxed<IfaceTree>,
+    rest: &'a [Token],
+) -> Result<(Stmt, &'a [Token]), Stop<'a>>
+    ensures { Answers (map_behind translation tokens.now iface rest.now) result }
+{
     let (kind, rest) = read_map_kind(alloc, rest)?;
     let (proto, rest) = read_optional_proto(alloc, rest)?;
     let (left, rest) = read_side(alloc, rest)?;
@@ -141,7 +183,7 @@ pub(crate) fn read_map<'a>(
     let (pass, rest) = read_optional_pass(alloc, rest)?;
     let span = span_to(tokens, rest);
     let map = Stmt::Map {
-        iface: Boxed::new(alloc, iface)?,
+        iface,
         kind: Boxed::new(alloc, kind)?,
         proto,
         left: Boxed::new(alloc, left)?,
@@ -151,4 +193,35 @@ pub(crate) fn read_map<'a>(
         span,
     };
     Ok((map, rest))
+}
+
+#[tactic(auto, unfolding(crate::specs::Stmt::map_rest, crate::specs::Map::map_ruleset))]
+fn read_map_rest<'a>(
+    alloc: Global,
+    tokens: &[Token],
+    iface: Boxed<IfaceTree>,
+    rest: &'a [Token],
+) -> Result<(Stmt, &'a [Token]), Stop<'a>>
+    ensures { Answers (map_behind map_rest tokens.now iface rest.now) result }
+{
+    match rest.first() {
+        Some(first) if matches!(first.kind, TokenKind::Str(_)) => {
+            let (_, rest) = read_map_ruleset(alloc, rest)?;
+            let span = span_to(tokens, rest);
+            Ok((Stmt::MapRuleset { iface, span }, rest))
+        }
+        _ => read_translation(alloc, tokens, iface, rest),
+    }
+}
+
+#[tactic(auto, unfolding(crate::specs::Stmt::map))]
+pub(crate) fn read_map<'a>(
+    alloc: Global,
+    tokens: &'a [Token],
+) -> Result<(Stmt, &'a [Token]), Stop<'a>>
+    ensures { Answers ((meaning map).read tokens.now) result }
+{
+    let rest = after_word("map", tokens)?;
+    let (iface, rest) = read_iface(alloc, rest)?;
+    read_map_rest(alloc, tokens, Boxed::new(alloc, iface)?, rest)
 }

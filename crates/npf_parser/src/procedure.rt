@@ -8,7 +8,7 @@ use crate::group::ends_item;
 use npf_lexer::{Sign, Token, TokenKind};
 use npf_parser_values::{
     Stop, after_sign, after_word, behind_name, behind_separator, behind_sign, behind_word,
-    read_name_string, read_name_word, read_number_to, read_string, span_to,
+    read_iface, read_name_string, read_name_word, read_number_to, read_string, span_to,
 };
 use npf_syntax::{Call, LogName, Opt, Stmt};
 use npf_types::List;
@@ -51,10 +51,14 @@ fn read_opt(tokens: &[Token]) -> Result<(Opt, &[Token]), Stop>
         let span = span_to(tokens, rest);
         return Ok((Opt::MaxMss { number, span }, rest));
     }
-    match behind_name("no-df", tokens) {
+    if let Some(rest) = behind_name("no-df", tokens) {
+        let span = span_to(tokens, rest);
+        return Ok((Opt::NoDf { span }, rest));
+    }
+    match behind_name("random-id", tokens) {
         Some(rest) => {
             let span = span_to(tokens, rest);
-            Ok((Opt::NoDf { span }, rest))
+            Ok((Opt::RandomId { span }, rest))
         }
         None => Err(Stop::Before(tokens)),
     }
@@ -88,6 +92,12 @@ fn read_call<'a>(alloc: Global, tokens: &'a [Token]) -> Result<(Call, &'a [Token
         let (name, rest) = read_log_name(alloc, rest)?;
         let span = span_to(tokens, rest);
         return Ok((Call::Log { name, span }, rest));
+    }
+    if let Some(rest) = behind_word("route", tokens) {
+        let rest = after_sign(Sign::Colon, rest)?;
+        let (_, rest) = read_iface(alloc, rest)?;
+        let span = span_to(tokens, rest);
+        return Ok((Call::Route { span }, rest));
     }
     match behind_word("normalize", tokens) {
         Some(rest) => {

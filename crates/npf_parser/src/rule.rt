@@ -1,14 +1,15 @@
 // Rules: a function for each line of the grammar.
-ghost use Rattle.std.specs.Prelude.{◌≡◌, Ok, codes};
+ghost use Rattle.std.specs.Prelude.{◌≡◌, ◌<◌, IfSome, Ok, codes, length};
 ghost use Rattle.npf_phrase.specs.Grammar.{meaning, optional, preceded};
-ghost use Rattle.npf_parser_values.specs.Answer.{Answers, AnswersAlone};
+ghost use Rattle.npf_parser_values.specs.Answer.{Answers, AnswersAlone, Begins, GoesOn};
 ghost use Rattle.npf_parser_values.specs.Token.{quoted, string};
-ghost use Rattle.npf_parser.specs.Rule.{answer, action, stateful, direction, ends_walk, on, rule};
+ghost use Rattle.npf_parser.specs.Rule.{answer, action, stateful, direction, ends_walk, on, relation, relations, owner_word, owner_name, owner, rule};
 
 use crate::filter::read_filter;
-use npf_lexer::Token;
-use npf_parser_values::{Stop, behind_word, read_iface, read_string, span_to};
+use npf_lexer::{Sign, Token, TokenKind};
+use npf_parser_values::{Stop, behind_sign, behind_word, read_iface, read_string, span_to};
 use npf_syntax::{BlockReturn, Boxed, Direction, IfaceTree, RuleAction, RuleTree, Stateful, Str};
+use npf_types::Span;
 use std::alloc::Global;
 
 #[tactic(auto, unfolding(crate::specs::Rule::answer))]
@@ -104,6 +105,69 @@ pub(crate) fn read_on<'a>(
     }
 }
 
+#[tactic(auto, unfolding(crate::specs::Rule::relation))]
+fn behind_relation(tokens: &[Token]) -> Option<&[Token]>
+    ensures begins { Begins relation tokens.now result }
+    ensures left { IfSome result (λ rest. length rest.now < length tokens.now) }
+{
+    if let Some(rest) = behind_sign(Sign::Equals, tokens) {
+        return Some(rest);
+    }
+    if let Some(rest) = behind_sign(Sign::Exclamation, tokens) {
+        return Some(rest);
+    }
+    if let Some(rest) = behind_sign(Sign::Less, tokens) {
+        return Some(rest);
+    }
+    behind_sign(Sign::Greater, tokens)
+}
+
+fn behind_relations(tokens: &[Token]) -> &[Token]
+    ensures { (meaning relations).read tokens.now ≡ Ok (tt, result.now) }
+{
+    let mut rest = tokens;
+    'relations: loop {
+        match behind_relation(rest) {
+            Some(next) => rest = next,
+            None => return rest,
+        }
+    }
+}
+
+fn behind_owner_word(tokens: &[Token]) -> Option<&[Token]>
+    ensures { Begins owner_word tokens.now result }
+{
+    if let Some(rest) = behind_word("user", tokens) {
+        return Some(rest);
+    }
+    behind_word("group", tokens)
+}
+
+#[tactic(auto, unfolding(npf_phrase::specs::Phrase::read_token))]
+fn after_owner_name(tokens: &[Token]) -> Result<&[Token], Stop>
+    ensures { GoesOn ((meaning owner_name).read tokens.now) result }
+{
+    match tokens.split_first() {
+        Some((first, rest)) if matches!(first.kind, TokenKind::Number(_) | TokenKind::Word(_)) => {
+            Ok(rest)
+        }
+        _ => Err(Stop::Before(tokens)),
+    }
+}
+
+#[tactic(auto, unfolding(crate::specs::Rule::owner))]
+fn read_owner(tokens: &[Token]) -> Result<(Option<Span>, &[Token]), Stop>
+    ensures { AnswersAlone ((meaning (optional owner)).read tokens.now) result }
+{
+    match behind_owner_word(tokens) {
+        Some(rest) => {
+            let rest = after_owner_name(behind_relations(rest))?;
+            Ok((Some(span_to(tokens, rest)), rest))
+        }
+        None => Ok((None, tokens)),
+    }
+}
+
 fn read_apply<'a>(
     alloc: Global,
     tokens: &'a [Token],
@@ -132,6 +196,7 @@ pub(crate) fn read_rule<'a>(
     let (last, rest) = final_of(rest);
     let (on, rest) = read_on(alloc, rest)?;
     let (filter, rest) = read_filter(alloc, rest)?;
+    let (owner, rest) = read_owner(rest)?;
     let (apply, rest) = read_apply(alloc, rest)?;
     let span = span_to(tokens, rest);
     let rule = RuleTree {
@@ -141,6 +206,7 @@ pub(crate) fn read_rule<'a>(
         last,
         on,
         filter,
+        owner,
         apply,
         span,
     };

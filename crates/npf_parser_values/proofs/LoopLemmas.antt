@@ -3,20 +3,25 @@ use Rattle.std.{proofs.Common.{◌≡◌, true, false, Some, None, Ok, Err, List
 use Rattle.npf_lexer.specs.declared.token.Token.{Token}
 use Rattle.npf_phrase.specs.{Phrase.{Reading, ◌>>=◌, with_item}, Grammar.{Grammar, meaning, making, any_number, preceded, list_of}}
 use Rattle.npf_phrase.proofs.{GrammarLemmas.settled, ListLemmas.{extend, goes_on, ends_with, fails_at}, TestLemmas.advances, NumberLemmas.number_step}
-use Rattle.npf_parser_values.specs.{declared.stop.Stop.{Stop, TheVariants.{Before, NoMemory}}, Answer.{Answers, Begins}, Token.{line_feed, gap}}
+use Rattle.npf_parser_values.specs.{declared.stop.Stop.{Stop, TheVariants.{Before, NoMemory}}, Answer.{Answers, Begins}}
 
-feeds_with : (r : Reading Token (List ⊤)) → (with_item tt r >>= (λ a. Ok (tt {0}, a.1))) ≡ (r >>= (λ a. Ok (tt {0}, a.1)))
-feeds_with (Ok r) = refl
-feeds_with (Err at) = refl
+nothing_kept : (r : Reading Token (List ⊤)) → (with_item tt r >>= (λ a. Ok (tt {0}, a.1))) ≡ (r >>= (λ a. Ok (tt {0}, a.1)))
+nothing_kept (Ok r) = refl
+nothing_kept (Err at) = refl
 
-pub feeds_go : (ts : List Token) (vs : Bor (List Token)) → Begins line_feed ts (Some vs) → (meaning (gap true)).read ts ≡ (meaning (gap true)).read vs.now
-feeds_go ts vs is =
-    ap (λ r. r >>= (λ a. Ok (tt {0}, a.1)))
-    (number_step (meaning line_feed) (settled line_feed refl) refl ts true is.0 ∙ ap (λ r. r >>= (λ a. with_item a.0 ((meaning (any_number line_feed)).read a.1))) is.1)
-    ∙ feeds_with ((meaning (any_number line_feed)).read vs.now)
+-- as many of a kind as stand there, of which nothing is kept
+module _ (g : Grammar Token ⊤) (is : advances g ≡ true) (full : (meaning g).nullable ≡ false) where
+  abbrev pub passing : Grammar Token ⊤
+  passing = making (λ _ _. tt) (any_number g)
 
-pub feeds_end : (ts : List Token) → Begins line_feed ts None → (meaning (gap true)).read ts ≡ Ok (tt, ts)
-feeds_end ts is = ap (λ r. r >>= (λ a. Ok (tt {0}, a.1))) (number_step (meaning line_feed) (settled line_feed refl) refl ts false is.0)
+  pub pass_goes : (ts : List Token) (vs : Bor (List Token)) → Begins g ts (Some vs) → (meaning passing).read ts ≡ (meaning passing).read vs.now
+  pass_goes ts vs begins =
+      ap (λ r. r >>= (λ a. Ok (tt {0}, a.1)))
+      (number_step (meaning g) (settled g is) full ts true begins.0 ∙ ap (λ r. r >>= (λ a. with_item a.0 ((meaning (any_number g)).read a.1))) begins.1)
+      ∙ nothing_kept ((meaning (any_number g)).read vs.now)
+
+  pub pass_ends : (ts : List Token) → Begins g ts None → (meaning passing).read ts ≡ Ok (tt, ts)
+  pass_ends ts begins = ap (λ r. r >>= (λ a. Ok (tt {0}, a.1))) (number_step (meaning g) (settled g is) full ts false begins.0)
 
 -- a list with a sign between its items
 module _ {A : Type 0} (sep : Grammar Token ⊤) (g : Grammar Token A) (is : advances (preceded sep (making (λ _ a. Some a) g)) ≡ true) (full : (meaning sep).nullable ≡ false)

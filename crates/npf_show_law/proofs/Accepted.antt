@@ -22,7 +22,8 @@ accepted_is_shown_lem text tokens tree ifaces model lexed parsed fit elaborates 
     let of_table_limit = nil_from_append_right _ _ (nil_from_append_left _ _ (nil_from_append_left _ _ of_limits)) in
     subst (λ m. IsShowable m × IsRegular ifaces m) (sym elaborates.meant)
     (tree_meant ifaces fit tree every _
-    (λ name. among_listed _ procedure_name name (by_form _ (λ a b c. refl) (λ a b c. refl) (λ a b. refl) (λ a b c e. refl) (λ a b c e f g h i. refl) (λ a b c. refl) (λ a b c. refl)) tree.stmts)
+    (λ name. among_listed _ procedure_name name
+    (by_form _ (λ a b c. refl) (λ a b c. refl) (λ a b. refl) (λ a b c e. refl) (λ a b c e f g h i. refl) (λ a b. refl) (λ a b c. refl) (λ a b c. refl)) tree.stmts)
     elaborates.clean of_tables (nil_from_append_right _ _ of_names) of_table_limit (nil_from_append_right _ _ of_limits))
 
 pub law_of_show_lem : LawOfShow

@@ -60,17 +60,17 @@ module _ (ifaces : List Iface) (declared : Declared) where
       rw (sum_by-cons entry_elements (item_of_tree ifaces env declared item) (map (item_of_tree ifaces env declared) items)) both
 
   group_sum : (env : Env) (head : GroupHead) (items : List WrittenItem) → sum_by group_elements (group_of_tree ifaces env declared head items ∷ []) ≤ items_elements ifaces env declared items
-  group_sum env (GroupHead.Named name dir on span) items =
+  group_sum env (GroupHead.Named name dir layer on span) items =
       let sum = items_sum env items in
-      let one : sum_by group_elements (group_of_tree ifaces env declared (GroupHead.Named name dir on span) items ∷
+      let one : sum_by group_elements (group_of_tree ifaces env declared (GroupHead.Named name dir layer on span) items ∷
       []) ≡ sum_by entry_elements (map (item_of_tree ifaces env declared) items) + sum_by group_elements [] =
-      sum_by-cons group_elements (group_of_tree ifaces env declared (GroupHead.Named name dir on span) items) [] in
+      sum_by-cons group_elements (group_of_tree ifaces env declared (GroupHead.Named name dir layer on span) items) [] in
       rw one (omega (arith, sum))
-  group_sum env (GroupHead.Default span) items =
+  group_sum env (GroupHead.Default layer span) items =
       let sum = items_sum env items in
-      let one : sum_by group_elements (group_of_tree ifaces env declared (GroupHead.Default span) items ∷
+      let one : sum_by group_elements (group_of_tree ifaces env declared (GroupHead.Default layer span) items ∷
       []) ≡ sum_by entry_elements (map (item_of_tree ifaces env declared) items) + sum_by group_elements [] =
-      sum_by-cons group_elements (group_of_tree ifaces env declared (GroupHead.Default span) items) [] in
+      sum_by-cons group_elements (group_of_tree ifaces env declared (GroupHead.Default layer span) items) [] in
       rw one (omega (arith, sum))
 
   pass_few : (env : Env) (o : Option Filter) → pass_elements (option_map (filter_rule ifaces env declared.tables) o) ≤ filter_elements ifaces declared env o
@@ -111,6 +111,7 @@ module _ (ifaces : List Iface) (declared : Declared) where
   stmt_within env counted (Stmt.Define var values span) few none = omega (arith, few)
   stmt_within env counted (Stmt.Set name value span) few none = omega (arith, few)
   stmt_within env counted (Stmt.Alg name span) few none = omega (arith, few)
+  stmt_within env counted (Stmt.MapRuleset iface span) few none = omega (arith, few)
   stmt_within env counted (Stmt.Table name kind file span) few none = omega (arith, few)
   stmt_within env counted (Stmt.Procedure name calls span) few none = omega (arith, few)
 
@@ -119,13 +120,13 @@ module _ (ifaces : List Iface) (declared : Declared) where
       (named_group ifaces declared env stmt) + sum_by group_elements (default_group ifaces declared env stmt)
 
   stmt_few : (env : Env) (stmt : Stmt) → stmt_sum env stmt ≤ stmt_elements ifaces declared env stmt
-  stmt_few env (Stmt.Group (GroupHead.Named name dir on head) items span) =
-      let sum = group_sum env (GroupHead.Named name dir on head) items in
-      let all : 0 + sum_by group_elements (group_of_tree ifaces env declared (GroupHead.Named name dir on head) items ∷ []) + 0 ≤ items_elements ifaces env declared items = omega (arith, sum) in
+  stmt_few env (Stmt.Group (GroupHead.Named name dir layer on head) items span) =
+      let sum = group_sum env (GroupHead.Named name dir layer on head) items in
+      let all : 0 + sum_by group_elements (group_of_tree ifaces env declared (GroupHead.Named name dir layer on head) items ∷ []) + 0 ≤ items_elements ifaces env declared items = omega (arith, sum) in
       all
-  stmt_few env (Stmt.Group (GroupHead.Default head) items span) =
-      let sum = group_sum env (GroupHead.Default head) items in
-      let all : 0 + 0 + sum_by group_elements (group_of_tree ifaces env declared (GroupHead.Default head) items ∷ []) ≤ items_elements ifaces env declared items = omega (arith, sum) in
+  stmt_few env (Stmt.Group (GroupHead.Default layer head) items span) =
+      let sum = group_sum env (GroupHead.Default layer head) items in
+      let all : 0 + 0 + sum_by group_elements (group_of_tree ifaces env declared (GroupHead.Default layer head) items ∷ []) ≤ items_elements ifaces env declared items = omega (arith, sum) in
       all
   stmt_few env (Stmt.Map iface kind proto left arrow right pass span) =
       let m = map_of_tree ifaces env declared.tables iface kind proto left arrow right pass in
@@ -135,6 +136,7 @@ module _ (ifaces : List Iface) (declared : Declared) where
   stmt_few env (Stmt.Define var values span) = omega arith
   stmt_few env (Stmt.Set name value span) = omega arith
   stmt_few env (Stmt.Alg name span) = omega arith
+  stmt_few env (Stmt.MapRuleset iface span) = omega arith
   stmt_few env (Stmt.Table name kind file span) = omega arith
   stmt_few env (Stmt.Procedure name calls span) = omega arith
 

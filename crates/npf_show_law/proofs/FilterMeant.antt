@@ -283,11 +283,13 @@ module _ (ifaces : List Iface) (fit : All (λ i. All FitsAddr i.addrs) ifaces) (
     source_sound : (w : Where) → IsSoundWhere w → tables_of_where d w ≡ [] → IfThere AreSoundEnds (source_ends w) × (tables_of_target d (source_ends w) ≡ [])
     source_sound (Where.All span) is none = (tt, refl)
     source_sound (Where.From from to span) is none = (is.0, nil_from_append_left (tables_of_ends d from) (tables_of_target d to) none)
+    source_sound (Where.PcapFilter span) is none = (tt, refl)
     source_sound (Where.To to span) is none = (tt, refl)
 
     destination_sound : (w : Where) → IsSoundWhere w → tables_of_where d w ≡ [] → IfThere AreSoundEnds (destination_ends w) × (tables_of_target d (destination_ends w) ≡ [])
     destination_sound (Where.All span) is none = (tt, refl)
     destination_sound (Where.From from to span) is none = (is.1, nil_from_append_right (tables_of_ends d from) (tables_of_target d to) none)
+    destination_sound (Where.PcapFilter span) is none = (tt, refl)
     destination_sound (Where.To to span) is none = (is, none)
 
     pub filter_meant : (f : Filter) → IsSoundFilter f → filter_faults ifaces env f ≡ [] → tables_of_where d f.ends ≡ []

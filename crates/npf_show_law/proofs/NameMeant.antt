@@ -85,15 +85,16 @@ among_listed given names text each (stmt ∷ stmts) =
 -- what holds of every form of a statement
 pub by_form : (P : Stmt → Type 0) → ((a : _) (b : _) (c : _) → P (Stmt.Define a b c)) → ((a : _) (b : _) (c : _) → P (Stmt.Set a b c)) →
     ((a : _) (b : _) → P (Stmt.Alg a b)) → ((a : _) (b : _) (c : _) (e : _) → P (Stmt.Table a b c e))
-    → ((a : _) (b : _) (c : _) (e : _) (f : _) (g : _) (h : _) (i : _) → P (Stmt.Map a b c e f g h i)) →
+    → ((a : _) (b : _) (c : _) (e : _) (f : _) (g : _) (h : _) (i : _) → P (Stmt.Map a b c e f g h i)) → ((a : _) (b : _) → P (Stmt.MapRuleset a b)) →
     ((a : _) (b : _) (c : _) → P (Stmt.Group a b c)) → ((a : _) (b : _) (c : _) → P (Stmt.Procedure a b c)) → (stmt : Stmt) → P stmt
-by_form P of_define of_set of_alg of_table of_map of_group of_procedure (Stmt.Define a b c) = of_define a b c
-by_form P of_define of_set of_alg of_table of_map of_group of_procedure (Stmt.Set a b c) = of_set a b c
-by_form P of_define of_set of_alg of_table of_map of_group of_procedure (Stmt.Alg a b) = of_alg a b
-by_form P of_define of_set of_alg of_table of_map of_group of_procedure (Stmt.Table a b c e) = of_table a b c e
-by_form P of_define of_set of_alg of_table of_map of_group of_procedure (Stmt.Map a b c e f g h i) = of_map a b c e f g h i
-by_form P of_define of_set of_alg of_table of_map of_group of_procedure (Stmt.Group a b c) = of_group a b c
-by_form P of_define of_set of_alg of_table of_map of_group of_procedure (Stmt.Procedure a b c) = of_procedure a b c
+by_form P of_define of_set of_alg of_table of_map of_maps of_group of_procedure (Stmt.Define a b c) = of_define a b c
+by_form P of_define of_set of_alg of_table of_map of_maps of_group of_procedure (Stmt.Set a b c) = of_set a b c
+by_form P of_define of_set of_alg of_table of_map of_maps of_group of_procedure (Stmt.Alg a b) = of_alg a b
+by_form P of_define of_set of_alg of_table of_map of_maps of_group of_procedure (Stmt.Table a b c e) = of_table a b c e
+by_form P of_define of_set of_alg of_table of_map of_maps of_group of_procedure (Stmt.Map a b c e f g h i) = of_map a b c e f g h i
+by_form P of_define of_set of_alg of_table of_map of_maps of_group of_procedure (Stmt.MapRuleset a b) = of_maps a b
+by_form P of_define of_set of_alg of_table of_map of_maps of_group of_procedure (Stmt.Group a b c) = of_group a b c
+by_form P of_define of_set of_alg of_table of_map of_maps of_group of_procedure (Stmt.Procedure a b c) = of_procedure a b c
 
 -- the names of the model are those of the text
 pub tables_named : (stmts : List Stmt) → Every IsSoundStmt stmts → map (λ (t : TableDecl). name_bytes t.name) (flat_map tables_of stmts) ≡ table_names stmts
@@ -102,6 +103,7 @@ tables_named (Stmt.Table name kind file span ∷ stmts) every = ap₂ (λ x xs. 
 tables_named (Stmt.Define var values span ∷ stmts) every = tables_named stmts every.1
 tables_named (Stmt.Set name value span ∷ stmts) every = tables_named stmts every.1
 tables_named (Stmt.Alg name span ∷ stmts) every = tables_named stmts every.1
+tables_named (Stmt.MapRuleset iface span ∷ stmts) every = tables_named stmts every.1
 tables_named (Stmt.Map iface kind proto left arrow right pass span ∷ stmts) every = tables_named stmts every.1
 tables_named (Stmt.Group head items span ∷ stmts) every = tables_named stmts every.1
 tables_named (Stmt.Procedure name calls span ∷ stmts) every = tables_named stmts every.1
@@ -113,6 +115,7 @@ procedures_named (Stmt.Procedure name calls span ∷ stmts) =
 procedures_named (Stmt.Define var values span ∷ stmts) = procedures_named stmts
 procedures_named (Stmt.Set name value span ∷ stmts) = procedures_named stmts
 procedures_named (Stmt.Alg name span ∷ stmts) = procedures_named stmts
+procedures_named (Stmt.MapRuleset iface span ∷ stmts) = procedures_named stmts
 procedures_named (Stmt.Table name kind file span ∷ stmts) = procedures_named stmts
 procedures_named (Stmt.Map iface kind proto left arrow right pass span ∷ stmts) = procedures_named stmts
 procedures_named (Stmt.Group head items span ∷ stmts) = procedures_named stmts
@@ -134,9 +137,9 @@ few_names quantity most names each stmts none =
 pub few_tables : (stmts : List Stmt) → past_faults Of.Tables MAX_TABLES stmts ≡ [] → length (table_names stmts) ≤ 64
 few_tables = few_names Of.Tables MAX_TABLES table_name
     (by_form (λ stmt. length (table_name stmt) ≡ length (limited_places Of.Tables stmt)) (λ a b c. refl) (λ a b c. refl)
-    (λ a b. refl) (λ a b c e. refl) (λ a b c e f g h i. refl) (λ a b c. refl) (λ a b c. refl))
+    (λ a b. refl) (λ a b c e. refl) (λ a b c e f g h i. refl) (λ a b. refl) (λ a b c. refl) (λ a b c. refl))
 
 pub few_procedures : (stmts : List Stmt) → past_faults Of.Procedures MAX_PROCEDURES stmts ≡ [] → length (procedure_names stmts) ≤ 64
 few_procedures = few_names Of.Procedures MAX_PROCEDURES procedure_name
     (by_form (λ stmt. length (procedure_name stmt) ≡ length (limited_places Of.Procedures stmt)) (λ a b c. refl) (λ a b c. refl)
-    (λ a b. refl) (λ a b c e. refl) (λ a b c e f g h i. refl) (λ a b c. refl) (λ a b c. refl))
+    (λ a b. refl) (λ a b c e. refl) (λ a b c e f g h i. refl) (λ a b. refl) (λ a b c. refl) (λ a b c. refl))

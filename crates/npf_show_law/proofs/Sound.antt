@@ -13,7 +13,8 @@ use Rattle.npf_parser_values.specs.Token.{string, word, address, flags, is_flag,
 use Rattle.npf_parser_values.specs.Value.{is_range, is_prefix, can_stand, called, function_value, ones, one_list, protocols, number_value}
 use Rattle.npf_parser_values.specs.Value.{address_value, table_value, written, value, listed_values, value_list, values}
 use Rattle.npf_parser.specs.{Filter.{flags_detail, icmp_detail, detail, proto_part, addresses, ports, ends, the_ends, filter}, Rule.{rule, item, head, items}}
-use Rattle.npf_parser.specs.{Map.side, Procedure.{log_name, call, calls}, Stmt.{define, set, alg, table, map, group, procedure, stmt, stmts, file}}
+use Rattle.npf_parser.specs.{Map.side, Procedure.{log_name, call, calls}}
+use Rattle.npf_parser.specs.Stmt.{define, set, alg, table, MapRest, translation, map_rest, map, group, procedure, stmt, stmts, file}
 use Rattle.npf_check.specs.Undefined.{table_faults}
 use Rattle.npf_show_tokens.specs.{Showable.{IsPlain, FitsAddr}, Tokens.is_run_word}
 use Rattle.npf_show_law.specs.Sound.{IsSoundKind}
@@ -194,6 +195,7 @@ AreSoundEnds (EndsTree.Ports p span) = AreSoundPorts p
 abbrev pub IsSoundWhere : Where → Type 0
 IsSoundWhere (Where.All span) = Unit {0}
 IsSoundWhere (Where.From from to span) = AreSoundEnds from × IfThere AreSoundEnds to
+IsSoundWhere (Where.PcapFilter span) = Unit {0}
 IsSoundWhere (Where.To to span) = AreSoundEnds to
 
 addresses_give : Gives addresses AreSoundAddresses
@@ -214,7 +216,8 @@ where_gives : Gives the_ends IsSoundWhere
 unfolding the_ends
 where_gives =
     either_gives (making_gives {P = λ _. Unit {0}} (λ ts a is. tt) anything)
-    (either_gives (making_gives (λ ts a is. is) (behind_gives (both_gives ends_give (optional_behind (quoted (codes "to")) ends_give)))) (making_gives (λ ts a is. is) (behind_gives ends_give)))
+    (either_gives (making_gives (λ ts a is. is) (behind_gives (both_gives ends_give (optional_behind (quoted (codes "to")) ends_give))))
+    (either_gives (making_gives {P = λ _. Unit {0}} (λ ts a is. tt) anything) (making_gives (λ ts a is. is) (behind_gives ends_give))))
 
 pub record IsSoundFilter (f : Filter) : Type 0 where
   pub proto : IfThere IsSoundPart f.proto
@@ -232,8 +235,8 @@ IsSoundItem (ItemTree.Rule r span) = IsSoundFilter r.filter
 IsSoundItem (ItemTree.Ruleset name dir on span) = is_name name.text ≡ true
 
 abbrev pub IsSoundHead : GroupHead → Type 0
-IsSoundHead (GroupHead.Named name dir on span) = IsPlainStr name
-IsSoundHead (GroupHead.Default span) = Unit {0}
+IsSoundHead (GroupHead.Named name dir layer on span) = IsPlainStr name
+IsSoundHead (GroupHead.Default layer span) = Unit {0}
 
 rule_gives : Gives rule (λ r. IsSoundFilter r.filter)
 unfolding rule
@@ -260,6 +263,7 @@ abbrev pub IsSoundCall : Call → Type 0
 IsSoundCall (Call.Log (LogName.Word w span) whole) = is_name w.text ≡ true
 IsSoundCall (Call.Log (LogName.Str s span) whole) = is_name s.text ≡ true
 IsSoundCall (Call.Normalize opts span) = Unit {0}
+IsSoundCall (Call.Route span) = Unit {0}
 
 abbrev pub IsSoundStmt : Stmt → Type 0
 IsSoundStmt (Stmt.Define var values span) = AreSoundValues values
@@ -287,7 +291,7 @@ call_gives =
     either_gives (making_gives {P = IsLogName} (λ ts n is. log_sound n (span_of ts) is) (behind_gives (behind_gives
     (either_gives (making_gives {P = λ s. Unit {0} × (is_name s.text ≡ true)} (λ ts s is. is.1) (fitted_gives anything))
     (making_gives {P = λ w. Unit {0} × (is_name w.text ≡ true)} (λ ts w is. is.1) (fitted_gives anything))))))
-    (making_gives {P = λ _. Unit {0}} (λ ts a is. tt) anything)
+    (either_gives (making_gives {P = λ _. Unit {0}} (λ ts a is. tt) anything) (making_gives {P = λ _. Unit {0}} (λ ts a is. tt) anything))
 
 table_gives : Gives table IsSoundStmt
 unfolding table
@@ -295,13 +299,24 @@ table_gives =
     making_gives {P = λ a. (IsRunWord a.0 × (is_name a.0.text ≡ true)) × (Unit {0} × IfThere (λ s. IsPlainStr s × (is_utf8 s.text ≡ true)) a.1.1)} (λ ts a is. (is.0, is.1.1))
     (behind_gives (behind_gives (both_gives (before_gives (fitted_gives word_gives)) (both_gives anything (optional_behind (quoted (codes "file")) (fitted_gives string_gives))))))
 
+-- what stands behind the interface makes a sound statement
+abbrev IsSoundRest : MapRest → Type 0
+IsSoundRest rest = (i : IfaceTree) (span : Span) → IsSoundStmt (rest i span)
+
+translation_gives : Gives translation IsSoundRest
+unfolding translation
+translation_gives =
+    making_gives {P = λ a. Unit {0} × (Unit {0} × (IsSoundSide a.1.1.0 × (Unit {0} × (IsSoundSide a.1.1.1.1.0 × IfThere IsSoundFilter a.1.1.1.1.1))))}
+    (λ ts a is i span. (is.1.1.0, is.1.1.1.1.0, is.1.1.1.1.1))
+    (both_gives anything (both_gives anything (both_gives side_gives (both_gives anything (both_gives side_gives (optional_behind (quoted (codes "pass")) filter_gives))))))
+
+map_rest_gives : Gives map_rest IsSoundRest
+unfolding map_rest
+map_rest_gives = either_gives (making_gives {P = λ _. Unit {0}} (λ ts a is i span. tt) anything) translation_gives
+
 map_gives : Gives map IsSoundStmt
 unfolding map
-map_gives =
-    making_gives {P = λ a. Unit {0} × (Unit {0} × (Unit {0} × (IsSoundSide a.1.1.1.0 × (Unit {0} × (IsSoundSide a.1.1.1.1.1.0 × IfThere IsSoundFilter a.1.1.1.1.1.1)))))}
-    (λ ts a is. (is.1.1.1.0, is.1.1.1.1.1.0, is.1.1.1.1.1.1))
-    (behind_gives
-    (both_gives anything (both_gives anything (both_gives anything (both_gives side_gives (both_gives anything (both_gives side_gives (optional_behind (quoted (codes "pass")) filter_gives))))))))
+map_gives = making_gives {P = λ a. Unit {0} × IsSoundRest a.1} (λ ts a is. is.1 a.0 (span_of ts)) (behind_gives (both_gives anything map_rest_gives))
 
 group_gives : Gives group IsSoundStmt
 unfolding group items

@@ -48,6 +48,7 @@ option_good : (p : Procedure) (o : Opt) → IsGoodProcedure p → IsGoodProcedur
 option_good p (Opt.MinTtl n span) good = record { shown = record { name = good.shown.name; min_ttl = ttl_fits n.value; max_mss = good.shown.max_mss }; log = good.log }
 option_good p (Opt.MaxMss n span) good = record { shown = record { name = good.shown.name; min_ttl = good.shown.min_ttl; max_mss = mss_fits n.value }; log = good.log }
 option_good p (Opt.NoDf span) good = record { shown = record { name = good.shown.name; min_ttl = good.shown.min_ttl; max_mss = good.shown.max_mss }; log = good.log }
+option_good p (Opt.RandomId span) good = good
 
 options_good : (p : Procedure) (os : List Opt) → IsGoodProcedure p → IsGoodProcedure (with_options p os)
 options_good p [] good = good
@@ -57,6 +58,7 @@ call_good : (p : Procedure) (c : Call) → IsSoundCall c → IsGoodProcedure p �
 call_good p (Call.Log (LogName.Word w at) span) is good = record { shown = record { name = good.shown.name; min_ttl = good.shown.min_ttl; max_mss = good.shown.max_mss }; log = name_again w.text is }
 call_good p (Call.Log (LogName.Str s at) span) is good = record { shown = record { name = good.shown.name; min_ttl = good.shown.min_ttl; max_mss = good.shown.max_mss }; log = name_again s.text is }
 call_good p (Call.Normalize os span) is good = options_good p os good
+call_good p (Call.Route span) is good = good
 
 calls_good : (p : Procedure) (cs : List Call) → Every IsSoundCall cs → IsGoodProcedure p → IsGoodProcedure (with_calls p cs)
 calls_good p [] every good = good
@@ -67,11 +69,13 @@ options_named p [] = refl
 options_named p (Opt.MinTtl n span ∷ os) = options_named (with_option p (Opt.MinTtl n span)) os
 options_named p (Opt.MaxMss n span ∷ os) = options_named (with_option p (Opt.MaxMss n span)) os
 options_named p (Opt.NoDf span ∷ os) = options_named (with_option p (Opt.NoDf span)) os
+options_named p (Opt.RandomId span ∷ os) = options_named p os
 
 pub calls_named : (p : Procedure) (cs : List Call) → (with_calls p cs).name ≡ p.name
 calls_named p [] = refl
 calls_named p (Call.Log name span ∷ cs) = calls_named (with_call p (Call.Log name span)) cs
 calls_named p (Call.Normalize os span ∷ cs) = calls_named (with_options p os) cs ∙ options_named p os
+calls_named p (Call.Route span ∷ cs) = calls_named p cs
 
 pub procedures_meant : (stmt : Stmt) → IsSoundStmt stmt → Every (λ p. IsShowableProcedure p × IfSome p.log IsOfText) (procedures_of stmt)
 procedures_meant (Stmt.Procedure name calls span) is =
@@ -81,6 +85,7 @@ procedures_meant (Stmt.Procedure name calls span) is =
 procedures_meant (Stmt.Define var values span) is = tt
 procedures_meant (Stmt.Set name value span) is = tt
 procedures_meant (Stmt.Alg name span) is = tt
+procedures_meant (Stmt.MapRuleset iface span) is = tt
 procedures_meant (Stmt.Table name kind file span) is = tt
 procedures_meant (Stmt.Map iface kind proto left arrow right pass span) is = tt
 procedures_meant (Stmt.Group head items span) is = tt
@@ -105,6 +110,7 @@ tables_meant (Stmt.Procedure name calls span) is = tt
 tables_meant (Stmt.Define var values span) is = tt
 tables_meant (Stmt.Set name value span) is = tt
 tables_meant (Stmt.Alg name span) is = tt
+tables_meant (Stmt.MapRuleset iface span) is = tt
 tables_meant (Stmt.Map iface kind proto left arrow right pass span) is = tt
 tables_meant (Stmt.Group head items span) is = tt
 
@@ -295,7 +301,7 @@ module _ (ifaces : List Iface) (fit : All (λ i. All FitsAddr i.addrs) ifaces) (
     group_meant : (counted : ℕ) (head : GroupHead) (items : List WrittenItem) → IsSoundHead head → Every IsSoundItem items
         → head_faults ifaces env declared head ++ items_faults ifaces env declared counted items ≡ [] → flat_map (tables_of_item d) items ≡ [] → flat_map (procedures_of_item p) items ≡ []
         → IsGoodGroup ifaces model (group_of_tree ifaces env declared head items)
-    group_meant counted (GroupHead.Named name dir on span) items is every none defined names =
+    group_meant counted (GroupHead.Named name dir layer on span) items is every none defined names =
         let clean = items_meant counted items every (nil_from_append_right (on_faults ifaces env on) (items_faults ifaces env declared counted items) none) defined names in
         let both = every_left (IsShowableEntry model) (IsRegularEntry ifaces model) (map (item_of_tree ifaces env declared) items) clean in (
           record { name = is; items = both.0 },
@@ -305,27 +311,30 @@ module _ (ifaces : List Iface) (fit : All (λ i. All FitsAddr i.addrs) ifaces) (
             items = both.1;
           },
         )
-    group_meant counted (GroupHead.Default span) items is every none defined names =
+    group_meant counted (GroupHead.Default layer span) items is every none defined names =
         let both = every_left (IsShowableEntry model) (IsRegularEntry ifaces model) (map (item_of_tree ifaces env declared) items) (items_meant counted items every none defined names) in
         (record { name = refl; items = both.0 }, record { head = λ _. record { name = refl; dir = refl; on = refl }; on = tt; items = both.1 })
 
     pub named_meant : (counted : ℕ) (stmt : Stmt) → IsCleanStmt ifaces declared d p env counted stmt → Every (IsGoodGroup ifaces model) (named_group ifaces declared env stmt)
-    named_meant counted (Stmt.Group (GroupHead.Named name dir on head) items span) is =
-        (group_meant counted (GroupHead.Named name dir on head) items is.sound.0 is.sound.1 is.clean is.tables is.procedures, tt)
-    named_meant counted (Stmt.Group (GroupHead.Default head) items span) is = tt
+    named_meant counted (Stmt.Group (GroupHead.Named name dir layer on head) items span) is =
+        (group_meant counted (GroupHead.Named name dir layer on head) items is.sound.0 is.sound.1 is.clean is.tables is.procedures, tt)
+    named_meant counted (Stmt.Group (GroupHead.Default layer head) items span) is = tt
     named_meant counted (Stmt.Define var values span) is = tt
     named_meant counted (Stmt.Set name value span) is = tt
     named_meant counted (Stmt.Alg name span) is = tt
+    named_meant counted (Stmt.MapRuleset iface span) is = tt
     named_meant counted (Stmt.Table name kind file span) is = tt
     named_meant counted (Stmt.Map iface kind proto left arrow right pass span) is = tt
     named_meant counted (Stmt.Procedure name calls span) is = tt
 
     pub default_meant : (counted : ℕ) (stmt : Stmt) → IsCleanStmt ifaces declared d p env counted stmt → Every (IsGoodGroup ifaces model) (default_group ifaces declared env stmt)
-    default_meant counted (Stmt.Group (GroupHead.Default head) items span) is = (group_meant counted (GroupHead.Default head) items is.sound.0 is.sound.1 is.clean is.tables is.procedures, tt)
-    default_meant counted (Stmt.Group (GroupHead.Named name dir on head) items span) is = tt
+    default_meant counted (Stmt.Group (GroupHead.Default layer head) items span) is =
+        (group_meant counted (GroupHead.Default layer head) items is.sound.0 is.sound.1 is.clean is.tables is.procedures, tt)
+    default_meant counted (Stmt.Group (GroupHead.Named name dir layer on head) items span) is = tt
     default_meant counted (Stmt.Define var values span) is = tt
     default_meant counted (Stmt.Set name value span) is = tt
     default_meant counted (Stmt.Alg name span) is = tt
+    default_meant counted (Stmt.MapRuleset iface span) is = tt
     default_meant counted (Stmt.Table name kind file span) is = tt
     default_meant counted (Stmt.Map iface kind proto left arrow right pass span) is = tt
     default_meant counted (Stmt.Procedure name calls span) is = tt
@@ -349,5 +358,6 @@ module _ (ifaces : List Iface) (fit : All (λ i. All FitsAddr i.addrs) ifaces) (
     maps_meant counted (Stmt.Define var values span) is = tt
     maps_meant counted (Stmt.Set name value span) is = tt
     maps_meant counted (Stmt.Alg name span) is = tt
+    maps_meant counted (Stmt.MapRuleset iface span) is = tt
     maps_meant counted (Stmt.Table name kind file span) is = tt
     maps_meant counted (Stmt.Procedure name calls span) is = tt

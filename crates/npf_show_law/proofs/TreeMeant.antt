@@ -29,7 +29,7 @@ plain_at (x ∷ xs) (suc place) every = plain_at xs place every.1
 
 tables_listed : (stmts : List Stmt) (text : List ℕ) → is_table_in stmts text ≡ is_listed (table_names stmts) text
 tables_listed stmts text =
-    among_listed _ table_name text (by_form _ (λ a b c. refl) (λ a b c. refl) (λ a b. refl) (λ a b c e. refl) (λ a b c e f g h i. refl) (λ a b c. refl) (λ a b c. refl)) stmts
+    among_listed _ table_name text (by_form _ (λ a b c. refl) (λ a b c. refl) (λ a b. refl) (λ a b c e. refl) (λ a b c e f g h i. refl) (λ a b. refl) (λ a b c. refl) (λ a b c. refl)) stmts
 
 -- the default groups stand last
 abbrev is_named : Group → Bool
@@ -59,21 +59,23 @@ module _ (ifaces : List Iface) (declared : Declared) where
       every_both P (give (env_of ifaces older) stmt) (gathered ifaces declared give (behind older stmt) stmts) (each (env_of ifaces older) stmt) (plainly P give each (behind older stmt) stmts)
 
   named_only : (env : Env) (stmt : Stmt) → Every (λ g. is_default g ≡ false) (named_group ifaces declared env stmt)
-  named_only env (Stmt.Group (GroupHead.Named name dir on head) items span) = (refl, tt)
-  named_only env (Stmt.Group (GroupHead.Default head) items span) = tt
+  named_only env (Stmt.Group (GroupHead.Named name dir layer on head) items span) = (refl, tt)
+  named_only env (Stmt.Group (GroupHead.Default layer head) items span) = tt
   named_only env (Stmt.Define var values span) = tt
   named_only env (Stmt.Set name value span) = tt
   named_only env (Stmt.Alg name span) = tt
+  named_only env (Stmt.MapRuleset iface span) = tt
   named_only env (Stmt.Table name kind file span) = tt
   named_only env (Stmt.Map iface kind proto left arrow right pass span) = tt
   named_only env (Stmt.Procedure name calls span) = tt
 
   default_only : (env : Env) (stmt : Stmt) → Every (λ g. is_default g ≡ true) (default_group ifaces declared env stmt)
-  default_only env (Stmt.Group (GroupHead.Named name dir on head) items span) = tt
-  default_only env (Stmt.Group (GroupHead.Default head) items span) = (refl, tt)
+  default_only env (Stmt.Group (GroupHead.Named name dir layer on head) items span) = tt
+  default_only env (Stmt.Group (GroupHead.Default layer head) items span) = (refl, tt)
   default_only env (Stmt.Define var values span) = tt
   default_only env (Stmt.Set name value span) = tt
   default_only env (Stmt.Alg name span) = tt
+  default_only env (Stmt.MapRuleset iface span) = tt
   default_only env (Stmt.Table name kind file span) = tt
   default_only env (Stmt.Map iface kind proto left arrow right pass span) = tt
   default_only env (Stmt.Procedure name calls span) = tt
@@ -84,6 +86,7 @@ module _ (ifaces : List Iface) (fit : All (λ i. All FitsAddr i.addrs) ifaces) (
   clean_behind older counted (Stmt.Define var values span) clean is = ((is.sound, is.clean, is.tables), clean)
   clean_behind older counted (Stmt.Set name value span) clean is = clean
   clean_behind older counted (Stmt.Alg name span) clean is = clean
+  clean_behind older counted (Stmt.MapRuleset iface span) clean is = clean
   clean_behind older counted (Stmt.Table name kind file span) clean is = clean
   clean_behind older counted (Stmt.Map iface kind proto left arrow right pass span) clean is = clean
   clean_behind older counted (Stmt.Group head items span) clean is = clean

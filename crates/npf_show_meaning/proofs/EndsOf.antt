@@ -285,8 +285,8 @@ module _ (ifaces : List Iface) (model : Model) where
       (make {P = λ a. SaysEnds from (Some a.0) × SaysEnds to a.1} (λ ts a says. says)
       (said (turn (ends_go from fine is rest (target_head t to behind here)) (target_goes t to it fair behind here))))))
   where_by false true from to is it fine fair behind here =
-      pick_second (it_is (λ s. refl)) (pick_second (it_is (λ s. refl))
-      (make {P = λ a. SaysEnds to (Some a)} (λ ts a says. (unsaid from is, says)) (said (ends_go to fair it behind (inr here)))))
+      pick_second (it_is (λ s. refl)) (pick_second (it_is (λ s. refl)) (pick_second (it_is (λ s. refl))
+      (make {P = λ a. SaysEnds to (Some a)} (λ ts a says. (unsaid from is, says)) (said (ends_go to fair it behind (inr here))))))
   where_by false false from to is it fine fair behind here =
       pick_first (it_is (λ s. refl)) (says_goes (codes "all") Where.All (SaysWhere from to) behind (λ s. (unsaid from is, unsaid to it)))
 

@@ -11,7 +11,7 @@ use Rattle.npf_model.specs.declared.{group.Item.{Item, TheVariants.{One, Dynamic
 use Rattle.npf_parser_values.specs.Token.{says, span_of}
 use Rattle.npf_parser_values.specs.Value.{iface, one, ones, one_list, protocols, number_value, address_value, table_value, function, function_value, written, value, listed_values, value_list, values}
 use Rattle.npf_parser.specs.Filter.{family, detail, proto_part, addresses, ports, ends, the_ends, filter}
-use Rattle.npf_parser.specs.Rule.{answer, action, stateful, direction, ends_walk, on, rule, item, items, ends_item}
+use Rattle.npf_parser.specs.Rule.{answer, action, stateful, direction, ends_walk, on, relation, relations, owner, rule, item, items, ends_item}
 use Rattle.npf_faults.specs.{declared.fault.{Excess.TheVariants.Elements, Fault.TheVariants.TooMany}, First.fault_if}
 use Rattle.npf_expand.specs.{Group.{item_of_tree, item_elements, item_faults, items_faults, items_elements}, Rule.{dir_of, filter_count, passing_faults}}
 use Rattle.npf_show.specs.{Bound.{dir_pieces, on_pieces}, Group.{within_item, item_line}, Piece.{line_end, optional_pieces}}
@@ -87,7 +87,7 @@ module _ (ifaces : List Iface) (model : Model) where
 
   pub items_go : (entries : List Item) → All IsFineEntry entries → (ks : List TokenKind)
       → Goes items (λ trees. Each IsItemOf trees entries) (feed ∷ onto (flat_map (item_line model) entries) (close ∷ ks)) (close ∷ ks)
-  unfolding items item rule action answer stateful direction ends_walk on filter family proto_part detail the_ends ends ports addresses protocols one_list
+  unfolding items item rule action answer stateful direction ends_walk on relation relations owner filter family proto_part detail the_ends ends ports addresses protocols one_list
       ones one values value_list listed_values value written number_value address_value table_value function function_value iface
   items_go entries all ks =
       opened_goes item ends_item IsItemOf IsFineEntry (within_item model) (item_line model) entry_line (λ entry is ks. entry_goes entry is ks)

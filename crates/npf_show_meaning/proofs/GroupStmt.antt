@@ -8,14 +8,14 @@ use Rattle.npf_lexer.specs.declared.token.TokenKind.TheVariants as Kind
 use Rattle.npf_syntax.specs.declared.{group.{GroupHead.GroupHead, ItemTree.ItemTree as WrittenItem}, stmt.Stmt.Stmt}
 use Rattle.npf_model.specs.declared.{group.Group.Group, iface.Iface.Iface, model.Model.Model}
 use Rattle.npf_parser_values.specs.Token.{span_of}
-use Rattle.npf_parser.specs.{Rule.head, Stmt.group}
+use Rattle.npf_parser.specs.{Rule.{head, layer}, Stmt.group}
 use Rattle.npf_expand.specs.{Group.group_of_tree, Rule.dir_of}
 use Rattle.npf_show.specs.{Bound.{dir_pieces, on_pieces}, Group.{item_line, head_pieces, group_head}}
 use Rattle.npf_show.specs.Piece.{Piece, glued, spaced, line_end, closing_line, optional_pieces}
 use Rattle.npf_show.specs.Piece as Pieces
 use Rattle.npf_show_meaning.specs.Regular.{IsRegularOn, IsPlainHead}
-use Rattle.npf_show_meaning.proofs.{Goes.{Goes, make, turn, pick_first, pick_second, said, signed, before, it_is, says_goes}, Lists.{onto, onto_both, Each}}
-use Rattle.npf_show_meaning.proofs.{Says.nameless, Values.keyword, ValueLists.close, Blocks.feed, RuleOf.{IsText, string_goes, OnBound, bound_goes}}
+use Rattle.npf_show_meaning.proofs.{Goes.{Goes, Anything, make, turn, pick_first, pick_second, said, signed, before, absent, it_is}, Lists.{onto, onto_both, Each}}
+use Rattle.npf_show_meaning.proofs.{Says.nameless, Values.keyword, ValueLists.close, Blocks.feed, RuleOf.{IsText, string_goes, OnBound, head_bound_goes}}
 use Rattle.npf_show_meaning.proofs.{GroupOf.{IsFineEntry, IsItemOf, items_go, items_clean, items_counted, items_given}, Parts.{OfGroup, SaysPartOf}}
 use Rattle.npf_expand_values.specs.Source.{declared_of}
 
@@ -27,27 +27,27 @@ module _ (ifaces : List Iface) (model : Model) where
     pub items : All (IsFineEntry ifaces model) g.items
 
   abbrev IsHeadOf : Bool → Group → GroupHead → Type 0
-  IsHeadOf true g (GroupHead.Default span) = Unit {0}
-  IsHeadOf false g (GroupHead.Named name dir bound span) = IsText g.name name × (option_map dir_of dir ≡ g.dir) × OnBound ifaces model g.on bound
+  IsHeadOf true g (GroupHead.Default layer span) = Unit {0}
+  IsHeadOf false g (GroupHead.Named name dir layer bound span) = IsText g.name name × (option_map dir_of dir ≡ g.dir) × OnBound ifaces model g.on bound
   IsHeadOf _ g _ = ⊥
 
   head_goes : (d : Bool) (g : Group) → IsFineGroup g → (ks : List TokenKind) → Goes head (IsHeadOf d g) (onto (head_pieces d g) (Kind.Sign Signs.OpenBrace ∷ ks)) (Kind.Sign Signs.OpenBrace ∷ ks)
   unfolding head
-  head_goes true g is ks = pick_first (it_is (λ s. refl)) (says_goes (codes "default") GroupHead.Default (IsHeadOf true g) (Kind.Sign Signs.OpenBrace ∷ ks) (λ s. tt))
+  head_goes true g is ks = pick_first (it_is (λ s. refl)) (make {P = Anything} (λ ts a q. tt) (said (absent {g = layer} {P = Anything} (it_is (λ s. refl)) tt)))
   head_goes false g is ks =
       let to = Kind.Sign Signs.OpenBrace ∷ ks in
       let dir = optional_pieces dir_pieces g.dir in
       let bound = optional_pieces on_pieces g.on in
       subst (λ from. Goes head (IsHeadOf false g) (Kind.Str g.name ∷ from) to) (sym (onto_both dir bound to))
       (pick_second (it_is (λ s. refl))
-      (make {P = λ a. IsText g.name a.0 × ((option_map dir_of a.1.0 ≡ g.dir) × OnBound ifaces model g.on a.1.1)} (λ ts a q. (q.0, q.1.0, q.1.1))
-      (turn (string_goes g.name (onto dir (onto bound to))) (bound_goes ifaces model g.dir g.on is.on to (inl (ks, refl))))))
+      (make {P = λ a. IsText g.name a.0 × ((option_map dir_of a.1.0 ≡ g.dir) × (Anything a.1.1.0 × OnBound ifaces model g.on a.1.1.1))} (λ ts a q. (q.0, q.1.0, q.1.1.1))
+      (turn (string_goes g.name (onto dir (onto bound to))) (head_bound_goes ifaces model g.dir g.on is.on to (inl (ks, refl))))))
 
   says_group : (d : Bool) (g : Group) → g.default ≡ d → IsFineGroup g → (h : GroupHead) (trees : List WrittenItem) (span : Span) → IsHeadOf d g h → Each (IsItemOf ifaces model) trees g.items
       → SaysPartOf ifaces model (OfGroup g) (Stmt.Group h trees span)
-  says_group true g is fine (GroupHead.Default s) trees span head each =
+  says_group true g is fine (GroupHead.Default layer s) trees span head each =
       let plain = fine.head is in
-      let given : group_of_tree ifaces (nameless ifaces) (declared_of model) (GroupHead.Default s) trees ≡ g =
+      let given : group_of_tree ifaces (nameless ifaces) (declared_of model) (GroupHead.Default layer s) trees ≡ g =
       rw (plain.name, plain.dir, plain.on, is, items_given ifaces model trees g.items each) refl in
       record {
         plain = λ older. refl;
@@ -63,8 +63,8 @@ module _ (ifaces : List Iface) (model : Model) where
         settings = refl;
         algs = refl;
       }
-  says_group false g is fine (GroupHead.Named name dir bound s) trees span head each =
-      let given : group_of_tree ifaces (nameless ifaces) (declared_of model) (GroupHead.Named name dir bound s) trees ≡ g =
+  says_group false g is fine (GroupHead.Named name dir layer bound s) trees span head each =
+      let given : group_of_tree ifaces (nameless ifaces) (declared_of model) (GroupHead.Named name dir layer bound s) trees ≡ g =
       rw (head.0, head.1, head.2.1, is, items_given ifaces model trees g.items each) refl in
       record {
         plain = λ older. refl;
@@ -80,8 +80,8 @@ module _ (ifaces : List Iface) (model : Model) where
         settings = refl;
         algs = refl;
       }
-  says_group true g is fine (GroupHead.Named name dir bound s) trees span head each = absurd head
-  says_group false g is fine (GroupHead.Default s) trees span head each = absurd head
+  says_group true g is fine (GroupHead.Named name dir layer bound s) trees span head each = absurd head
+  says_group false g is fine (GroupHead.Default layer s) trees span head each = absurd head
 
   -- the lines of a group but for the end of the last
   abbrev pub group_within : Group → List Piece

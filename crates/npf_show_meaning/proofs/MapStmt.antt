@@ -10,9 +10,9 @@ use Rattle.npf_syntax.specs.declared.{stmt.Stmt.Stmt, value.{IfaceTree.IfaceTree
 use Rattle.npf_model.specs.declared.{iface.Iface.Iface, map.{Algo.Algo, Arrow.Arrow, Map.Map, Side.Side}, model.Model.Model, rule.Rule.Rule}
 use Rattle.npf_model.specs.declared.map.Algo.TheVariants as Algos
 use Rattle.npf_model.specs.declared.map.Arrow.TheVariants as Arrows
-use Rattle.npf_phrase.specs.Grammar.{optional, preceded}
+use Rattle.npf_phrase.specs.Grammar.{meaning, optional, preceded}
 use Rattle.npf_parser_values.specs.{Token.{word, quoted, span_of}, Value.{one, value, can_stand, is_port, is_port_end}}
-use Rattle.npf_parser.specs.{Filter.filter, Map.{map_kind, arrow, side}, Stmt.map}
+use Rattle.npf_parser.specs.{Filter.filter, Map.{no_ports, kind_details, map_kind, arrow, side, map_ruleset}, Stmt.{MapRest, translation, map_rest, map}}
 use Rattle.npf_expand_values.specs.{Protocol.{one_protocol, one_protocol_faults}, Source.declared_of}
 use Rattle.npf_expand.specs.{Elaborates.filter_elements, Map.{algo_of, arrow_of_sign, side_faults, side_of, side_port, side_port_faults, map_filter_faults}}
 use Rattle.npf_expand.specs.Rule.{filter_rule}
@@ -21,31 +21,49 @@ use Rattle.npf_show.specs.Piece.{Piece, glued, spaced, optional_pieces}
 use Rattle.npf_show.specs.Piece as Pieces
 use Rattle.npf_show_tokens.specs.Showable.{FitsByte}
 use Rattle.npf_show_meaning.specs.Regular.{pass_elements, IsRegularOn, IsFilterAlone}
-use Rattle.npf_show_meaning.proofs.Goes.{Goes, HeadIn, make, turn, keep, pick_first, pick_second, said, absent, present, it_is, none_is, says_goes, sign_goes}
+use Rattle.npf_show_meaning.proofs.Goes.{Goes, Sees, HeadIn, Anything, make, turn, keep, pick_first, pick_second, said, absent, present, it_is, none_is, sign_goes}
 use Rattle.npf_show_meaning.proofs.{Lists.{onto, onto_both}, Says.{nameless, SaysNet, net_side, range_side}}
 use Rattle.npf_show_meaning.proofs.{Values.{keyword, Behind, IsRange, net_goes, range_goes}, Blocks.feed}
 use Rattle.npf_show_meaning.proofs.{FilterOf.{SaysOne, one_goes, IsFineFilter, filter_goes, alone}, RuleOf.{SaysOn, iface_goes}, GroupOf.few_elements}
 use Rattle.npf_show_meaning.proofs.{TableStmt.any_word_goes, Parts.{OfMap, SaysPartOf}}
 
+-- the tokens behind a map's kind
+abbrev behind_kind : Option ℕ → Side → List TokenKind → List TokenKind
+behind_kind proto s ks = onto (optional_pieces one_proto_pieces proto) (onto (side_pieces s) ks)
+
+no_algo : (proto : Option ℕ) (s : Side) (ks : List TokenKind) → Goes (optional (preceded (quoted (codes "algo")) word)) Anything (behind_kind proto s ks) (behind_kind proto s ks)
+no_algo None s ks = absent {g = preceded (quoted (codes "algo")) word} (it_is (λ s. refl)) tt
+no_algo (Some n) s ks = absent {g = preceded (quoted (codes "algo")) word} (it_is (λ s. refl)) tt
+
+no_no_ports : (proto : Option ℕ) (s : Side) (ks : List TokenKind) → Goes (optional no_ports) Anything (behind_kind proto s ks) (behind_kind proto s ks)
+no_no_ports None s ks = absent {g = no_ports} (it_is (λ s. refl)) tt
+no_no_ports (Some n) s ks = absent {g = no_ports} (it_is (λ s. refl)) tt
+
 -- a word behind `static algo`
-abbrev IsAlgo : Algo → Option Word → Type 0
-IsAlgo algo None = ⊥
-IsAlgo algo (Some w) = algo_of (MapKind.Static (Some w) w.span) ≡ algo
-
-static_goes : (text : List ℕ) (algo : Algo) → ((w : Word) (span : Span) → w.text ≡ text → algo_of (MapKind.Static (Some w) span) ≡ algo) → (ks : List TokenKind)
-    → Goes map_kind (λ k. algo_of k ≡ algo) (keyword (codes "static") ∷ keyword (codes "algo") ∷ keyword text ∷ ks) ks
-unfolding map_kind
-static_goes text algo means ks =
+static_goes : (text : List ℕ) (algo : Algo) → ((w : Word) (none : Option Span) (span : Span) → w.text ≡ text → algo_of (MapKind.Static (Some w) none span) ≡ algo)
+    → (proto : Option ℕ) (s : Side) (ks : List TokenKind)
+    → Goes map_kind (λ k. algo_of k ≡ algo) (keyword (codes "static") ∷ keyword (codes "algo") ∷ keyword text ∷ behind_kind proto s ks) (behind_kind proto s ks)
+unfolding map_kind kind_details
+static_goes text algo means proto s ks =
     pick_second (it_is (λ s. refl))
-    (make {P = λ o. (w : Word) × (o ≡ Some w) × (w.text ≡ text)} (λ ts o q. ap (λ o. algo_of (MapKind.Static o (span_of ts))) q.1 ∙ means q.0 (span_of ts) q.2)
-    (said (present {g = preceded (quoted (codes "algo")) word} {P = λ o. (w : Word) × (o ≡ Some w) × (w.text ≡ text)}
-    (it_is (λ s. refl)) (said (keep (λ w same. (w, refl, same)) (any_word_goes text ks))))))
+    (make {P = λ a. ((w : Word) × (a.0 ≡ Some w) × (w.text ≡ text)) × Anything a.1}
+    (λ ts a q. ap (λ o. algo_of (MapKind.Static o a.1 (span_of ts))) q.0.1 ∙ means q.0.0 a.1 (span_of ts) q.0.2)
+    (said (turn (present {g = preceded (quoted (codes "algo")) word} {P = λ o. (w : Word) × (o ≡ Some w) × (w.text ≡ text)}
+    (it_is (λ s. refl)) (said (keep (λ w same. (w, refl, same)) (any_word_goes text (behind_kind proto s ks))))) (no_no_ports proto s ks))))
 
-algo_goes : (algo : Algo) (ks : List TokenKind) → Goes map_kind (λ k. algo_of k ≡ algo) (onto (algo_pieces algo) ks) ks
-unfolding map_kind
-algo_goes Algos.Dynamic ks = pick_first (it_is (λ s. refl)) (says_goes (codes "dynamic") MapKind.Dynamic (λ k. algo_of k ≡ Algos.Dynamic) ks (λ s. refl))
-algo_goes Algos.Netmap ks = static_goes (codes "netmap") Algos.Netmap (λ w span same. rw same refl) ks
-algo_goes Algos.Npt66 ks = static_goes (codes "npt66") Algos.Npt66 (λ w span same. rw same refl) ks
+algo_goes : (algo : Algo) (proto : Option ℕ) (s : Side) (ks : List TokenKind)
+    → Goes map_kind (λ k. algo_of k ≡ algo) (onto (algo_pieces algo) (behind_kind proto s ks)) (behind_kind proto s ks)
+unfolding map_kind kind_details
+algo_goes Algos.Dynamic proto s ks =
+    pick_first (it_is (λ s. refl)) (make {P = λ a. Anything a.0 × Anything a.1} (λ ts a q. refl) (said (turn (no_algo proto s ks) (no_no_ports proto s ks))))
+algo_goes Algos.Netmap proto s ks = static_goes (codes "netmap") Algos.Netmap (λ w none span same. rw same refl) proto s ks
+algo_goes Algos.Npt66 proto s ks = static_goes (codes "npt66") Algos.Npt66 (λ w none span same. rw same refl) proto s ks
+
+no_string : (algo : Algo) (ks : List TokenKind) → Sees false (meaning map_ruleset).starts (onto (algo_pieces algo) ks)
+unfolding map_ruleset
+no_string Algos.Dynamic ks = it_is (λ s. refl)
+no_string Algos.Netmap ks = it_is (λ s. refl)
+no_string Algos.Npt66 ks = it_is (λ s. refl)
 
 arrow_goes : (a : Arrow) (ks : List TokenKind) → Goes arrow (λ tree. arrow_of_sign tree ≡ a) (onto (arrow_pieces a) ks) ks
 unfolding arrow
@@ -192,23 +210,35 @@ module _ (ifaces : List Iface) (model : Model) where
       ∙ onto_both (w ++ al ++ pr) si (onto ar (onto so (onto pa ks))) ∙ onto_both (w ++ al) pr (onto si (onto ar (onto so (onto pa ks))))
       ∙ onto_both w al (onto pr (onto si (onto ar (onto so (onto pa ks)))))
 
-  pub map_goes : (m : Map) → IsFineMap m → (ks : List TokenKind) → Goes map (SaysPartOf ifaces model (OfMap m)) (onto (map_within m) (feed ∷ ks)) (feed ∷ ks)
-  unfolding map
-  map_goes m is ks =
-      let to = feed ∷ ks in
-      let k5 = onto (optional_pieces (pass_pieces model) m.filter) to in
+  -- what stands behind the interface says the map, whatever the interface is
+  abbrev SaysRest : Map → MapRest → Type 0
+  SaysRest m rest = (i : WrittenIface) (span : Span) → SaysOn ifaces model m.on i → SaysPartOf ifaces model (OfMap m) (rest i span)
+
+  translation_goes : (m : Map) → IsFineMap m → (ks : List TokenKind) → Goes translation (SaysRest m)
+      (onto (algo_pieces m.algo) (behind_kind m.proto m.inside (onto (arrow_pieces m.arrow)
+      (onto (side_pieces m.outside) (onto (optional_pieces (pass_pieces model) m.filter) (feed ∷ ks)))))) (feed ∷ ks)
+  unfolding translation
+  translation_goes m is ks =
+      let k5 = onto (optional_pieces (pass_pieces model) m.filter) (feed ∷ ks) in
       let k4 = onto (side_pieces m.outside) k5 in
       let k3 = onto (arrow_pieces m.arrow) k4 in
-      let k2 = onto (side_pieces m.inside) k3 in
-      let k1 = onto (optional_pieces one_proto_pieces m.proto) k2 in
-      subst (λ from. Goes map (SaysPartOf ifaces model (OfMap m)) from to) (sym (map_kinds m to))
-      (make
-      {P = λ a. SaysOn ifaces model m.on a.0 × ((algo_of a.1.0 ≡ m.algo) ×
-      (SaysProto m.proto a.1.1.0 × (SaysSide m.inside a.1.1.1.0 × ((arrow_of_sign a.1.1.1.1.0 ≡ m.arrow) × (SaysSide m.outside a.1.1.1.1.1.0 × SaysPass m.filter a.1.1.1.1.1.1)))))}
-      (λ ts a q. says_map m a.0 a.1.0 a.1.1.0 a.1.1.1.0 a.1.1.1.1.0 a.1.1.1.1.1.0 a.1.1.1.1.1.1 (span_of ts) q.0 q.1.0 q.1.1.0 q.1.1.1.0 q.1.1.1.1.0 q.1.1.1.1.1.0 q.1.1.1.1.1.1)
-      (said (turn (iface_goes ifaces model m.on is.on (onto (algo_pieces m.algo) k1))
-      (turn (algo_goes m.algo k1)
+      make
+      {P = λ a. (algo_of a.0 ≡ m.algo) ×
+      (SaysProto m.proto a.1.0 × (SaysSide m.inside a.1.1.0 × ((arrow_of_sign a.1.1.1.0 ≡ m.arrow) × (SaysSide m.outside a.1.1.1.1.0 × SaysPass m.filter a.1.1.1.1.1))))}
+      (λ ts a q i span on. says_map m i a.0 a.1.0 a.1.1.0 a.1.1.1.0 a.1.1.1.1.0 a.1.1.1.1.1 span on q.0 q.1.0 q.1.1.0 q.1.1.1.0 q.1.1.1.1.0 q.1.1.1.1.1)
+      (turn (algo_goes m.algo m.proto m.inside k3)
       (turn (proto_goes m.proto is.proto m.inside k3)
       (turn (side_goes m.inside is.inside k3 (inr (inr (arrow_head m.arrow k4))))
       (turn (arrow_goes m.arrow k4)
-      (turn (side_goes m.outside is.outside k5 (pass_head m.filter ks)) (pass_goes m.filter is.filter ks)))))))))
+      (turn (side_goes m.outside is.outside k5 (pass_head m.filter ks)) (pass_goes m.filter is.filter ks))))))
+
+  pub map_goes : (m : Map) → IsFineMap m → (ks : List TokenKind) → Goes map (SaysPartOf ifaces model (OfMap m)) (onto (map_within m) (feed ∷ ks)) (feed ∷ ks)
+  unfolding map map_rest
+  map_goes m is ks =
+      let to = feed ∷ ks in
+      let k3 = onto (arrow_pieces m.arrow) (onto (side_pieces m.outside) (onto (optional_pieces (pass_pieces model) m.filter) to)) in
+      let k1 = behind_kind m.proto m.inside k3 in
+      subst (λ from. Goes map (SaysPartOf ifaces model (OfMap m)) from to) (sym (map_kinds m to))
+      (make {P = λ a. SaysOn ifaces model m.on a.0 × SaysRest m a.1} (λ ts a q. q.1 a.0 (span_of ts) q.0)
+      (said (turn (iface_goes ifaces model m.on is.on (onto (algo_pieces m.algo) k1))
+      (pick_second (no_string m.algo k1) (translation_goes m is ks)))))

@@ -8,7 +8,7 @@ use Rattle.npf_lexer.specs.declared.token.TokenKind.TheVariants as Kind
 use Rattle.npf_syntax.specs.declared.{procedure.{Call.Call, Opt.Opt}, stmt.Stmt.Stmt, word.Str.Str}
 use Rattle.npf_model.specs.declared.{iface.Iface.Iface, model.Model.Model, procedure.Procedure.Procedure}
 use Rattle.npf_phrase.specs.Grammar.{Grammar, preceded}
-use Rattle.npf_parser_values.specs.Token.{quoted_name, sign, span_of, when}
+use Rattle.npf_parser_values.specs.{Token.{quoted_name, sign, span_of, when}, Value.iface}
 use Rattle.npf_parser.specs.{Rule.ends_item, Procedure.{log_name, opt, options, call, calls}, Stmt.procedure}
 use Rattle.npf_expand.specs.Procedure.{log_name as name_of_log, with_option, with_options, with_call, with_calls}
 use Rattle.npf_show.specs.Piece.{Piece, glued, spaced, indent, line_end, closing_line, optional_pieces, comma_list}
@@ -94,7 +94,8 @@ option_goes (MinTtl n) small ks =
 option_goes (MaxMss n) small ks =
     pick_second (it_is (λ s. refl)) (pick_first (it_is (λ s. refl))
     (make (λ ts number is p. ap (λ m. record p { max_mss = Some m }) (ap (λ m. min m 65535) is ∙ omega (arith, small))) (named_goes (to_goes 65535 n ks (omega (arith, small))))))
-option_goes NoDf small ks = pick_second (it_is (λ s. refl)) (pick_second (it_is (λ s. refl)) (make (λ ts a is p. refl) (quoted_name_goes (codes "no-df") ks)))
+option_goes NoDf small ks =
+    pick_second (it_is (λ s. refl)) (pick_second (it_is (λ s. refl)) (pick_first (it_is (λ s. refl)) (make (λ ts a is p. refl) (quoted_name_goes (codes "no-df") ks))))
 
 options_go : (o : NormalOption) (os : List NormalOption) → All FitsOption (o ∷ os) → (ks : List TokenKind) → HeadIn (feed ∷ []) ks
     → Goes options (λ trees. Each IsOption trees (o ∷ os)) (onto (comma_list option_pieces (o ∷ os)) ks) ks
@@ -145,15 +146,15 @@ unfolding call
 call_goes (LogTo name) is ks =
     pick_first (it_is (λ s. refl)) (make {P = λ n. name_of_log n ≡ name} (λ ts n same p. ap (λ n. record p { log = Some n }) same) (said (signed (log_goes name is (feed ∷ ks)))))
 call_goes (Normal first others) is ks =
-    pick_second (it_is (λ s. refl))
-    (make {P = λ trees. Each IsOption trees (first ∷ others)} (λ ts trees each p. with_each trees (first ∷ others) each p) (said (signed (options_go first others is (feed ∷ ks) (inl (ks, refl))))))
+    pick_second (it_is (λ s. refl)) (pick_second (it_is (λ s. refl))
+    (make {P = λ trees. Each IsOption trees (first ∷ others)} (λ ts trees each p. with_each trees (first ∷ others) each p) (said (signed (options_go first others is (feed ∷ ks) (inl (ks, refl)))))))
 
 line_head : (line : CallLine) (ks : List TokenKind) → HeadIn (Kind.Word (codes "log") ∷ Kind.Word (codes "normalize") ∷ []) (onto (line_within line) ks)
 line_head (LogTo name) ks = inl (_, refl)
 line_head (Normal first others) ks = inr (inl (_, refl))
 
 calls_go : (lines : List CallLine) → All FitsLine lines → (ks : List TokenKind) → Goes calls (λ trees. Each IsCall trees lines) (feed ∷ onto (flat_map call_row lines) (close ∷ ks)) (close ∷ ks)
-unfolding calls call log_name options opt
+unfolding calls call log_name options opt iface
 calls_go lines all ks =
     opened_goes call ends_item IsCall FitsLine line_within call_row (λ line ks. onto_both (line_within line) line_end ks) (λ line is ks. call_goes line is ks)
     (λ line is ks. none_is (Kind.Word (codes "log") ∷ Kind.Word (codes "normalize") ∷ []) (λ s. refl) (line_head line (feed ∷ ks)))

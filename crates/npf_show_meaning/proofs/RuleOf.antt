@@ -11,14 +11,14 @@ use Rattle.npf_model.specs.declared.{iface.Iface.Iface, model.Model.Model, rule.
 use Rattle.npf_model.specs.{declared.rule.StateOpt.TheVariants.{Not, OnInterface, Everywhere}, Count.elements_of}
 use Rattle.npf_phrase.specs.Grammar.{meaning, optional, preceded, ◌&◌}
 use Rattle.npf_parser_values.specs.{Token.{string, name_string, quoted, says, span_of}, Value.iface}
-use Rattle.npf_parser.specs.Rule.{answer, action, stateful, direction, ends_walk, on, rule}
+use Rattle.npf_parser.specs.Rule.{answer, action, stateful, direction, ends_walk, on, owner, rule, layer}
 use Rattle.npf_expand_values.specs.{Declarations.table_number, Iface.{iface_faults, on_iface}, Source.declared_of}
 use Rattle.npf_expand.specs.Rule.{return_of, decision_of, state_of_words, dir_of, filter_count, on_faults, rule_faults, rule_of_tree}
 use Rattle.npf_show.specs.{Bound.{dir_pieces, on_pieces}, Filter.filter_pieces, Piece.optional_pieces}
 use Rattle.npf_show.specs.Rule.{return_pieces, decision_pieces, state_pieces, final_pieces, name_of_procedure, apply_pieces, rule_pieces}
 use Rattle.std.specs.Prelude.{slice_get}
 use Rattle.npf_show_meaning.specs.Regular.{IsRegularOn}
-use Rattle.npf_show_meaning.proofs.Goes.{Goes, Sees, HeadIn, token_goes, make, turn, keep, pick_first, pick_second, fit, said, absent, present, it_is, none_is, says_goes, pure_goes}
+use Rattle.npf_show_meaning.proofs.Goes.{Goes, Sees, HeadIn, Anything, token_goes, make, turn, keep, pick_first, pick_second, fit, said, absent, present, it_is, none_is, says_goes, pure_goes}
 use Rattle.npf_show_meaning.proofs.{Lists.{onto, onto_both}, Says.nameless, Values.keyword}
 use Rattle.npf_show_meaning.proofs.{FilterOf.{SaysFilter, IsFineFilter, filter_goes, filter_head, filter_starts}, EndsOf.where_stops, Blocks.feed}
 
@@ -210,6 +210,11 @@ module _ (ifaces : List Iface) (model : Model) where
   state_head OnInterface ks here = inl (_, refl)
   state_head Everywhere ks here = inr (inl (_, refl))
 
+  -- nothing that is written says whose sockets a rule is about
+  no_owner : (ks : List TokenKind) → HeadIn where_stops ks → Goes (optional owner) Anything ks ks
+  unfolding owner
+  no_owner ks here = absent {g = owner} (none_is where_stops (λ s. refl) here) tt
+
   pub rule_goes : (r : Rule) → IsFineRule r → (ks : List TokenKind) → Goes rule (SaysRule r) (onto (rule_pieces model r) (feed ∷ ks)) (feed ∷ ks)
   unfolding rule
   rule_goes r is ks =
@@ -232,15 +237,17 @@ module _ (ifaces : List Iface) (model : Model) where
         last = a.1.1.1.0;
         on = a.1.1.1.1.0;
         filter = a.1.1.1.1.1.0;
-        apply = a.1.1.1.1.1.1;
+        owner = a.1.1.1.1.1.1.0;
+        apply = a.1.1.1.1.1.1.1;
         span = span_of ts;
-      }) q.0 q.1.0 q.1.1.0 q.1.1.1.0 q.1.1.1.1.0 q.1.1.1.1.1.0 q.1.1.1.1.1.1)
+      }) q.0 q.1.0 q.1.1.0 q.1.1.1.0 q.1.1.1.1.0 q.1.1.1.1.1.0 q.1.1.1.1.1.1.1)
       (turn (action_goes r.decision k1 (state_head r.state k2 h2))
       (turn (state_goes r.state k2 h2)
       (turn (dir_goes r.dir k3 (λ none. not_dir k3 h3))
       (turn (final_goes r.last k4 h4)
       (turn (on_goes r.on is.on k5 (λ none. not_on k5 h5))
-      (turn (filter_goes ifaces model r is.filter k6 (apply_head r.procedure ks)) (apply_goes r.procedure is.procedure ks)))))))) where
+      (turn (filter_goes ifaces model r is.filter k6 (apply_head r.procedure ks))
+      (turn (no_owner k6 (apply_head r.procedure ks)) (apply_goes r.procedure is.procedure ks))))))))) where
         apply_head : (number : Option ℕ) (ks : List TokenKind) → HeadIn where_stops (onto (optional_pieces (apply_pieces model) number) (feed ∷ ks))
         apply_head None ks = inr (inl (ks, refl))
         apply_head (Some number) ks = inl (_, refl)
@@ -255,6 +262,18 @@ module _ (ifaces : List Iface) (model : Model) where
   bound_goes dir bound is ks here =
       let behind = onto (optional_pieces on_pieces bound) ks in
       turn (dir_goes dir behind (λ none. no_dir behind (bound_head bound ks here))) (on_goes bound is ks (λ none. no_on ks here))
+
+  no_layer : (ks : List TokenKind) → HeadIn bound_stops ks → Goes (optional layer) Anything ks ks
+  no_layer ks here = absent {g = layer} (none_is bound_stops (λ s. refl) here) tt
+
+  -- the same of a group's head, in which nothing says a layer
+  pub head_bound_goes : (dir : Option Dir) (bound : Option OnIf) → IfSome bound (IsRegularOn ifaces model) → (ks : List TokenKind) → HeadIn head_stops ks
+      → Goes (optional direction & optional layer & optional on) (λ a. (option_map dir_of a.0 ≡ dir) × (Anything a.1.0 × OnBound bound a.1.1))
+      (onto (optional_pieces dir_pieces dir) (onto (optional_pieces on_pieces bound) ks)) ks
+  head_bound_goes dir bound is ks here =
+      let behind = onto (optional_pieces on_pieces bound) ks in
+      let first = bound_head bound ks here in
+      turn (dir_goes dir behind (λ none. no_dir behind first)) (turn (no_layer behind first) (on_goes bound is ks (λ none. no_on ks here)))
 
   -- a rule begins with its decision
   decision_head : (d : Decision) (ks : List TokenKind) → HeadIn (keyword (codes "pass") ∷ keyword (codes "block") ∷ []) (onto (decision_pieces d) ks)

@@ -72,6 +72,7 @@ sign_ends Signs.Both text is = refl
 sign_ends Signs.Right text is = refl
 sign_ends Signs.Greater text is = refl
 sign_ends Signs.Equals text is = refl
+sign_ends Signs.Exclamation text is = refl
 sign_ends Signs.OpenBrace text is = refl
 sign_ends Signs.CloseBrace text is = refl
 sign_ends Signs.OpenParen text is = refl

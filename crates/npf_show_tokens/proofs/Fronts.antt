@@ -94,6 +94,7 @@ sign_begins p Signs.Comma rest ends = refl
 sign_begins p Signs.Slash rest ends = refl
 sign_begins p Signs.Dash rest ends = dash_begins p rest ends
 sign_begins p Signs.Colon rest ends = colon_begins p rest ends
+sign_begins p Signs.Exclamation rest ends = refl
 
 -- digits are a number, where they fit 32 bits
 pub number_begins : (p : At) (n : ℕ) (rest : List ℕ) → n < 2 ^ 32 → not (is_run_byte (slice_index rest 0)) ≡ true

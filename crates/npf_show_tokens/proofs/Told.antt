@@ -46,6 +46,7 @@ sign_kind_is Signs.Comma = refl
 sign_kind_is Signs.Slash = refl
 sign_kind_is Signs.Dash = refl
 sign_kind_is Signs.Colon = refl
+sign_kind_is Signs.Exclamation = refl
 
 sign_told : (p : At) (text : List ℕ) (pieces : List Piece) → IsSignBefore text (spelled pieces) → ((q : At) → Found q pieces) → Found p (Pieces.Sign text ∷ pieces)
 sign_told p text pieces is behind =

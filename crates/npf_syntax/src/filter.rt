@@ -65,7 +65,8 @@ pub enum EndsTree {
     },
 }
 
-/// Where packets come from and go to: anywhere, from an end and to another if it is said, or to an end alone.
+/// Where packets come from and go to: anywhere, from an end and to another if it is said, or to an end alone. Or what a
+/// program of pcap-filter(7) says, which isn't built.
 #[derive(Debug, Drop)]
 pub enum Where {
     All {
@@ -74,6 +75,9 @@ pub enum Where {
     From {
         from: Boxed<EndsTree>,
         to: Option<Boxed<EndsTree>>,
+        span: Span,
+    },
+    PcapFilter {
         span: Span,
     },
     To {

@@ -6,16 +6,18 @@ use crate::word::Str;
 use npf_types::Span;
 
 /// What stands before a group's brace: its name, with a direction and an interface if they are said; or that it is the
-/// default group.
+/// default group. `layer` is where `layer-2` stands, which isn't built.
 #[derive(Debug, Drop)]
 pub enum GroupHead {
     Named {
         name: Str,
         dir: Option<Direction>,
+        layer: Option<Span>,
         on: Option<Boxed<IfaceTree>>,
         span: Span,
     },
     Default {
+        layer: Option<Span>,
         span: Span,
     },
 }

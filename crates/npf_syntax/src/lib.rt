@@ -3,7 +3,7 @@
 // Each line of the grammar with alternatives is an enum with a variant for each, and each other line a struct. Their
 // fields are the parts of the line in its order, but for single quoted words: an optional part is an `Option`, an
 // optional quoted word a `bool`, a repeated part a `List`, and a choice of quoted words an enum of them. A wide part stands
-// behind a box (`Boxed`), which contracts do not see.
+// behind a box (`Boxed`), which contracts do not see. Of what isn't built the tree keeps the place, and nothing of what is said there.
 //
 // The contract: these types say no more than their fields. Each has the span of the text that it was read from, from its
 // first token to its last.

@@ -3,11 +3,20 @@ use crate::value::Value;
 use crate::word::Word;
 use npf_types::Span;
 
-/// How a map translates: by ports that are drawn, or by a fixed rule, which may be named.
+/// How a map translates: by ports that are drawn, or by a fixed rule; with the algorithm that is named, if one is. `no_ports` is where
+/// `no-ports` stands, which isn't built.
 #[derive(Debug, Drop)]
 pub enum MapKind {
-    Dynamic { span: Span },
-    Static { algo: Option<Word>, span: Span },
+    Dynamic {
+        algo: Option<Word>,
+        no_ports: Option<Span>,
+        span: Span,
+    },
+    Static {
+        algo: Option<Word>,
+        no_ports: Option<Span>,
+        span: Span,
+    },
 }
 
 /// Which way a map translates: outward, inward, or both.

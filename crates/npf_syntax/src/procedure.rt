@@ -10,17 +10,20 @@ pub enum LogName {
 }
 
 /// An option of normalisation, by its name as a string: the least time to live, at most 255; the greatest segment size, at
-/// most 65535; or that packets may be fragmented.
+/// most 65535; that packets may be fragmented; or that identifications are drawn, which isn't built.
 #[derive(Clone, Copy, Debug, PartialEq, Eq)]
 pub enum Opt {
     MinTtl { number: Number, span: Span },
     MaxMss { number: Number, span: Span },
     NoDf { span: Span },
+    RandomId { span: Span },
 }
 
-/// What a procedure does to a packet: it logs it, or normalises it by one option or more.
+/// What a procedure does to a packet: it logs it, or normalises it by one option or more; or it sends it out of an
+/// interface, which isn't built.
 #[derive(Debug, Drop)]
 pub enum Call {
     Log { name: LogName, span: Span },
     Normalize { options: List<Opt>, span: Span },
+    Route { span: Span },
 }

@@ -40,8 +40,8 @@ pub enum Stateful {
     StatefulAll { span: Span },
 }
 
-/// A rule: what it does, whether it keeps state, its direction and interface if they are said, its filter, and the
-/// procedure that it applies if it names one.
+/// A rule: what it does, whether it keeps state, its direction and interface if they are said, its filter, whose sockets
+/// it is about if it says so, and the procedure that it applies if it names one.
 #[derive(Debug, Drop)]
 pub struct RuleTree {
     pub action: RuleAction,
@@ -51,6 +51,8 @@ pub struct RuleTree {
     pub last: bool,
     pub on: Option<Boxed<IfaceTree>>,
     pub filter: Filter,
+    /// Where a user or a group is named, which isn't built.
+    pub owner: Option<Span>,
     /// The procedure's name.
     pub apply: Option<Str>,
     pub span: Span,

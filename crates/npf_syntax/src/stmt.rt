@@ -24,7 +24,7 @@ pub enum TableType {
 }
 
 /// A statement: the definition of a variable, `set`, `alg`, `table`, `map`, `group` or `procedure`. A table's name is a
-/// `Name`, the name of its file UTF-8.
+/// `Name`, the name of its file UTF-8. A map may be the place of dynamic maps, which isn't built.
 #[derive(Debug, Drop)]
 pub enum Stmt {
     Define {
@@ -55,6 +55,10 @@ pub enum Stmt {
         arrow: ArrowTree,
         right: Boxed<SideTree>,
         pass: Option<Boxed<Filter>>,
+        span: Span,
+    },
+    MapRuleset {
+        iface: Boxed<IfaceTree>,
         span: Span,
     },
     Group {

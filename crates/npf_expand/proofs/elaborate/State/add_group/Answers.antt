@@ -15,9 +15,9 @@ returns-in_ok-push-in-Named c =
       met = c.in_ok-group.ensures.met;
       adds = λ none. record {
         groups = c.in_ok-push-in-Named.ensures.items ∙ ap (λ (g : Group). state.groups.items ++ g ∷ []) (c.in_ok-group.ensures.built none)
-            ∙ ap (λ (gs : List Group). state.groups.items ++ gs) (named_is ifaces env declared c.args.head.now c.args.items.now span _ _ _ _ c.in-Named.is);
+            ∙ ap (λ (gs : List Group). state.groups.items ++ gs) (named_is ifaces env declared c.args.head.now c.args.items.now span _ _ _ _ _ c.in-Named.is);
         defaults = sym (append-nil state.defaults.items) ∙ ap (λ (gs : List Group). state.defaults.items ++
-            gs) (default_none ifaces env declared c.args.head.now c.args.items.now span _ _ _ _ c.in-Named.is);
+            gs) (default_none ifaces env declared c.args.head.now c.args.items.now span _ _ _ _ _ c.in-Named.is);
         maps = sym (append-nil state.maps.items);
       };
     }
@@ -32,9 +32,9 @@ returns-in_ok-push-in-Default c =
       env = λ text. refl;
       met = c.in_ok-group.ensures.met;
       adds = λ none. record {
-        groups = sym (append-nil state.groups.items) ∙ ap (λ (gs : List Group). state.groups.items ++ gs) (named_none ifaces env declared c.args.head.now c.args.items.now span _ c.in-Default.is);
+        groups = sym (append-nil state.groups.items) ∙ ap (λ (gs : List Group). state.groups.items ++ gs) (named_none ifaces env declared c.args.head.now c.args.items.now span _ _ c.in-Default.is);
         defaults = c.in_ok-push-in-Default.ensures.items ∙ ap (λ (g : Group). state.defaults.items ++ g ∷ []) (c.in_ok-group.ensures.built none)
-            ∙ ap (λ (gs : List Group). state.defaults.items ++ gs) (default_is ifaces env declared c.args.head.now c.args.items.now span _ c.in-Default.is);
+            ∙ ap (λ (gs : List Group). state.defaults.items ++ gs) (default_is ifaces env declared c.args.head.now c.args.items.now span _ _ c.in-Default.is);
         maps = sym (append-nil state.maps.items);
       };
     }
