@@ -7,9 +7,10 @@ use Rattle.npf_syntax.specs.declared.stmt.Stmt.{Stmt}
 use Rattle.npf_model.specs.declared.{iface.Iface.Iface, model.Model.Model}
 use Rattle.npf_parser_values.specs.Value.{iface, one, ones, one_list, protocols, number_value, address_value, table_value, function, function_value, written, value, listed_values, value_list, values}
 use Rattle.npf_parser.specs.Filter.{family, detail, proto_part, addresses, ports, ends, the_ends, filter as the_filter}
-use Rattle.npf_parser.specs.{Rule.{answer, action, stateful, direction, ends_walk, on, rule, item, head, items}, Map.{map_kind, arrow, side}}
+use Rattle.npf_parser.specs.Rule.{answer, action, stateful, direction, ends_walk, on, relation, relations, owner, rule, item, head, items}
+use Rattle.npf_parser.specs.Map.{kind_details, map_kind, arrow, side, map_ruleset}
 use Rattle.npf_parser.specs.Procedure.{log_name, opt, options, call, calls}
-use Rattle.npf_parser.specs.Stmt.{define, setting, set, alg, table_type, table, map as the_map, group, procedure, stmt, ends_stmt, stmts, file}
+use Rattle.npf_parser.specs.Stmt.{define, setting, set, alg, table_type, table, translation, map_rest, map as the_map, group, procedure, stmt, ends_stmt, stmts, file}
 use Rattle.npf_show.specs.{Group.{item_line, group_head, group_lines}, Map.map_line, Model.model_pieces}
 use Rattle.npf_show.specs.Piece.{Piece, glued, line_end, closing_line, optional_pieces}
 use Rattle.npf_show.specs.Piece as Pieces
@@ -125,8 +126,8 @@ module _ (ifaces : List Iface) (model : Model) where
   part_head (OfProcedure p) ks = inr (inr (inr (inr (inr (inl (_, refl))))))
 
   stmts_go : (parts : List Part) → All IsFinePart parts → Goes stmts (λ trees. Each IsPartOf trees parts) (onto (flat_map row parts) end_of_text) end_of_text
-  unfolding stmts stmt set setting alg table table_type the_map map_kind side arrow group head items item procedure calls call options opt log_name define
-      rule action answer stateful direction ends_walk on the_filter family proto_part detail the_ends ends ports addresses protocols one_list ones
+  unfolding stmts stmt set setting alg table table_type the_map map_rest map_ruleset translation map_kind kind_details side arrow group head items item procedure calls call
+      options opt log_name define rule action answer stateful direction ends_walk on relation relations owner the_filter family proto_part detail the_ends ends ports addresses protocols one_list ones
       one values value_list listed_values value written number_value address_value table_value function function_value iface
   stmts_go parts all =
       bare_goes stmt ends_stmt IsPartOf IsFinePart within row row_is (λ part is ks. part_goes part is ks)
