@@ -1,10 +1,11 @@
 -- What decodes is possible.
-use Rattle.std.proofs.{Common.{◌≡◌, ◌<◌, ◌≤◌, ℕ, ◌+◌, ◌/◌, ◌^◌, Bool, true, false, Some, List, length, Ok, Err, refl, sym, ap, ◌∙◌, subst, arith}, lemmas.Bool.Decides.nat_tests}
-use Rattle.std.specs.Prelude.{Result, MatchResult, ◌==◌, nat_lt, if◌then◌else◌, slice_index}
+use Rattle.std.proofs.Common.{◌≡◌, ◌<◌, ◌≤◌, ℕ, ◌+◌, ◌/◌, ◌^◌, Bool, true, false, Some, List, length, Ok, Err, refl, sym, ap, ◌∙◌, subst, arith}
+use Rattle.std.{proofs.lemmas.Bool.Decides.nat_tests, specs.Prelude.{Result, MatchResult, ◌==◌, nat_lt, if◌then◌else◌, slice_index}}
 use Rattle.npf_fields.specs.Field.{number16, number32, number64, number128}
-use Rattle.npf_types.specs.declared.{address.Addr.{Addr, TheVariants.{V4, V6}}, facts.{Facts.Facts, L4.{L4, TheVariants.{Tcp, Udp, Icmp, Icmp6, Other}}}, link.Link.{Link, TheVariants.{Ethernet, Raw}}}
+use Rattle.npf_types.specs.declared.address.Addr.{Addr, TheVariants.{V4, V6}}
+use Rattle.npf_types.specs.declared.{facts.{Facts.Facts, L4.{L4, TheVariants.{Tcp, Udp, Icmp, Icmp6, Other}}}, link.Link.{Link, TheVariants.{Ethernet, Raw}}}
 use Rattle.npf_packet.specs.declared.decoded.Decoded.{Decoded, TheVariants.Ip}
-use Rattle.npf_packet.specs.{Decoder.{Decodes, DecodesIp, packet_at, version_behind}, Ipv4.{fields_v4, packet_v4}}
+use Rattle.npf_packet.specs.{Decoder.{DecodesIp, packet_at, version_behind}, Ipv4.{fields_v4, packet_v4}}
 use Rattle.npf_packet.specs.Ipv6.{IsBehindChain, IsPacketV6, behind_last, end_v6, first_header, is_extension, next_header}
 use Rattle.npf_packet.specs.{PacketField.{HasIpHeader, HasPorts, HasUpperFields}, Upper.Carries}
 use Rattle.npf_packet.proofs.{ChainLemmas.chain_keeps, PacketFieldLemmas.{has_fields, has_protocol}, UpperLemmas.is_carried}

@@ -1,12 +1,14 @@
 -- Rules and maps see of a packet what they test.
-use Rattle.std.proofs.Common.{◌≡◌, ℕ, Bool, true, false, ◌&&◌, Option, Some, None, refl, sym, ap, ◌∙◌}
-use Rattle.std.specs.Prelude.{◌==◌, bit_and}
-use Rattle.npf_types.specs.declared.{address.Addr.Addr, decision.Decision.{Decision, TheVariants.{Pass, Block}}, direction.Dir.{Dir, TheVariants.{In, Out}}, facts.{Facts.Facts, L4.{L4, TheVariants.{Tcp, Udp, Icmp, Icmp6, Other}}}}
-use Rattle.npf_types.specs.declared.interface.IfId.{IfId}
+use Rattle.std.proofs.Common.{◌≡◌, ℕ, ◌+◌, List, [], ◌∷◌, length, Bool, true, false, ◌&&◌, Option, Some, None, refl, sym, ap, ◌∙◌}
+use Rattle.std.specs.{Option.option_or, Prelude.{◌==◌, bit_and, if◌then◌else◌}}
+use Rattle.npf_types.specs.declared.{decision.Decision.{Decision, TheVariants.{Pass, Block}}, direction.Dir.{Dir, TheVariants.{In, Out}}}
+use Rattle.npf_types.specs.declared.{facts.{Facts.Facts, L4.{L4, TheVariants.{Tcp, Udp, Icmp, Icmp6, Other}}}, interface.IfId.IfId}
 use Rattle.npf_model.specs.declared.{map.Map.Map, rule.{Rule.Rule, StateOpt.{StateOpt, TheVariants.{Not, OnInterface, Everywhere}}}}
-use Rattle.npf_model.specs.Describes.{Tables, describes_packet, destination_of, fits_ends, fits_family, fits_flags, fits_icmp, fits_kept, fits_protocol, is_message, opens_if_tcp, shows_flags, source_of}
+use Rattle.npf_model.specs.Describes.{Tables, describes_packet, destination_of, fits_ends, fits_family, fits_flags, fits_icmp, fits_kept, fits_protocol, is_message, opens_if_tcp}
+use Rattle.npf_model.specs.Describes.{shows_flags, source_of}
 use Rattle.npf_model.specs.{MapOf.{comes_inside, fits_filter, fits_map_protocol, fits_segment, fits_side, goes_outside}, Place.{fits_dir, fits_on, is_on}}
-use Rattle.npf_possible.specs.{PossibleLaw.{MapsTestAlike, RulesTestAlike}, Tested.{SameTested, control_bits_of, message_of}}
+use Rattle.npf_model.specs.{MapOf.map_applies, Verdict.{PlacedRule, applies, decides, first_where, group_answer, last_where, matches, rules_of, verdict}, declared.group.Group.Group}
+use Rattle.npf_possible.specs.{PossibleLaw.{MapPlacesAlike, MapsTestAlike, RulesTestAlike, VerdictsAlike}, Tested.{SameTested, control_bits_of, message_of}}
 
 -- the tests of control bits and of messages, over what they look at
 shown : ℕ → ℕ → Option ℕ → Bool
@@ -96,3 +98,40 @@ maps_test_alike map tables one other ifid dir same =
     let protocol = ap (fits_map_protocol map.proto) same.protocol in
     let on : is_on map.on ifid ≡ is_on map.on ifid = refl in
     both (both (both on protocol) (filter-alike tables one other same map.filter)) (segment-alike tables one other same map dir)
+
+-- tests that agree on each element agree on lists
+module _ {X : Type 0} (f g : X → Bool) (same : (x : X) → f x ≡ g x) where
+  first-alike : (n : ℕ) (xs : List X) → first_where f n xs ≡ first_where g n xs
+  first-alike n [] = refl
+  first-alike n (x ∷ xs) = rw (same x) (ap (λ rest. if g x then Some n else rest) (first-alike (n + 1) xs))
+
+  last-alike : (n : ℕ) (xs : List X) → last_where f n xs ≡ last_where g n xs
+  last-alike n [] = refl
+  last-alike n (x ∷ xs) = rw (same x) (ap (λ rest. option_or rest (if g x then Some n else None)) (last-alike (n + 1) xs))
+
+module _ (tables : Tables) (one other : Facts) (ifid : IfId) (dir : Dir) (same : SameTested one other) where
+  match-alike : (placed : PlacedRule) → matches tables one ifid dir placed ≡ matches tables other ifid dir placed
+  match-alike placed =
+      ap (λ b. fits_dir placed.within_dir dir && fits_on placed.within_on ifid && b) (rules_test_alike placed.rule tables one other ifid dir same)
+
+  answer-alike : (n : ℕ) (rules : List PlacedRule) → group_answer tables one ifid dir n rules ≡ group_answer tables other ifid dir n rules
+  answer-alike n rules =
+      ap (λ first. option_or first (last_where (matches tables one ifid dir) n rules))
+      (first-alike (decides tables one ifid dir) (decides tables other ifid dir) (λ placed. ap (λ b. placed.rule.last && b) (match-alike placed)) n rules)
+      ∙ ap (option_or (first_where (decides tables other ifid dir) n rules)) (last-alike (matches tables one ifid dir) (matches tables other ifid dir) match-alike n rules)
+
+  verdict-alike : (n : ℕ) (groups : List Group) → verdict tables one ifid dir n groups ≡ verdict tables other ifid dir n groups
+  verdict-alike n [] = refl
+  verdict-alike n (group ∷ groups) =
+      ap (λ answer. option_or (if applies tables one ifid dir group then answer else None) (verdict tables one ifid dir (n + length (rules_of group)) groups))
+      (answer-alike n (rules_of group))
+      ∙ ap (option_or (if applies tables other ifid dir group then group_answer tables other ifid dir n (rules_of group) else None))
+      (verdict-alike (n + length (rules_of group)) groups)
+
+pub verdicts_alike : VerdictsAlike
+verdicts_alike config one other ifid dir same = verdict-alike config.tables one other ifid dir same 0 config.model.groups
+
+pub map_places_alike : MapPlacesAlike
+map_places_alike config one other ifid dir same =
+    first-alike (map_applies config.tables one ifid dir) (map_applies config.tables other ifid dir)
+    (λ map. maps_test_alike map config.tables one other ifid dir same) 0 config.model.maps

@@ -9,6 +9,7 @@ use Rattle.npf_packet.specs.declared.decoded.Decoded.TheVariants.{Ip}
 use Rattle.npf_packet.specs.Decoder.{Decodes}
 use Rattle.npf_model.specs.declared.map.Map.{Map}
 use Rattle.npf_model.specs.declared.rule.Rule.{Rule}
+use Rattle.npf_model.specs.Configuration.{Configuration, map_place_of, verdict_of}
 use Rattle.npf_model.specs.Describes.{Tables, describes}
 use Rattle.npf_model.specs.MapOf.{map_applies}
 use Rattle.npf_possible.specs.Possible.{IsPossible}
@@ -42,3 +43,14 @@ abbrev pub MapsTestAlike : Type 0
 MapsTestAlike =
     (map : Map) (tables : Tables) (one other : Facts) (ifid : IfId) (dir : Dir) → SameTested one other
     → map_applies tables one ifid dir map ≡ map_applies tables other ifid dir map
+
+-- so one rule decides on both, and one map translates both
+abbrev pub VerdictsAlike : Type 0
+VerdictsAlike =
+    (config : Configuration) (one other : Facts) (ifid : IfId) (dir : Dir) → SameTested one other
+    → verdict_of config one ifid dir ≡ verdict_of config other ifid dir
+
+abbrev pub MapPlacesAlike : Type 0
+MapPlacesAlike =
+    (config : Configuration) (one other : Facts) (ifid : IfId) (dir : Dir) → SameTested one other
+    → map_place_of config one ifid dir ≡ map_place_of config other ifid dir

@@ -1,5 +1,6 @@
 -- Entries of rules, as they are laid out one behind the other.
-use Rattle.std.proofs.Common.{◌≡◌, ◌<◌, ◌≤◌, ℕ, ◌+◌, Bool, true, false, cond, List, [], ◌∷◌, ◌++◌, get_or, length, map, reverse, take, take_all, flat_map, refl, sym, ap, ◌∙◌, arith}
+use Rattle.std.proofs.Common.{◌≡◌, ◌<◌, ◌≤◌, ℕ, ◌+◌, Bool, true, false, cond, List, [], ◌∷◌, ◌++◌}
+use Rattle.std.proofs.Common.{get_or, length, map, reverse, take, take_all, flat_map, refl, sym, ap, ◌∙◌, arith}
 use Rattle.std.{specs.List.filter, proofs.lemmas.{Grind.flat_map-append, List.{append-nil, append_assoc, length-append, length-map, map-append, reverse-append, take_more}}}
 use Rattle.npf_model.specs.{declared.group.{Group.Group, Item.Item}, Verdict.{PlacedRule, all_rules, rules_at, rules_of}}
 use Rattle.npf_precedence.specs.declared.entry.RuleEntry.{RuleEntry}
