@@ -78,10 +78,10 @@ next_within : (bytes : List ℕ) (small : HasBytes bytes) (end k n a k' n' a' : 
     → next_header bytes end (record { kind = k; named_at = n; at = a }) ≡ Some (record { kind = k'; named_at = n'; at = a' }) → (k' < 2 ^ 8) × (a' ≤ end)
 next_within bytes small end k n a k' n' a' h = let byte = small a in (grind (arith, nat_tests), grind (arith, nat_tests))
 
-end_within : (bytes : List ℕ) (at end : ℕ) → end_v6 bytes at ≡ Ok end → at + 40 ≤ end
-end_within bytes at end h = grind (arith, nat_tests)
+end_within : (bytes : List ℕ) (end at : ℕ) → end_v6 bytes at ≡ Ok end → at + 40 ≤ end
+end_within bytes end at h = grind (arith, nat_tests)
 
-same_ok : {T E : Type 0} {x y : T} → (let r : Result T E = Ok x in r) ≡ Ok y → x ≡ y
+same_ok : {E T : Type 0} {x y : T} → (let r : Result T E = Ok x in r) ≡ Ok y → x ≡ y
 same_ok h = cc
 
 module _ (bytes : List ℕ) (small : HasBytes bytes) (at : ℕ) (facts : Facts) where
@@ -110,7 +110,7 @@ module _ (bytes : List ℕ) (small : HasBytes bytes) (at : ℕ) (facts : Facts) 
       let same = same_ok (sym (last_fields bytes at end last.kind last.named_at last.at plain.0 plain.1) ∙ is) in
       let within = chain_keeps (next_header bytes end) (λ x. (x.kind < 2 ^ 8) × (x.at ≤ end))
       (λ x y here e. next_within bytes small end x.kind x.named_at x.at y.kind y.named_at y.at e) (first_header bytes at) behind.chain.headers last behind.chain.chain
-      (small (at + 6), end_within bytes at end found.1.0) in
+      (small (at + 6), end_within bytes end at found.1.0) in
       let carries = subst (λ packet. Carries bytes packet (Ip facts)) (sym same) packet.1.1 in
       let carried = is_carried bytes (fields_v6 bytes at end last) facts within.1 carries in
       subst TellsProtocol carried.is (within.0, no_extension (number128 bytes (at + 8)) last.kind plain.0 plain.1)

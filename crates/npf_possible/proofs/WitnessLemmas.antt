@@ -6,12 +6,12 @@ use Rattle.byteorder.specs.{Endian.{big_bytes, big_number}, Numbers.big_number-r
 use Rattle.npf_fields.specs.Field.{number16, number32, number128}
 use Rattle.npf_types.specs.declared.{address.Addr.{Addr, TheVariants.{V4, V6}}, facts.{Facts.Facts, Segment.Segment}}
 use Rattle.npf_types.specs.declared.{facts.L4.{L4, TheVariants.{Tcp, Udp, Icmp, Icmp6, Other}}, link.Link.TheVariants.Raw}
-use Rattle.npf_packet.specs.{declared.decoded.Decoded.TheVariants.Ip, Decoder.Decodes, Icmp.echo_in_icmp, Icmpv6.echo_in_icmpv6, Ipv4.{fields_v4, packet_v4}}
+use Rattle.npf_packet.specs.{declared.decoded.Decoded.TheVariants.Ip, Decoder.Decodes, Icmp.echo_in_icmp, Icmpv6.echo_in_icmpv6, Ipv4.{fields_v4, packet_v4}, Ipv6.is_extension}
 use Rattle.npf_packet.{specs.{Packet.facts_of, PacketField.HasProtocol}, proofs.HeaderLemmas.fields_v6}
 use Rattle.npf_possible.specs.Possible.{AreAddresses, HasFieldSizes, IsCarried}
 use Rattle.npf_possible.specs.{PossibleLaw.{HasBytes, PossibleHasWitness}, Tested.{SameTested, control_bits_of, message_of}}
 use Rattle.npf_model.specs.Describes.{destination_of, source_of}
-use Rattle.npf_possible.specs.Witness.{address_bytes, checksum_of, header_bytes, ipv4_bytes, ipv6_bytes, upper_bytes, upper_sum, witness_bytes}
+use Rattle.npf_possible.specs.Witness.{address_bytes, checksum_of, ip_header, ipv4_bytes, ipv6_bytes, upper_bytes, carried_checksum, witness_bytes}
 
 -- what was written is read
 number16-reads : (n : ℕ) → n < 2 ^ 16 → number16 (big_bytes 2 n ++ []) 0 ≡ n
@@ -24,14 +24,13 @@ number32-reads n small =
     let start : number32 (big_bytes 4 n ++ []) 0 ≡ big_number 4 (big_bytes 4 n ++ []) = omega arith in
     start ∙ big_number-reads_back 4 n [] small
 
-number128-start : (bytes : List ℕ) → number128 bytes 0 ≡ big_number 16 bytes
-number128-start bytes = omega arith
-
 number128-reads : (n : ℕ) → n < 2 ^ 128 → number128 (big_bytes 16 n ++ []) 0 ≡ n
-number128-reads n small = number128-start (big_bytes 16 n ++ []) ∙ big_number-reads_back 16 n [] small
+number128-reads n small =
+    let start : number128 (big_bytes 16 n ++ []) 0 ≡ big_number 16 (big_bytes 16 n ++ []) = omega arith in
+    start ∙ big_number-reads_back 16 n [] small
 
-differs : (a b : ℕ) → a ≢ b → (a == b) ≡ false
-differs a b ne = grind (arith, nat_tests)
+differs : {n proto : ℕ} → proto ≢ n → (proto == n) ≡ false
+differs {n} {proto} ne = grind (arith, nat_tests)
 
 -- each of these is a byte
 pub record MadeOfBytes (bytes : List ℕ) : Type 0 where
@@ -78,7 +77,7 @@ upper_is_bytes (Icmp kind code echo) sum sizes = joined (joined (pair kind code 
 upper_is_bytes (Icmp6 kind code echo) sum sizes = joined (joined (pair kind code sizes.0 sizes.1) (written 2 sum)) (written 4 0)
 upper_is_bytes Other sum sizes = none
 
-header_is_bytes : (src : Addr) (facts : Facts) → facts.proto < 2 ^ 8 → MadeOfBytes (header_bytes src facts)
+header_is_bytes : (src : Addr) (facts : Facts) → facts.proto < 2 ^ 8 → MadeOfBytes (ip_header src facts)
 header_is_bytes (V4 a) facts size =
     let length_bytes = written 2 (20 + length (upper_bytes facts.l4 0)) in
     let sum_bytes = written 2 (checksum_of (ipv4_bytes facts 0)) in
@@ -174,9 +173,9 @@ module _ (i j k a b s t : ℕ) (a_small : a < 2 ^ 32) (b_small : b < 2 ^ 32) whe
   other_v4 proto carried other =
       let bytes = sent_v4 i j k a b s t proto Other in
       let told : L4 = Other in
-      let six = differs proto 6 other.0 in
-      let seventeen = differs proto 17 other.1 in
-      let one = differs proto 1 other.2 in
+      let six = differs other.0 in
+      let seventeen = differs other.1 in
+      let one = differs other.2 in
       record {
         decoded = facts_of (fields_v4 bytes 0) told;
         decodes = record { header = packet_v4 bytes 0; read = refl; says = rw (six, seventeen, one) refl };
@@ -198,11 +197,7 @@ module _ (i j k a b t : ℕ) (a_small : a < 2 ^ 128) (b_small : b < 2 ^ 128) whe
         decoded = facts_of (fields_v6 bytes 0 60 (record { kind = 6; named_at = 6; at = 40 })) told;
         decodes = record {
           header = Ok (fields_v6 bytes 0 60 (record { kind = 6; named_at = 6; at = 40 }));
-          read = record {
-            last = record { kind = 6; named_at = 6; at = 40 };
-            chain = record { headers = []; chain = (refl, refl) };
-            says = refl;
-          };
+          read = record { last = record { kind = 6; named_at = 6; at = 40 }; chain = record { headers = []; chain = (refl, refl) }; says = refl };
           says = record {
             options = record { scale = None; mss_at = None };
             read = record { places = []; last = 60; chain = (refl, refl); scale = refl; mss = refl };
@@ -223,11 +218,7 @@ module _ (i j k a b t : ℕ) (a_small : a < 2 ^ 128) (b_small : b < 2 ^ 128) whe
         decoded = facts_of (fields_v6 bytes 0 48 (record { kind = 17; named_at = 6; at = 40 })) told;
         decodes = record {
           header = Ok (fields_v6 bytes 0 48 (record { kind = 17; named_at = 6; at = 40 }));
-          read = record {
-            last = record { kind = 17; named_at = 6; at = 40 };
-            chain = record { headers = []; chain = (refl, refl) };
-            says = refl;
-          };
+          read = record { last = record { kind = 17; named_at = 6; at = 40 }; chain = record { headers = []; chain = (refl, refl) }; says = refl };
           says = refl;
         };
         same =
@@ -244,11 +235,7 @@ module _ (i j k a b t : ℕ) (a_small : a < 2 ^ 128) (b_small : b < 2 ^ 128) whe
         decoded = facts_of (fields_v6 bytes 0 48 (record { kind = 58; named_at = 6; at = 40 })) told;
         decodes = record {
           header = Ok (fields_v6 bytes 0 48 (record { kind = 58; named_at = 6; at = 40 }));
-          read = record {
-            last = record { kind = 58; named_at = 6; at = 40 };
-            chain = record { headers = []; chain = (refl, refl) };
-            says = refl;
-          };
+          read = record { last = record { kind = 58; named_at = 6; at = 40 }; chain = record { headers = []; chain = (refl, refl) }; says = refl };
           says = refl;
         };
         same =
@@ -261,23 +248,20 @@ module _ (i j k a b t : ℕ) (a_small : a < 2 ^ 128) (b_small : b < 2 ^ 128) whe
   other_v6 proto carried other =
       let bytes = sent_v6 i j k a b t proto Other in
       let told : L4 = Other in
-      let six = differs proto 6 other.0 in
-      let seventeen = differs proto 17 other.1 in
-      let fifty_eight = differs proto 58 other.2 in
-      let options = differs proto 0 carried.0 in
-      let routing = differs proto 43 carried.1 in
-      let fragment = differs proto 44 carried.2 in
-      let authentication = differs proto 51 carried.3 in
-      let destination = differs proto 60 carried.4 in
+      let six = differs other.0 in
+      let seventeen = differs other.1 in
+      let fifty_eight = differs other.2 in
+      let options = differs carried.0 in
+      let routing = differs carried.1 in
+      let fragment = differs carried.2 in
+      let authentication = differs carried.3 in
+      let destination = differs carried.4 in
+      let plain : is_extension proto ≡ false = rw (options, routing, authentication, destination) refl in
       record {
         decoded = facts_of (fields_v6 bytes 0 40 (record { kind = proto; named_at = 6; at = 40 })) told;
         decodes = record {
           header = Ok (fields_v6 bytes 0 40 (record { kind = proto; named_at = 6; at = 40 }));
-          read = record {
-            last = record { kind = proto; named_at = 6; at = 40 };
-            chain = record { headers = []; chain = (refl, rw (options, routing, authentication, destination) refl) };
-            says = rw (options, routing, authentication, destination, fragment) refl;
-          };
+          read = record { last = record { kind = proto; named_at = 6; at = 40 }; chain = record { headers = []; chain = (refl, rw plain refl) }; says = rw (plain, fragment) refl };
           says = rw (six, seventeen, fifty_eight) refl;
         };
         same =
@@ -321,7 +305,7 @@ upper_size (Icmp kind code echo) sum = omega arith
 upper_size (Icmp6 kind code echo) sum = omega arith
 upper_size Other sum = omega arith
 
-header_size : (src dst : Addr) (proto : ℕ) (l4 : L4) (i j k : ℕ) → AreAddresses src dst → length (header_bytes src (facts_with i j k src dst proto l4)) ≤ 40
+header_size : (src dst : Addr) (proto : ℕ) (l4 : L4) (i j k : ℕ) → AreAddresses src dst → length (ip_header src (facts_with i j k src dst proto l4)) ≤ 40
 header_size (V4 a) (V4 b) proto l4 i j k addresses = omega arith
 header_size (V6 a) (V6 b) proto l4 i j k addresses = omega arith
 header_size (V4 a) (V6 b) proto l4 i j k addresses = absurd addresses
@@ -329,11 +313,11 @@ header_size (V6 a) (V4 b) proto l4 i j k addresses = absurd addresses
 
 pub possible_has_witness_lem : PossibleHasWitness
 possible_has_witness_lem facts possible =
-    let header = header_bytes facts.src facts in
-    let upper = upper_bytes facts.l4 (upper_sum facts facts.l4) in
+    let header = ip_header facts.src facts in
+    let upper = upper_bytes facts.l4 (carried_checksum facts facts.l4) in
     let shown = is_shown facts.ip_at facts.l4_at facts.end facts.src facts.dst facts.proto facts.l4 possible.addresses possible.carried possible.protocol possible.sizes in
-    let are = joined (header_is_bytes facts.src facts possible.size) (upper_is_bytes facts.l4 (upper_sum facts facts.l4) possible.sizes) in
+    let are = joined (header_is_bytes facts.src facts possible.size) (upper_is_bytes facts.l4 (carried_checksum facts facts.l4) possible.sizes) in
     let front = header_size facts.src facts.dst facts.proto facts.l4 facts.ip_at facts.l4_at facts.end possible.addresses in
-    let behind = upper_size facts.l4 (upper_sum facts facts.l4) in
+    let behind = upper_size facts.l4 (carried_checksum facts facts.l4) in
     let sum = length-append header upper in
     record { are = are.each; size = omega arith; decoded = shown.decoded; decodes = shown.decodes; same = shown.same }

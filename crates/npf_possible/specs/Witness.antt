@@ -9,14 +9,14 @@ use Rattle.byteorder.specs.Endian.{big_bytes}
 use Rattle.npf_fields.specs.Checksum.{complement16, end_around}
 
 -- the words of 16 bits, the higher byte first, added up; a byte that is left is the upper half of one (RFC 1071 section 1)
-abbrev pub words_sum : List ℕ → ℕ
-words_sum [] = 0
-words_sum (x ∷ []) = 2 ^ 8 * x
-words_sum (x ∷ y ∷ rest) = 2 ^ 8 * x + y + words_sum rest
+abbrev pub sum_of_pairs : List ℕ → ℕ
+sum_of_pairs [] = 0
+sum_of_pairs (x ∷ []) = 2 ^ 8 * x
+sum_of_pairs (x ∷ y ∷ rest) = 2 ^ 8 * x + y + sum_of_pairs rest
 
 -- the sum that a header carries for these bytes, in which its own place counts as 0
 abbrev pub checksum_of : List ℕ → ℕ
-checksum_of bytes = complement16 (end_around (words_sum bytes))
+checksum_of bytes = complement16 (end_around (sum_of_pairs bytes))
 
 abbrev pub address_bytes : Addr → List ℕ
 address_bytes (V4 a) = big_bytes 4 a
@@ -37,11 +37,11 @@ abbrev pub pseudo_bytes : Facts → List ℕ
 pseudo_bytes facts = address_bytes facts.src ++ address_bytes facts.dst ++ big_bytes 2 facts.proto ++ big_bytes 2 (length (upper_bytes facts.l4 0))
 
 -- the sum of what is carried counts a pseudo-header, but in ICMP (RFC 792); a sum of UDP that comes to 0 is written 0xFFFF (RFC 768)
-abbrev pub upper_sum : Facts → L4 → ℕ
-upper_sum facts (Icmp kind code echo) = checksum_of (upper_bytes facts.l4 0)
-upper_sum facts (Udp sport dport) =
+abbrev pub carried_checksum : Facts → L4 → ℕ
+carried_checksum facts (Icmp kind code echo) = checksum_of (upper_bytes facts.l4 0)
+carried_checksum facts (Udp sport dport) =
     let sum = checksum_of (pseudo_bytes facts ++ upper_bytes facts.l4 0) in if sum == 0 then 0xffff else sum
-upper_sum facts _ = checksum_of (pseudo_bytes facts ++ upper_bytes facts.l4 0)
+carried_checksum facts _ = checksum_of (pseudo_bytes facts ++ upper_bytes facts.l4 0)
 
 -- a header of IPv4 with this sum: version 4 and five words, the packet's length, no fragment, time to live 64 (RFC 791 section 3.1)
 abbrev pub ipv4_bytes : Facts → ℕ → List ℕ
@@ -55,9 +55,9 @@ ipv6_bytes facts =
     0x60 ∷ 0 ∷ 0 ∷ 0 ∷ [] ++ big_bytes 2 (length (upper_bytes facts.l4 0)) ++ facts.proto ∷ 64 ∷ []
     ++ address_bytes facts.src ++ address_bytes facts.dst
 
-abbrev pub header_bytes : Addr → Facts → List ℕ
-header_bytes (V4 src) facts = ipv4_bytes facts (checksum_of (ipv4_bytes facts 0))
-header_bytes (V6 src) facts = ipv6_bytes facts
+abbrev pub ip_header : Addr → Facts → List ℕ
+ip_header (V4 src) facts = ipv4_bytes facts (checksum_of (ipv4_bytes facts 0))
+ip_header (V6 src) facts = ipv6_bytes facts
 
 abbrev pub witness_bytes : Facts → List ℕ
-witness_bytes facts = header_bytes facts.src facts ++ upper_bytes facts.l4 (upper_sum facts facts.l4)
+witness_bytes facts = ip_header facts.src facts ++ upper_bytes facts.l4 (carried_checksum facts facts.l4)
