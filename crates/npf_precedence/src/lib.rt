@@ -5,7 +5,7 @@
 // set does to every packet are put to one list instead, in which what stands in front decides.
 //
 // The contract: `in_order` gives that list, and the law of precedence says that the rule which decides by the configuration's meaning is
-// the first of it that matches. No rule is copied: an entry refers to its rule.
+// the first of it that matches. Each rule is in it once, and none is copied: an entry refers to its rule.
 #![tactic(auto)]
 
 mod entry;
@@ -13,5 +13,5 @@ mod laws;
 mod order;
 
 pub use entry::RuleEntry;
-pub use laws::first_match_decides;
+pub use laws::{each_rule_once, first_match_decides};
 pub use order::in_order;
