@@ -1,7 +1,8 @@
 -- Each rule is in the order of precedence once, at its place.
 use Rattle.std.proofs.Common.{◌≡◌, ◌<◌, ◌≤◌, ℕ, suc, zero, ◌+◌, ◌-◌, ◌==◌, Bool, true, false, not, cond, List, [], ◌∷◌, ◌++◌, Option, Some, None, length, map, reverse, slice_get}
 use Rattle.std.proofs.Common.{refl, sym, ap, ◌∙◌, ⊎_elim, arith}
-use Rattle.std.{specs.{List.filter, Option.{option_map, option_to_list}}, proofs.lemmas.{Bool.{cases_lt, Decides.nat_tests}, List.{append-nil, map-append, reverse-append, Concat.flat_map-cons, Elements.filter-append}}}
+use Rattle.std.{specs.{List.filter, Option.{option_map, option_to_list}}, proofs.lemmas.Bool.{cases_lt, Decides.nat_tests}}
+use Rattle.std.proofs.lemmas.List.{append-nil, map-append, reverse-append, Concat.flat_map-cons, Elements.filter-append}
 use Rattle.std.proofs.lemmas.Option.{slice_get_past}
 use Rattle.npf_model.specs.{declared.group.Group.Group, Verdict.{PlacedRule, all_rules, rules_of}}
 use Rattle.npf_precedence.specs.{Precedence.{OrderedRule, finals_first, is_final, isnt_final, order_from, rules_from}, PrecedenceLaw.EachRuleOnce}
