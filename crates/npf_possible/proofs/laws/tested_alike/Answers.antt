@@ -1,5 +1,5 @@
 use Rattle.npf_possible.proofs.TestedLemmas.{maps_test_alike, rules_test_alike}
-use Rattle.npf_possible.proofs.tested_alike.Goals as goal
+use Rattle.npf_possible.proofs.laws.tested_alike.Goals as goal
 
 pub returns-clause-rules : goal.returns-clause-rules
 returns-clause-rules c = rules_test_alike
