@@ -29,6 +29,7 @@ abbrev pub IsCarried : Addr → ℕ → Type 0
 IsCarried (V4 src) proto = ⊤
 IsCarried (V6 src) proto = (proto ≢ 0) × (proto ≢ 43) × (proto ≢ 44) × (proto ≢ 51) × (proto ≢ 60)
 
+-- facts that a packet can have: of one family, of its fields' sizes, and told apart by the protocol
 pub record IsPossible (facts : Facts) : Type 0 where
   pub addresses : AreAddresses facts.src facts.dst
   pub size : facts.proto < 2 ^ 8

@@ -21,6 +21,7 @@ message_of (Icmp kind code echo) = Some (kind, code)
 message_of (Icmp6 kind code echo) = Some (kind, code)
 message_of Other = None
 
+-- the facts agree in all of it
 pub record SameTested (one other : Facts) : Type 0 where
   pub src : one.src ≡ other.src
   pub dst : one.dst ≡ other.dst

@@ -4,7 +4,7 @@ use Rattle.std.proofs.Common.{get_or, length, map, reverse, take, take_all, flat
 use Rattle.std.{specs.List.filter, proofs.lemmas.{Grind.flat_map-append, List.{append-nil, append_assoc, length-append, length-map, map-append, reverse-append, take_more}}}
 use Rattle.npf_model.specs.{declared.group.{Group.Group, Item.Item}, Verdict.{PlacedRule, all_rules, rules_at, rules_of}}
 use Rattle.npf_precedence.specs.declared.entry.RuleEntry.{RuleEntry}
-use Rattle.npf_precedence.specs.{Entry.{entry_is_final, entry_isnt_final, ordered_rule}, Precedence.{OrderedRule, finals_first, is_final, isnt_final, order_from, rules_from}}
+use Rattle.npf_precedence.specs.{Entry.{entry_is_final, entry_is_not_final, ordered_rule}, Precedence.{OrderedRule, finals_first, is_final, is_not_final, order_from, rules_from}}
 use Rattle.npf_precedence.proofs.OrderLemmas.{length-order_from, length-rules_from, order_from-push, rules_from-append}
 
 kept_in_front : {X Y : Type 0} (f : X → Y) (kept : Bool) (x : X) (xs : List X) (ys : List Y) → map f xs ≡ ys → map f (cond kept (x ∷ xs) xs) ≡ cond kept (f x ∷ ys) ys
@@ -22,11 +22,11 @@ ordered-reverse (e ∷ es) =
     ∙ ap (λ rules. rules ++ ordered_rule e ∷ []) (ordered-reverse es) ∙ sym (reverse-append (ordered_rule e ∷ []) (map ordered_rule es))
 
 ordered_finals_first : (entries : List RuleEntry)
-    → map ordered_rule (filter entry_is_final entries) ++ map ordered_rule (filter entry_isnt_final (reverse entries)) ≡ finals_first (map ordered_rule entries)
+    → map ordered_rule (filter entry_is_final entries) ++ map ordered_rule (filter entry_is_not_final (reverse entries)) ≡ finals_first (map ordered_rule entries)
 ordered_finals_first entries =
-    ap (λ front. front ++ map ordered_rule (filter entry_isnt_final (reverse entries))) (map-filter ordered_rule is_final entries)
+    ap (λ front. front ++ map ordered_rule (filter entry_is_not_final (reverse entries))) (map-filter ordered_rule is_final entries)
     ∙ ap (λ behind. filter is_final (map ordered_rule entries) ++ behind)
-    (map-filter ordered_rule isnt_final (reverse entries) ∙ ap (filter isnt_final) (ordered-reverse entries))
+    (map-filter ordered_rule is_not_final (reverse entries) ∙ ap (filter is_not_final) (ordered-reverse entries))
 
 -- one more group
 pub lays_group : (groups : List Group) (i : ℕ) (group : Group) (before middle after rules : List RuleEntry)
@@ -34,11 +34,11 @@ pub lays_group : (groups : List Group) (i : ℕ) (group : Group) (before middle 
     → map ordered_rule before ≡ order_from 0 (take i groups)
     → map ordered_rule rules ≡ rules_from group (length before) (rules_of group)
     → middle ≡ before ++ filter entry_is_final rules
-    → after ≡ middle ++ filter entry_isnt_final (reverse rules)
+    → after ≡ middle ++ filter entry_is_not_final (reverse rules)
     → map ordered_rule after ≡ order_from 0 (take (i + 1) groups)
 lays_group groups i group before middle after rules within at laid of_group front behind =
     let finals = filter entry_is_final rules in
-    let others = filter entry_isnt_final (reverse rules) in
+    let others = filter entry_is_not_final (reverse rules) in
     let front_groups = take i groups in
     let count : length before ≡ 0 + length (all_rules front_groups) =
     (let one = length-map before ordered_rule in let two = ap length laid in let three = length-order_from 0 front_groups in omega arith) in

@@ -2,7 +2,7 @@
 use Rattle.std.proofs.Common.{◌≡◌, ℕ, suc, ◌+◌, Bool, List, [], ◌∷◌, ◌++◌, length, reverse, refl, sym, ap, ◌∙◌, append_assoc, arith}
 use Rattle.std.{specs.List.{filter}, proofs.lemmas.List.{append-nil, length-append, reverse-append, Concat.flat_map-cons, Elements.filter-append, Filters.length-filter_both}}
 use Rattle.npf_model.specs.{declared.group.Group.Group, Verdict.{PlacedRule, all_rules, rules_of}}
-use Rattle.npf_precedence.specs.Precedence.{OrderedRule, finals_first, is_final, isnt_final, order_from, rules_from}
+use Rattle.npf_precedence.specs.Precedence.{OrderedRule, finals_first, is_final, is_not_final, order_from, rules_from}
 
 module _ (group : Group) where
   pub rules_from-append : (n : ℕ) (front behind : List PlacedRule)
@@ -28,8 +28,8 @@ length-filter_reverse p (x ∷ xs) =
 
 pub length-finals_first : (rules : List OrderedRule) → length (finals_first rules) ≡ length rules
 length-finals_first rules =
-    length-append (filter is_final rules) (filter isnt_final (reverse rules)) ∙ ap (λ k. length (filter is_final rules) + k) (length-filter_reverse isnt_final rules)
-    ∙ length-filter_both is_final isnt_final (λ rule. refl) rules
+    length-append (filter is_final rules) (filter is_not_final (reverse rules)) ∙ ap (λ k. length (filter is_final rules) + k) (length-filter_reverse is_not_final rules)
+    ∙ length-filter_both is_final is_not_final (λ rule. refl) rules
 
 pub length-order_from : (n : ℕ) (groups : List Group) → length (order_from n groups) ≡ length (all_rules groups)
 length-order_from n [] = refl

@@ -5,7 +5,7 @@ use Rattle.std.{specs.{List.filter, Option.{option_map, option_to_list}}, proofs
 use Rattle.std.proofs.lemmas.List.{append-nil, map-append, reverse-append, Concat.flat_map-cons, Elements.filter-append}
 use Rattle.std.proofs.lemmas.Option.{slice_get_past}
 use Rattle.npf_model.specs.{declared.group.Group.Group, Verdict.{PlacedRule, all_rules, rules_of}}
-use Rattle.npf_precedence.specs.{Precedence.{OrderedRule, finals_first, is_final, isnt_final, order_from, rules_from}, PrecedenceLaw.EachRuleOnce}
+use Rattle.npf_precedence.specs.{Precedence.{OrderedRule, finals_first, is_final, is_not_final, order_from, rules_from}, PrecedenceLaw.EachRuleOnce}
 
 -- what one filter leaves of what another leaves, in either order
 kept_by_both : {X : Type 0} (p f : X → Bool) (x : X) (xs : List X) (a b : Bool) → p x ≡ a → f x ≡ b → filter p (filter f xs) ≡ filter f (filter p xs)
@@ -33,7 +33,7 @@ one_kept : (final : Bool) (rule : OrderedRule) → cond final (rule ∷ []) [] +
 one_kept true rule = refl
 one_kept false rule = refl
 
-divided : (found : Option OrderedRule) → filter is_final (option_to_list found) ++ filter isnt_final (reverse (option_to_list found)) ≡ option_to_list found
+divided : (found : Option OrderedRule) → filter is_final (option_to_list found) ++ filter is_not_final (reverse (option_to_list found)) ≡ option_to_list found
 divided None = refl
 divided (Some rule) = one_kept (is_final rule) rule
 
@@ -41,10 +41,10 @@ divided (Some rule) = one_kept (is_final rule) rule
 stays_once : (test : OrderedRule → Bool) (rules : List OrderedRule) (found : Option OrderedRule) → filter test rules ≡ option_to_list found
     → filter test (finals_first rules) ≡ option_to_list found
 stays_once test rules found e =
-    filter-append test (filter is_final rules) (filter isnt_final (reverse rules))
-    ∙ ap (λ front. front ++ filter test (filter isnt_final (reverse rules))) (filters_meet test is_final rules ∙ ap (filter is_final) e)
+    filter-append test (filter is_final rules) (filter is_not_final (reverse rules))
+    ∙ ap (λ front. front ++ filter test (filter is_not_final (reverse rules))) (filters_meet test is_final rules ∙ ap (filter is_final) e)
     ∙ ap (λ behind. filter is_final (option_to_list found) ++ behind)
-    (filters_meet test isnt_final (reverse rules) ∙ ap (filter isnt_final) (filter_of_turned test rules ∙ ap reverse e))
+    (filters_meet test is_not_final (reverse rules) ∙ ap (filter is_not_final) (filter_of_turned test rules ∙ ap reverse e))
     ∙ divided found
 
 get_front : {X : Type 0} (xs ys : List X) (m : ℕ) → m < length xs → slice_get (xs ++ ys) m ≡ slice_get xs m

@@ -4,7 +4,7 @@ use Rattle.std.{specs.{List.{filter, find}, Option.{option_map, option_or}, Prel
 use Rattle.npf_types.specs.declared.{direction.Dir.Dir, facts.Facts.Facts, interface.IfId.IfId}
 use Rattle.npf_model.specs.{declared.group.Group.Group, Describes.Tables}
 use Rattle.npf_model.specs.Verdict.{PlacedRule, applies, first_where, group_answer, last_where, matches, rules_of, verdict}
-use Rattle.npf_precedence.specs.{Precedence.{OrderedRule, finals_first, is_final, isnt_final, order_from, rules_from}, PrecedenceLaw.{FirstMatchDecides, first_match, meets}}
+use Rattle.npf_precedence.specs.{Precedence.{OrderedRule, finals_first, is_final, is_not_final, order_from, rules_from}, PrecedenceLaw.{FirstMatchDecides, first_match, meets}}
 
 abbrev place_of : Option OrderedRule → Option ℕ
 place_of found = option_map (λ ordered. ordered.place) found
@@ -63,15 +63,15 @@ module _ (m : PlacedRule → Bool) where
         one_in_front t p.rule.last (m p) here (filter is_final (rules_from group (n + 1) ps)) (first_where (λ p. p.rule.last && m p) (n + 1) ps) (same n p) (first_final (n + 1) ps)
 
     first_other : (n : ℕ) (rules : List PlacedRule)
-        → place_of (find t (filter isnt_final (reverse (rules_from group n rules)))) ≡ last_where (λ p. not p.rule.last && m p) n rules
+        → place_of (find t (filter is_not_final (reverse (rules_from group n rules)))) ≡ last_where (λ p. not p.rule.last && m p) n rules
     first_other n [] = refl
     first_other n (p ∷ ps) =
         let here : OrderedRule = record { place = n; group_dir = group.dir; group_on = group.on; placed = p } in
         let others = rules_from group (n + 1) ps in
-        let front = filter isnt_final (reverse others) in
-        let one = filter isnt_final (here ∷ []) in
-        ap (λ rules. place_of (find t (filter isnt_final rules))) (reverse-append (here ∷ []) others)
-        ∙ ap (λ rules. place_of (find t rules)) (filter-append isnt_final (reverse others) (here ∷ []))
+        let front = filter is_not_final (reverse others) in
+        let one = filter is_not_final (here ∷ []) in
+        ap (λ rules. place_of (find t (filter is_not_final rules))) (reverse-append (here ∷ []) others)
+        ∙ ap (λ rules. place_of (find t rules)) (filter-append is_not_final (reverse others) (here ∷ []))
         ∙ ap (λ (found : Option OrderedRule). place_of found) (find-append t front one) ∙ place_of_either (find t front) (find t one)
         ∙ ap (λ o. option_or o (place_of (find t one))) (first_other (n + 1) ps)
         ∙ ap (option_or (last_where (λ p. not p.rule.last && m p) (n + 1) ps)) (one_in_front t (not p.rule.last) (m p) here [] None (same n p) refl)
@@ -81,7 +81,7 @@ module _ (m : PlacedRule → Bool) where
     first_of_group n rules =
         let entries = rules_from group n rules in
         let finals = filter is_final entries in
-        let others = filter isnt_final (reverse entries) in
+        let others = filter is_not_final (reverse entries) in
         ap (λ (found : Option OrderedRule). place_of found) (find-append t finals others) ∙ place_of_either (find t finals) (find t others)
         ∙ ap (λ one. option_or one (place_of (find t others))) (first_final n rules)
         ∙ ap (option_or (first_where (λ p. p.rule.last && m p) n rules)) (first_other n rules)

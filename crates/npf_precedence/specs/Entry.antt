@@ -14,5 +14,5 @@ ordered_rule entry = record {
 abbrev pub entry_is_final : RuleEntry → Bool
 entry_is_final entry = entry.rule.now.last
 
-abbrev pub entry_isnt_final : RuleEntry → Bool
-entry_isnt_final entry = not entry.rule.now.last
+abbrev pub entry_is_not_final : RuleEntry → Bool
+entry_is_not_final entry = not entry.rule.now.last

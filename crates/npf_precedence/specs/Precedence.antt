@@ -25,12 +25,12 @@ rules_from group n (placed ∷ others) =
 abbrev pub is_final : OrderedRule → Bool
 is_final ordered = ordered.placed.rule.last
 
-abbrev pub isnt_final : OrderedRule → Bool
-isnt_final ordered = not ordered.placed.rule.last
+abbrev pub is_not_final : OrderedRule → Bool
+is_not_final ordered = not ordered.placed.rule.last
 
 -- those with `final` as they stand, and then the others from the last to the first
 abbrev pub finals_first : List OrderedRule → List OrderedRule
-finals_first rules = filter is_final rules ++ filter isnt_final (reverse rules)
+finals_first rules = filter is_final rules ++ filter is_not_final (reverse rules)
 
 -- group by group: `n` rules stand in front of these groups
 abbrev pub order_from : ℕ → List Group → List OrderedRule

@@ -2,7 +2,7 @@
 ghost use Rattle.std.specs.Prelude.{◌≡◌, ◌+◌, ◌<◌, ◌^◌, ◌++◌, IfOk, OnOk, length, map, reverse};
 ghost use Rattle.std.specs.List.{filter};
 ghost use Rattle.npf_model.specs.Verdict.{rules_at, rules_of};
-ghost use Rattle.npf_precedence.specs.Entry.{entry_is_final, entry_isnt_final, ordered_rule};
+ghost use Rattle.npf_precedence.specs.Entry.{entry_is_final, entry_is_not_final, ordered_rule};
 ghost use Rattle.npf_precedence.specs.Precedence.{in_order, rules_from};
 
 use crate::entry::RuleEntry;
@@ -94,7 +94,7 @@ fn add_finals<'a>(order: &mut Vec<RuleEntry<'a>>, rules: &[RuleEntry<'a>]) -> Re
 
 // A group's other rules, the last one first.
 fn add_others<'a>(order: &mut Vec<RuleEntry<'a>>, rules: &[RuleEntry<'a>]) -> Result<(), NoMemory>
-    ensures { OnOk result (order.new.items ≡ order.old.items ++ filter entry_isnt_final (reverse rules.now)) }
+    ensures { OnOk result (order.new.items ≡ order.old.items ++ filter entry_is_not_final (reverse rules.now)) }
 {
     for entry in rules.iter().rev() {
         if !entry.rule.last {
