@@ -1,5 +1,5 @@
 // What is asked of sets.
-ghost use Rattle.std.specs.Prelude.{◌≡◌, ◌<◌, ◌*◌, ◌^◌, ◌↔◌, ℕ, true, false, IsTrue, MatchOption, length};
+ghost use Rattle.std.specs.Prelude.{◌≡◌, ◌<◌, ◌^◌, ◌↔◌, ℕ, true, false, IsTrue, MatchOption, length};
 ghost use Rattle.npf_bits.specs.Bits.{has};
 
 /// Whether some number is in both sets, which have equally many words.
@@ -7,7 +7,12 @@ pub fn meets(a: &[u64], b: &[u64]) -> bool
     requires { length a.now ≡ length b.now }
     ensures { IsTrue result ↔ ((n : ℕ) × (has a.now n ≡ true) × (has b.now n ≡ true)) }
 {
-    a.iter().zip(b).any(|(x, y)| *x & *y != 0)
+    for (at, word) in a.iter().enumerate() {
+        if *word & b[at] != 0 {
+            return true;
+        }
+    }
+    false
 }
 
 /// Whether each number of `a` is in `b`; the sets have equally many words.
@@ -15,7 +20,12 @@ pub fn is_within(a: &[u64], b: &[u64]) -> bool
     requires { length a.now ≡ length b.now }
     ensures { IsTrue result ↔ ((n : ℕ) → has a.now n ≡ true → has b.now n ≡ true) }
 {
-    a.iter().zip(b).all(|(x, y)| *x & !*y == 0)
+    for (at, word) in a.iter().enumerate() {
+        if *word & !b[at] != 0 {
+            return false;
+        }
+    }
+    true
 }
 
 /// The least number of the set, if it has any. The set has fewer than 2^58 words.
