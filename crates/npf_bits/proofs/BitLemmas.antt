@@ -1,6 +1,8 @@
 -- Which numbers a set of words has, from its words.
-use Rattle.std.proofs.Common.{◌≡◌, ◌≢◌, ℕ, zero, suc, ◌+◌, ◌-◌, ◌*◌, ◌/◌, ◌%◌, ◌^◌, ◌<◌, ◌≤◌, ◌==◌, ◌&&◌, ◌||◌, true, false, not, List, length, get_or, set, replicate, min, bit_or, refl, sym, ap, ◌∙◌, inl, inr, arith, w64, get_or-set_same, get_or-set_other, eq-eqb, ne_eqb}
-use Rattle.std.{specs.{Prelude.{bit_and, nat_lt}, Int.{bit_at, bit_not, trailing_zeros}}, proofs.lemmas.{Bool.{and_from, and_parts, both_ways, cases_eq, cases_lt, lt-ltb, le-ltb, not-true, not_from_false, true_from_ne_false}, List.{get_or_past}}}
+use Rattle.std.proofs.Common.{◌≡◌, ◌≢◌, ℕ, zero, suc, ◌+◌, ◌-◌, ◌*◌, ◌/◌, ◌%◌, ◌^◌, ◌<◌, ◌≤◌, ◌==◌, ◌&&◌, ◌||◌, true, false, not, List, length}
+use Rattle.std.proofs.Common.{get_or, set, replicate, min, bit_or, refl, sym, ap, ◌∙◌, inl, inr, arith, w64, get_or-set_same, get_or-set_other, eq-eqb, ne_eqb}
+use Rattle.std.{specs.{Prelude.{bit_and, nat_lt}, Int.{bit_at, bit_not, trailing_zeros}}, proofs.lemmas.List.get_or_past}
+use Rattle.std.proofs.lemmas.Bool.{and_from, and_parts, both_ways, cases_eq, cases_lt, lt-ltb, le-ltb, not-true, not_from_false, true_from_ne_false}
 use Rattle.std.proofs.lemmas.Nat.{and_le_l}
 use Rattle.std.proofs.lemmas.Nat.Bits.{bit_at-lt, bit_at-zero, bit_at_and, bit_at_not, bit_at_ones, bit_at_ones_above, bit_at_set_same, bit_at_set_other, bit_at-trailing_zeros}
 use Rattle.npf_bits.specs.Bits.{has}
