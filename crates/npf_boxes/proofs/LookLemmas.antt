@@ -3,10 +3,10 @@ use Rattle.std.proofs.Common.{◌≡◌, ◌≢◌, ℕ, ◌+◌, ◌<◌, ◌�
 use Rattle.std.{specs.{List.list_any, Prelude.All}, proofs.lemmas.List.{take-append-drop, take_all, Elements.{All-nil, All-push}, Folds.{list_any-append, list_any_at, list_any_more}}}
 use Rattle.std.proofs.lemmas.Bool.{and_parts, both_ways, cases_Bool, cases_eq, false_from_ne_true, not-true, or_left, or_right}
 use Rattle.npf_bits.specs.Bits.{has}
-use Rattle.npf_boxes.specs.declared.{boxes.Boxes.Boxes, part.Part.Part}
+use Rattle.npf_boxes.specs.declared.{boxes.Boxes.Boxes, part.BoxPart.BoxPart}
 use Rattle.npf_boxes.specs.Cells.{any_has, box_at, in_box, section, words_of}
 use Rattle.npf_boxes.specs.Fits.{IsWithinAt}
-use Rattle.npf_boxes.specs.Parts.{IsLeft, IsPartOf, Narrows}
+use Rattle.npf_boxes.specs.Parts.{AreLeft, IsPartOf, Narrows}
 use Rattle.npf_boxes.proofs.CellLemmas.{box_from, box_parts, changed_within, or_none, removed_has}
 
 -- ---- what another box has in all dimensions but one is taken off in that one
@@ -51,7 +51,7 @@ narrows_open boxes other box before left known is = record {
 }
 
 -- ---- looks one after the other
-pub left_first : (boxes : Boxes) (box : List ℕ) → length box ≡ words_of boxes.shape → IsLeft boxes [] box box []
+pub left_first : (boxes : Boxes) (box : List ℕ) → length box ≡ words_of boxes.shape → AreLeft boxes [] box box []
 left_first boxes box whole = record {
   whole = whole;
   within = λ cell in_own. in_own;
@@ -61,8 +61,8 @@ left_first boxes box whole = record {
 }
 
 pub left_more : (boxes : Boxes) (others box part narrow before left : List ℕ) (i other : ℕ) → i < length others → get_or others i 0 ≡ other
-    → length narrow ≡ length part → IsLeft boxes (take i others) box part before → Narrows boxes other part narrow before left
-    → IsLeft boxes (take (i + 1) others) box narrow left
+    → length narrow ≡ length part → AreLeft boxes (take i others) box part before → Narrows boxes other part narrow before left
+    → AreLeft boxes (take (i + 1) others) box narrow left
 left_more boxes others box part narrow before left i other low is len so_far step = record {
   whole = len ∙ so_far.whole;
   within = λ cell in_narrow. so_far.within cell (step.within cell in_narrow);
@@ -92,7 +92,7 @@ any_first boxes others cell i first =
     ∙ or_left _ (list_any test (drop i others)) first
 
 pub covered : (boxes : Boxes) (others box part left : List ℕ) (i other : ℕ) → i < length others → get_or others i 0 ≡ other
-    → IsLeft boxes (take i others) box part left
+    → AreLeft boxes (take i others) box part left
     → ((cell : List ℕ) → in_box boxes.shape part cell ≡ true → in_box boxes.shape (box_at boxes other) cell ≡ true)
     → (cell : List ℕ) → in_box boxes.shape box cell ≡ true → any_has boxes others cell ≡ true
 covered boxes others box part left i other low is so_far within cell in_own =
@@ -103,14 +103,14 @@ covered boxes others box part left i other low is so_far within cell in_own =
       | inr out ↦ any_first boxes others cell i (so_far.lost cell in_own out)
     ]
 
-pub left_last : (boxes : Boxes) (others box part left : List ℕ) (i : ℕ) → length others ≤ i → IsLeft boxes (take i others) box part left
-    → IsLeft boxes others box part left
+pub left_last : (boxes : Boxes) (others box part left : List ℕ) (i : ℕ) → length others ≤ i → AreLeft boxes (take i others) box part left
+    → AreLeft boxes others box part left
 left_last boxes others box part left i past so_far =
-    let P : List ℕ → Type 0 = λ seen. IsLeft boxes seen box part left in
+    let P : List ℕ → Type 0 = λ seen. AreLeft boxes seen box part left in
     subst P (take_all i others past) so_far
 
 -- what is left of a part is one
-pub left_part : (boxes : Boxes) (box numbers seen whole words left : List ℕ) (part more : Part) → IsLeft boxes seen whole words left
+pub left_part : (boxes : Boxes) (box numbers seen whole words left : List ℕ) (part more : BoxPart) → AreLeft boxes seen whole words left
     → seen ≡ part.others.value.items → whole ≡ part.words.items → more.words.items ≡ words → more.others.value.items ≡ left
     → IsPartOf boxes box numbers part → IsPartOf boxes box numbers more
 left_part boxes box numbers seen whole words left part more is_left seen_is whole_is words_is left_is of = record {

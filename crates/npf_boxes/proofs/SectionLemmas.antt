@@ -31,12 +31,18 @@ length-section shape d box within whole =
     let ends : to ≤ words_of shape = starts_rise shape (d + 1) 6 (omega arith) (omega arith) in
     omega (arith, length-take {A = ℕ} (to - from) (drop from box), length-drop {A = ℕ} from box)
 
+-- boxes have sets of one length
+pub same_lengths : (shape : Shape) (d : ℕ) (box other set : List ℕ) → d < 6 → length box ≡ words_of shape → length other ≡ words_of shape
+    → set ≡ section shape d other → length (section shape d box) ≡ length set
+same_lengths shape d box other set within whole other_whole is =
+    length-section shape d box within whole ∙ sym (ap length is ∙ length-section shape d other within other_whole)
+
 -- a dimension is written
-pub section_written : (shape : Shape) (d : ℕ) (box set : List ℕ) → d < 6 → length box ≡ words_of shape
-    → length set ≡ get_or shape.starts (d + 1) 0 - get_or shape.starts d 0
+pub section_written : (shape : Shape) (d : ℕ) (box set : List ℕ) → d < 6 → length box ≡ words_of shape → length set ≡ length (section shape d box)
     → section shape d (put_mid (get_or shape.starts d 0) (get_or shape.starts (d + 1) 0 - get_or shape.starts d 0) box set) ≡ set
 unfolding section
-section_written shape d box set within whole len =
+section_written shape d box set within whole same =
+    let len = same ∙ length-section shape d box within whole in
     let ends : get_or shape.starts d 0 ≤ words_of shape = starts_rise shape d 6 (omega arith) (omega arith) in
     between-put_mid (get_or shape.starts d 0) (get_or shape.starts (d + 1) 0 - get_or shape.starts d 0) box set (get_or shape.starts (d + 1) 0) (omega arith) len
 
@@ -47,10 +53,11 @@ range_is xs from to order =
     sym (drop-take from (to - from) xs) ∙ ap (λ n. drop from (take n xs)) same
 
 pub section_kept : (shape : Shape) (d other : ℕ) (box set : List ℕ) → d < 6 → other < 6 → other ≢ d → length box ≡ words_of shape
-    → length set ≡ get_or shape.starts (d + 1) 0 - get_or shape.starts d 0
+    → length set ≡ length (section shape d box)
     → section shape other (put_mid (get_or shape.starts d 0) (get_or shape.starts (d + 1) 0 - get_or shape.starts d 0) box set) ≡ section shape other box
 unfolding section
-section_kept shape d other box set within other_within apart whole len =
+section_kept shape d other box set within other_within apart whole same =
+    let len = same ∙ length-section shape d box within whole in
     let a : ℕ = get_or shape.starts d 0 in
     let k : ℕ = get_or shape.starts (d + 1) 0 - a in
     let from : ℕ = get_or shape.starts other 0 in

@@ -3,20 +3,20 @@ use Rattle.std.proofs.Common.{◌≡◌, ◌≢◌, ℕ, ◌+◌, ◌<◌, ◌�
 use Rattle.std.{specs.{List.list_any, Prelude.All}, proofs.lemmas.List.{Elements.{All-pop, All-push}, Folds.list_any-append}}
 use Rattle.std.proofs.lemmas.Bool.{and_from, and_parts, both_ways, cases_eq, or_cases, or_left, or_parts, true_from_ne_false}
 use Rattle.npf_bits.specs.Bits.{has}
-use Rattle.npf_boxes.specs.declared.{boxes.Boxes.Boxes, part.Part.Part, shape.Shape.Shape}
+use Rattle.npf_boxes.specs.declared.{boxes.Boxes.Boxes, part.BoxPart.BoxPart, shape.Shape.Shape}
 use Rattle.npf_boxes.specs.Cells.{IsPart, any_has, in_box, section, words_of}
 use Rattle.npf_boxes.specs.Fits.{IsWithinAt}
 use Rattle.npf_boxes.specs.Parts.{IsPartOf, any_part_has}
 use Rattle.npf_boxes.proofs.CellLemmas.{box_from, box_parts, changed_has, changed_within, or_none, removed_has}
 
-pub any_pushed : (shape : Shape) (parts : List Part) (part : Part) (cell : List ℕ)
+pub any_pushed : (shape : Shape) (parts : List BoxPart) (part : BoxPart) (cell : List ℕ)
     → any_part_has shape (parts ++ part ∷ []) cell ≡ (any_part_has shape parts cell || in_box shape part.words.items cell)
 any_pushed shape parts part cell =
-    let test : Part → Bool = λ p. in_box shape p.words.items cell in
+    let test : BoxPart → Bool = λ p. in_box shape p.words.items cell in
     list_any-append test parts (part ∷ []) ∙ ap (λ t. list_any test parts || t) (or_none (test part) false refl)
 
 -- so far the dimensions before one are done: what isn't in a part is in the rest, and in the other box as far as those dimensions tell
-pub record IsSplit (boxes : Boxes) (part : Part) (theirs : List ℕ) (before : List Part) (rest : List ℕ) (parts : List Part) (at : ℕ) : Type 0 where
+pub record IsSplit (boxes : Boxes) (part : BoxPart) (theirs : List ℕ) (before : List BoxPart) (rest : List ℕ) (parts : List BoxPart) (at : ℕ) : Type 0 where
   pub whole : length rest ≡ words_of boxes.shape
   pub within : IsPart boxes.shape rest part.words.items
   pub parts_of : (box numbers : List ℕ) → IsPartOf boxes box numbers part → All (IsPartOf boxes box numbers) before → All (IsPartOf boxes box numbers) parts
@@ -24,7 +24,7 @@ pub record IsSplit (boxes : Boxes) (part : Part) (theirs : List ℕ) (before : L
   pub gone : (cell : List ℕ) → in_box boxes.shape part.words.items cell ≡ true → any_part_has boxes.shape parts cell ≡ false
       → (in_box boxes.shape rest cell ≡ true) × ((d : ℕ) → d < at → has (section boxes.shape d theirs) (get_or cell d 0) ≡ true)
 
-pub split_first : (boxes : Boxes) (part : Part) (theirs : List ℕ) (before : List Part) → length part.words.items ≡ words_of boxes.shape
+pub split_first : (boxes : Boxes) (part : BoxPart) (theirs : List ℕ) (before : List BoxPart) → length part.words.items ≡ words_of boxes.shape
     → IsSplit boxes part theirs before part.words.items before 0
 split_first boxes part theirs before whole = record {
   whole = whole;
@@ -35,7 +35,7 @@ split_first boxes part theirs before whole = record {
 }
 
 -- a dimension in which the other has the rest
-pub split_within : (boxes : Boxes) (part : Part) (theirs : List ℕ) (before : List Part) (rest : List ℕ) (parts : List Part) (at : ℕ) → at < 6
+pub split_within : (boxes : Boxes) (part : BoxPart) (theirs : List ℕ) (before : List BoxPart) (rest : List ℕ) (parts : List BoxPart) (at : ℕ) → at < 6
     → IsSplit boxes part theirs before rest parts at → IsWithinAt boxes.shape rest theirs at → IsSplit boxes part theirs before rest parts (at + 1)
 split_within boxes part theirs before rest parts at low so_far within = record {
   whole = so_far.whole;
@@ -63,7 +63,7 @@ pub record IsKept (shape : Shape) (at : ℕ) (rest theirs kept : List ℕ) : Typ
   pub here : (n : ℕ) → has (section shape at kept) n ≡ (has (section shape at rest) n && has (section shape at theirs) n)
   pub elsewhere : (e : ℕ) → e < 6 → e ≢ at → section shape e kept ≡ section shape e rest
 
-pub split_open : (boxes : Boxes) (part more : Part) (theirs : List ℕ) (before : List Part) (rest cut kept : List ℕ) (parts after : List Part) (at : ℕ) → at < 6
+pub split_open : (boxes : Boxes) (part more : BoxPart) (theirs : List ℕ) (before : List BoxPart) (rest cut kept : List ℕ) (parts after : List BoxPart) (at : ℕ) → at < 6
     → IsSplit boxes part theirs before rest parts at → IsCut boxes.shape at rest theirs cut → IsKept boxes.shape at rest theirs kept
     → more.words.items ≡ cut → more.others.value.items ≡ part.others.value.items → after ≡ parts ++ more ∷ []
     → IsSplit boxes part theirs before kept after (at + 1)
@@ -71,7 +71,7 @@ split_open boxes part more theirs before rest cut kept parts after at low so_far
   whole = is_kept.len ∙ so_far.whole;
   within = λ cell in_kept. so_far.within cell (kept_within cell in_kept);
   parts_of = λ box numbers of all.
-      let P : List Part → Type 0 = All (IsPartOf boxes box numbers) in
+      let P : List BoxPart → Type 0 = All (IsPartOf boxes box numbers) in
       subst P (sym after_is) (All-push (IsPartOf boxes box numbers) parts more (so_far.parts_of box numbers of all) (is_part box numbers of));
   kept = λ cell any. pushed cell ∙ or_left _ _ (so_far.kept cell any);
   gone = λ cell in_own none.
@@ -109,7 +109,7 @@ split_open boxes part more theirs before rest cut kept parts after at low so_far
     }
 
 -- in the end what the other hasn't is in a part
-pub split_last : (boxes : Boxes) (part : Part) (theirs : List ℕ) (before : List Part) (rest : List ℕ) (parts : List Part) (at : ℕ) → 6 ≤ at
+pub split_last : (boxes : Boxes) (part : BoxPart) (theirs : List ℕ) (before : List BoxPart) (rest : List ℕ) (parts : List BoxPart) (at : ℕ) → 6 ≤ at
     → IsSplit boxes part theirs before rest parts at
     → (cell : List ℕ) → in_box boxes.shape part.words.items cell ≡ true → in_box boxes.shape theirs cell ≡ false → any_part_has boxes.shape parts cell ≡ true
 split_last boxes part theirs before rest parts at all so_far cell in_own out =
@@ -118,7 +118,7 @@ split_last boxes part theirs before rest parts at all so_far cell in_own out =
     both_ways _ out (box_from boxes.shape theirs cell (λ d low. known.1 d (omega arith))))
 
 -- ---- the search goes on: a part was taken off, and what others may not have of it came onto the parts
-pub gone_on : (boxes : Boxes) (box others : List ℕ) (part : Part) (parts rest after : List Part) → parts ≡ rest ++ part ∷ []
+pub gone_on : (boxes : Boxes) (box others : List ℕ) (part : BoxPart) (parts rest after : List BoxPart) → parts ≡ rest ++ part ∷ []
     → All (IsPartOf boxes box others) parts
     → ((cell : List ℕ) → in_box boxes.shape box cell ≡ true → any_has boxes others cell ≡ false → any_part_has boxes.shape parts cell ≡ true)
     → (IsPartOf boxes box others part → All (IsPartOf boxes box others) rest → All (IsPartOf boxes box others) after)

@@ -3,7 +3,7 @@ use Rattle.std.specs.Prelude.{◌≡◌, ◌<◌, ◌||◌, ℕ, Bool, true, fal
 use Rattle.std.specs.List.{Contains, list_any}
 use Rattle.npf_boxes.specs.declared.boxes.Boxes.{Boxes}
 use Rattle.npf_boxes.specs.declared.look.Left.{Left}
-use Rattle.npf_boxes.specs.declared.part.Part.{Part}
+use Rattle.npf_boxes.specs.declared.part.BoxPart.{BoxPart}
 use Rattle.npf_boxes.specs.declared.shape.Shape.{Shape}
 use Rattle.npf_boxes.specs.Cells.{HasCell, IsPart, any_has, box_at, in_box, words_of}
 
@@ -14,7 +14,7 @@ pub record IsOutside (boxes : Boxes) (box others part : List ℕ) : Type 0 where
   pub apart : (cell : List ℕ) → in_box boxes.shape part cell ≡ true → any_has boxes others cell ≡ false
 
 -- after a look at these boxes this is what the box lost nothing of but what they have, and the others left have of it what they have
-pub record IsLeft (boxes : Boxes) (seen box part left : List ℕ) : Type 0 where
+pub record AreLeft (boxes : Boxes) (seen box part left : List ℕ) : Type 0 where
   pub whole : length part ≡ words_of boxes.shape
   pub within : IsPart boxes.shape part box
   pub lost : (cell : List ℕ) → in_box boxes.shape box cell ≡ true → in_box boxes.shape part cell ≡ false → any_has boxes seen cell ≡ true
@@ -35,7 +35,7 @@ abbrev pub IsToSplitBy : Left → Type 0
 IsToSplitBy left = MatchOption left.by (left.others.items ≡ []) (Contains left.others.items)
 
 -- a part of the box, in which its others have what these have
-pub record IsPartOf (boxes : Boxes) (box numbers : List ℕ) (part : Part) : Type 0 where
+pub record IsPartOf (boxes : Boxes) (box numbers : List ℕ) (part : BoxPart) : Type 0 where
   pub whole : length part.words.items ≡ words_of boxes.shape
   pub within : IsPart boxes.shape part.words.items box
   pub same : (cell : List ℕ) → in_box boxes.shape part.words.items cell ≡ true
@@ -43,5 +43,5 @@ pub record IsPartOf (boxes : Boxes) (box numbers : List ℕ) (part : Part) : Typ
   pub known : All (λ other. other < boxes.count) part.others.value.items
 
 -- one of the parts has the cell
-abbrev pub any_part_has : Shape → List Part → List ℕ → Bool
+abbrev pub any_part_has : Shape → List BoxPart → List ℕ → Bool
 any_part_has shape parts cell = list_any (λ part. in_box shape part.words.items cell) parts

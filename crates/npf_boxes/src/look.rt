@@ -2,7 +2,7 @@
 ghost use Rattle.std.specs.Prelude.{◌≡◌, ◌≢◌, ◌≤◌, ◌<◌, ◌∷◌, ◌++◌, [], ℕ, true, false, List, All, length, IfOk, IfSome, IfNone, IsErrOf, OnOk, Some, None, Ok};
 ghost use Rattle.npf_steps.specs.Spent.{IsSpent};
 ghost use Rattle.npf_boxes.specs.Cells.{IsPart, any_has, box_at, in_box, words_of};
-ghost use Rattle.npf_boxes.specs.Parts.{IsLeft, IsToSplitBy, Narrows};
+ghost use Rattle.npf_boxes.specs.Parts.{AreLeft, IsToSplitBy, Narrows};
 
 use crate::boxes::Boxes;
 use crate::cells::remove;
@@ -86,7 +86,7 @@ pub(crate) fn look(
     requires known { All (λ other. other < boxes.now.count) others.now }
     requires whole { length words.old ≡ words_of boxes.now.shape }
     ensures covered { result ≡ Ok None → (cell : List ℕ) → in_box boxes.now.shape words.old cell ≡ true → any_has boxes.now others.now cell ≡ true }
-    ensures left { IfOk result (λ found. IfSome found (λ left. IsLeft boxes.now others.now words.old words.new left.others.items)) }
+    ensures left { IfOk result (λ found. IfSome found (λ left. AreLeft boxes.now others.now words.old words.new left.others.items)) }
     ensures by { IfOk result (λ left. IfSome left IsToSplitBy) }
     ensures spent { IsErrOf result Stopped.Spent → IsSpent steps.new }
     ensures most { steps.new.most ≡ steps.old.most }

@@ -7,7 +7,7 @@ ghost use Rattle.npf_boxes.specs.Parts.{IsOutside, IsPartOf, any_part_has};
 use crate::boxes::Boxes;
 use crate::cells::least_cell;
 use crate::look::look;
-use crate::part::Part;
+use crate::part::BoxPart;
 use crate::split::split;
 use npf_steps::{Steps, Stopped};
 use std::alloc::Global;
@@ -34,7 +34,7 @@ pub fn outside(
     ensures most { steps.new.most ≡ steps.old.most }
     ensures rises { steps.old.taken ≤ steps.new.taken }
 {
-    let whole = Part {
+    let whole = BoxPart {
         words: from.to_vec(alloc)?,
         others: Rc::new(alloc, others.to_vec(alloc)?)?,
     };
@@ -51,8 +51,8 @@ pub fn outside(
 fn examine(
     alloc: Global,
     boxes: &Boxes,
-    part: Part,
-    parts: &mut Vec<Part>,
+    part: BoxPart,
+    parts: &mut Vec<BoxPart>,
     steps: &mut Steps,
 ) -> Result<Option<Vec<u64>>, Stopped>
     requires known { All (λ other. other < boxes.now.count) part.others.value.items }
@@ -72,11 +72,11 @@ fn examine(
     ensures rises { steps.old.taken ≤ steps.new.taken }
 {
     steps.take(1)?;
-    let Part { mut words, others } = part;
+    let BoxPart { mut words, others } = part;
     let Some(left) = look(alloc, boxes, &mut words, others.as_ref(), steps)? else {
         return Ok(None);
     };
-    let rest = Part {
+    let rest = BoxPart {
         words,
         others: Rc::new(alloc, left.others)?,
     };
@@ -92,7 +92,7 @@ fn examine(
 }
 
 /// The words of a part, which no other may have cells of, if it has a cell.
-fn answer(boxes: &Boxes, part: Part) -> Option<Vec<u64>>
+fn answer(boxes: &Boxes, part: BoxPart) -> Option<Vec<u64>>
     requires { length part.words.items ≡ words_of boxes.now.shape }
     ensures { MatchOption result ((cell : List ℕ) → in_box boxes.now.shape part.words.items cell ≡ false)
         (λ found. (found ≡ part.words) × HasCell boxes.now.shape found.items) }

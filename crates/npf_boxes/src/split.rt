@@ -5,7 +5,7 @@ ghost use Rattle.npf_boxes.specs.Parts.{IsPartOf, any_part_has};
 
 use crate::boxes::Boxes;
 use crate::cells::{keep, remove, section};
-use crate::part::Part;
+use crate::part::BoxPart;
 use npf_bits::is_within;
 use npf_types::NoMemory;
 use std::alloc::Global;
@@ -16,9 +16,9 @@ use std::rc::Rc;
 pub(crate) fn split(
     alloc: Global,
     boxes: &Boxes,
-    part: Part,
+    part: BoxPart,
     by: usize,
-    parts: &mut Vec<Part>,
+    parts: &mut Vec<BoxPart>,
 ) -> Result<(), NoMemory>
     requires known { by < boxes.now.count }
     requires whole { length part.words.items ≡ words_of boxes.now.shape }
@@ -29,7 +29,7 @@ pub(crate) fn split(
     ensures split { OnOk result ((cell : List ℕ) → in_box boxes.now.shape part.words.items cell ≡ true
         → in_box boxes.now.shape (box_at boxes.now by) cell ≡ false → any_part_has boxes.now.shape parts.new.items cell ≡ true) }
 {
-    let Part {
+    let BoxPart {
         words: mut rest,
         others,
     } = part;
@@ -41,7 +41,7 @@ pub(crate) fn split(
         ) {
             let mut words = rest.to_vec(alloc)?;
             remove(&boxes.shape, dimension, &mut words, other);
-            parts.push(Part {
+            parts.push(BoxPart {
                 words,
                 others: others.clone()?,
             })?;

@@ -1,29 +1,21 @@
-use Rattle.std.proofs.Common.{◌&&◌, length, sym, ap, ◌∙◌}
+use Rattle.std.proofs.Common.{◌&&◌, ap, ◌∙◌}
 use Rattle.npf_bits.specs.Bits.{has}
 use Rattle.npf_boxes.specs.Cells.{section}
-use Rattle.npf_boxes.proofs.SectionLemmas.{length-section, section_kept, section_written}
+use Rattle.npf_boxes.proofs.SectionLemmas.{same_lengths, section_kept, section_written}
 use Rattle.npf_boxes.proofs.cells.keep.Goals as goal
 
 pub intersect_with-requires : goal.intersect_with-requires
 unfolding section
-intersect_with-requires c =
-    length-section c.args.shape.now c.args.dimension c.args.words.now c.requires.dimension c.requires.whole
-    ∙ sym (length-section c.args.shape.now c.args.dimension c.args.other.now c.requires.dimension c.requires.other)
-    ∙ sym (ap length c.section.ensures.set)
+intersect_with-requires c = same_lengths c.args.shape.now _ c.args.words.now _ _ c.requires.dimension c.requires.whole c.requires.other c.section.ensures.set
 
 pub returns-clause-here : goal.returns-clause-here
 unfolding section
 returns-clause-here c = λ n.
-    let shape = c.args.shape.now in
-    let d = c.args.dimension in
-    let len = c.intersect_with.auto.a ∙ length-section shape d c.args.words.now c.requires.dimension c.requires.whole in
-    ap (λ set. has set n) (section_written shape d c.args.words.now c.intersect_with.new.a c.requires.dimension c.requires.whole len)
+    ap (λ set. has set n) (section_written c.args.shape.now _ c.args.words.now _ c.requires.dimension c.requires.whole c.intersect_with.auto.a)
     ∙ c.intersect_with.ensures n
-    ∙ ap (λ set. has (section shape d c.args.words.now) n && has set n) c.section.ensures.set
+    ∙ ap (λ set. has (section c.args.shape.now c.args.dimension c.args.words.now) n && has set n) c.section.ensures.set
 
 pub returns-clause-elsewhere : goal.returns-clause-elsewhere
 unfolding section
 returns-clause-elsewhere c = λ d low apart.
-    let shape = c.args.shape.now in
-    let len = c.intersect_with.auto.a ∙ length-section shape c.args.dimension c.args.words.now c.requires.dimension c.requires.whole in
-    section_kept shape c.args.dimension d c.args.words.now c.intersect_with.new.a c.requires.dimension low apart c.requires.whole len
+    section_kept c.args.shape.now c.args.dimension d c.args.words.now _ c.requires.dimension low apart c.requires.whole c.intersect_with.auto.a

@@ -1,10 +1,10 @@
 use Rattle.std.proofs.Common.{◌≡◌, ◌≤◌, take}
-use Rattle.npf_boxes.specs.Parts.{IsLeft, IsToSplitBy}
+use Rattle.npf_boxes.specs.Parts.{AreLeft, IsToSplitBy}
 use Rattle.npf_boxes.proofs.look.look.Given as goal
 
 abbrev pub invariant-loop-other : goal.invariant-loop-other
 invariant-loop-other l = record {
-  left : IsLeft l.boxes (take l.other-index l.others) l.fn.words l.words l.left.others.items;
+  left : AreLeft l.boxes (take l.other-index l.others) l.fn.words l.words l.left.others.items;
   by : IsToSplitBy l.left;
   most : l.steps.most ≡ l.initial.steps.most;
   within : l.initial.steps.taken ≤ l.initial.steps.most → l.steps.taken ≤ l.steps.most;
