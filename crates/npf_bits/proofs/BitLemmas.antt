@@ -223,9 +223,9 @@ has_range words from to n within =
     let row : (64 * from + n) / 64 ≡ from + n / 64 = omega arith in
     let column : (64 * from + n) % 64 ≡ n % 64 = omega arith in
     let word : get_or (slice_range words from to) (n / 64) 0 ≡ get_or words ((64 * from + n) / 64) 0 =
-      get_or-take (to - from) (drop from words) (n / 64) 0 within
-      ∙ get_or-drop from words (n / 64) 0
-      ∙ sym (ap (λ j. get_or words j 0) row) in
+    get_or-take (to - from) (drop from words) (n / 64) 0 within
+    ∙ get_or-drop from words (n / 64) 0
+    ∙ sym (ap (λ j. get_or words j 0) row) in
     has-word (slice_range words from to) n _ word
     ∙ sym (ap (λ j. bit_at (get_or words ((64 * from + n) / 64) 0) j == 1) column)
     ∙ sym (has-word words (64 * from + n) _ refl)
