@@ -5,8 +5,8 @@ use Rattle.std.{specs.List.{list_all, range_with_len, slice_range}, proofs.lemma
 use Rattle.std.proofs.lemmas.Bool.{and_from, and_parts, cases_Bool, cases_eq, cases_lt, both_ways, false_from_ne_true, not_from_false, true_from_ne_false}
 use Rattle.npf_bits.{specs.Bits.has, proofs.BitLemmas.{has_range, has_range_past}}
 use Rattle.npf_boxes.specs.declared.shape.Shape.{Shape}
-use Rattle.npf_boxes.specs.Cells.{HasCell, IsPart, in_box, section}
-use Rattle.npf_boxes.specs.Fits.{IsWithinAt}
+use Rattle.npf_boxes.specs.Cell.{HasCell, IsPart, in_box, section}
+use Rattle.npf_boxes.specs.Fit.{IsWithinAt}
 
 all_parts : (p : ℕ → Bool) (from n : ℕ) → list_all p (range_with_len from n) ≡ true → (k : ℕ) → from ≤ k → k < from + n → p k ≡ true
 all_parts p from zero all k low high = absurd (omega arith)

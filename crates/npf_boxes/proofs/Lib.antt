@@ -1,5 +1,5 @@
 pub mod SectionLemmas
 pub mod CellLemmas
-pub mod BoxesLemmas
+pub mod BoxListLemmas
 pub mod LookLemmas
 pub mod SplitLemmas

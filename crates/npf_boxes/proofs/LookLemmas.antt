@@ -3,10 +3,10 @@ use Rattle.std.proofs.Common.{◌≡◌, ◌≢◌, ℕ, ◌+◌, ◌<◌, ◌�
 use Rattle.std.{specs.{List.list_any, Prelude.All}, proofs.lemmas.List.{take-append-drop, take_all, Elements.{All-nil, All-push}, Folds.{list_any-append, list_any_at, list_any_more}}}
 use Rattle.std.proofs.lemmas.Bool.{and_parts, both_ways, cases_Bool, cases_eq, false_from_ne_true, not-true, or_left, or_right}
 use Rattle.npf_bits.specs.Bits.{has}
-use Rattle.npf_boxes.specs.declared.{boxes.Boxes.Boxes, part.BoxPart.BoxPart}
-use Rattle.npf_boxes.specs.Cells.{any_has, box_at, in_box, section, words_of}
-use Rattle.npf_boxes.specs.Fits.{IsWithinAt}
-use Rattle.npf_boxes.specs.Parts.{AreLeft, IsPartOf, Narrows}
+use Rattle.npf_boxes.specs.declared.{box_list.Boxes.Boxes, part.BoxPart.BoxPart}
+use Rattle.npf_boxes.specs.Cell.{any_has, box_at, in_box, section, words_of}
+use Rattle.npf_boxes.specs.Fit.{IsWithinAt}
+use Rattle.npf_boxes.specs.Part.{AreLeft, IsPartOf, Narrows}
 use Rattle.npf_boxes.proofs.CellLemmas.{box_from, box_parts, changed_within, or_none, removed_has}
 
 -- ---- what another box has in all dimensions but one is taken off in that one

@@ -3,7 +3,7 @@ use Rattle.std.proofs.Common.{◌≡◌, ◌≢◌, ℕ, zero, suc, ◌+◌, ◌
 use Rattle.std.{specs.List.slice_range, proofs.lemmas.{Bool.cases_lt, List.{drop-take, length-take, length-drop}, Slice.{between-put_mid, drop-put_mid, take-put_mid_below}}}
 use borrow.Rule.Slice.PartMut.{put_mid}
 use Rattle.npf_boxes.specs.declared.shape.Shape.{Shape}
-use Rattle.npf_boxes.specs.Cells.{section, words_of}
+use Rattle.npf_boxes.specs.Cell.{section, words_of}
 
 rise : (starts : List ℕ) → ((d : ℕ) → d < 6 → get_or starts d 0 ≤ get_or starts (d + 1) 0) → (i n : ℕ) → i + n ≤ 6
     → get_or starts i 0 ≤ get_or starts (i + n) 0

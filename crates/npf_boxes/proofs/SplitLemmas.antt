@@ -3,10 +3,10 @@ use Rattle.std.proofs.Common.{◌≡◌, ◌≢◌, ℕ, ◌+◌, ◌<◌, ◌�
 use Rattle.std.{specs.{List.list_any, Prelude.All}, proofs.lemmas.List.{Elements.{All-pop, All-push}, Folds.list_any-append}}
 use Rattle.std.proofs.lemmas.Bool.{and_from, and_parts, both_ways, cases_eq, or_cases, or_left, or_parts, true_from_ne_false}
 use Rattle.npf_bits.specs.Bits.{has}
-use Rattle.npf_boxes.specs.declared.{boxes.Boxes.Boxes, part.BoxPart.BoxPart, shape.Shape.Shape}
-use Rattle.npf_boxes.specs.Cells.{IsPart, any_has, in_box, section, words_of}
-use Rattle.npf_boxes.specs.Fits.{IsWithinAt}
-use Rattle.npf_boxes.specs.Parts.{IsPartOf, any_part_has}
+use Rattle.npf_boxes.specs.declared.{box_list.Boxes.Boxes, part.BoxPart.BoxPart, shape.Shape.Shape}
+use Rattle.npf_boxes.specs.Cell.{IsPart, any_has, in_box, section, words_of}
+use Rattle.npf_boxes.specs.Fit.{IsWithinAt}
+use Rattle.npf_boxes.specs.Part.{IsPartOf, any_part_has}
 use Rattle.npf_boxes.proofs.CellLemmas.{box_from, box_parts, changed_has, changed_within, or_none, removed_has}
 
 pub any_pushed : (shape : Shape) (parts : List BoxPart) (part : BoxPart) (cell : List ℕ)

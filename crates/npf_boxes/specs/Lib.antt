@@ -1,3 +1,3 @@
-pub mod Cells
-pub mod Fits
-pub mod Parts
+pub mod Cell
+pub mod Fit
+pub mod Part

@@ -1,9 +1,9 @@
 // How a box lies to another.
 ghost use Rattle.std.specs.Prelude.{◌≡◌, length};
-ghost use Rattle.npf_boxes.specs.Cells.{words_of};
-ghost use Rattle.npf_boxes.specs.Fits.{IsFit};
+ghost use Rattle.npf_boxes.specs.Cell.{words_of};
+ghost use Rattle.npf_boxes.specs.Fit.{IsFit};
 
-use crate::cells::section;
+use crate::cell::section;
 use crate::shape::Shape;
 use npf_bits::{is_within, meets};
 

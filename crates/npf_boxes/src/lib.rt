@@ -5,12 +5,12 @@
 // sets of its dimensions stand one behind the other, as the `Shape` of the question says.
 //
 // The contract: `outside` gives a part of the box that has a cell and has none in any of the others, or says that each cell of the box is in
-// one of them (specs/Cells), or ends because its steps were spent. The question is NP-hard in the number of dimensions, so it is the steps
+// one of them (specs/Cell), or ends because its steps were spent. The question is NP-hard in the number of dimensions, so it is the steps
 // that bound it: a step is taken for each part and for each look at another box.
 #![tactic(auto)]
 
-mod boxes;
-mod cells;
+mod box_list;
+mod cell;
 mod fit;
 mod look;
 mod part;
@@ -18,7 +18,7 @@ mod search;
 mod shape;
 mod split;
 
-pub use boxes::Boxes;
-pub use cells::{least_cell, meet};
+pub use box_list::Boxes;
+pub use cell::{least_cell, meet};
 pub use search::outside;
 pub use shape::Shape;

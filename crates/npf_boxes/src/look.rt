@@ -1,11 +1,11 @@
 // A look at each of the other boxes of a part.
 ghost use Rattle.std.specs.Prelude.{◌≡◌, ◌≢◌, ◌≤◌, ◌<◌, ◌∷◌, ◌++◌, [], ℕ, true, false, List, All, length, IfOk, IfSome, IfNone, IsErrOf, OnOk, Some, None, Ok};
 ghost use Rattle.npf_steps.specs.Spent.{IsSpent};
-ghost use Rattle.npf_boxes.specs.Cells.{IsPart, any_has, box_at, in_box, words_of};
-ghost use Rattle.npf_boxes.specs.Parts.{AreLeft, IsToSplitBy, Narrows};
+ghost use Rattle.npf_boxes.specs.Cell.{IsPart, any_has, box_at, in_box, words_of};
+ghost use Rattle.npf_boxes.specs.Part.{AreLeft, IsToSplitBy, Narrows};
 
-use crate::boxes::Boxes;
-use crate::cells::remove;
+use crate::box_list::Boxes;
+use crate::cell::remove;
 use crate::fit::{Fit, fit_of};
 use npf_steps::{Steps, Stopped};
 use npf_types::NoMemory;

@@ -1,11 +1,11 @@
 // The search for a cell of a box outside others.
 ghost use Rattle.std.specs.Prelude.{◌≡◌, ◌<◌, ◌≤◌, ℕ, true, false, List, All, length, IfOk, IfSome, IsErrOf, Ok, None, MatchOption};
 ghost use Rattle.npf_steps.specs.Spent.{IsSpent};
-ghost use Rattle.npf_boxes.specs.Cells.{HasCell, any_has, in_box, words_of};
-ghost use Rattle.npf_boxes.specs.Parts.{IsOutside, IsPartOf, any_part_has};
+ghost use Rattle.npf_boxes.specs.Cell.{HasCell, any_has, in_box, words_of};
+ghost use Rattle.npf_boxes.specs.Part.{IsOutside, IsPartOf, any_part_has};
 
-use crate::boxes::Boxes;
-use crate::cells::least_cell;
+use crate::box_list::Boxes;
+use crate::cell::least_cell;
 use crate::look::look;
 use crate::part::BoxPart;
 use crate::split::split;

@@ -1,10 +1,10 @@
 // A part that is split by another box.
 ghost use Rattle.std.specs.Prelude.{◌≡◌, ◌<◌, ℕ, true, false, List, All, length, OnOk};
-ghost use Rattle.npf_boxes.specs.Cells.{any_has, box_at, in_box, words_of};
-ghost use Rattle.npf_boxes.specs.Parts.{IsPartOf, any_part_has};
+ghost use Rattle.npf_boxes.specs.Cell.{any_has, box_at, in_box, words_of};
+ghost use Rattle.npf_boxes.specs.Part.{IsPartOf, any_part_has};
 
-use crate::boxes::Boxes;
-use crate::cells::{keep, remove, section};
+use crate::box_list::Boxes;
+use crate::cell::{keep, remove, section};
 use crate::part::BoxPart;
 use npf_bits::is_within;
 use npf_types::NoMemory;

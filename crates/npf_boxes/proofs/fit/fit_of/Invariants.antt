@@ -1,5 +1,5 @@
 use Rattle.std.proofs.Common.{◌≡◌, ◌≢◌, ℕ, ◌<◌, ◌≤◌}
-use Rattle.npf_boxes.specs.Fits.{IsWithinAt}
+use Rattle.npf_boxes.specs.Fit.{IsWithinAt}
 use Rattle.npf_boxes.proofs.fit.fit_of.Given as goal
 
 abbrev pub invariant-loop-dimension : goal.invariant-loop-dimension

@@ -1,5 +1,5 @@
 use Rattle.std.proofs.Common.{◌≡◌, ◌≤◌, take}
-use Rattle.npf_boxes.specs.Parts.{AreLeft, IsToSplitBy}
+use Rattle.npf_boxes.specs.Part.{AreLeft, IsToSplitBy}
 use Rattle.npf_boxes.proofs.look.look.Given as goal
 
 abbrev pub invariant-loop-other : goal.invariant-loop-other

@@ -1,5 +1,5 @@
 use Rattle.std.proofs.Common.{refl, sym, ap, ◌∙◌}
-use Rattle.npf_boxes.specs.Cells.{in_box}
+use Rattle.npf_boxes.specs.Cell.{in_box}
 use Rattle.npf_boxes.proofs.search.answer.Goals as goal
 
 pub returns : goal.returns

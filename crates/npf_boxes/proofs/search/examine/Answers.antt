@@ -2,7 +2,7 @@ use Rattle.std.proofs.Common.{List, sym, subst, ap, ◌∙◌}
 use Rattle.std.specs.Prelude.{All}
 use Rattle.std.proofs.lemmas.List.Elements.{All-push}
 use Rattle.npf_boxes.specs.declared.part.BoxPart.{BoxPart}
-use Rattle.npf_boxes.specs.Parts.{IsPartOf}
+use Rattle.npf_boxes.specs.Part.{IsPartOf}
 use Rattle.npf_boxes.proofs.CellLemmas.{all_written}
 use Rattle.npf_boxes.proofs.LookLemmas.{left_part}
 use Rattle.npf_boxes.proofs.search.examine.Goals as goal

@@ -1,7 +1,7 @@
 use Rattle.std.proofs.Common.{◌≡◌, ℕ, ◌-◌, ◌≤◌, true, false, List}
 use Rattle.std.specs.Prelude.{All}
-use Rattle.npf_boxes.specs.Cells.{any_has, in_box}
-use Rattle.npf_boxes.specs.Parts.{IsPartOf, any_part_has}
+use Rattle.npf_boxes.specs.Cell.{any_has, in_box}
+use Rattle.npf_boxes.specs.Part.{IsPartOf, any_part_has}
 use Rattle.npf_boxes.proofs.search.outside.Given as goal
 
 abbrev pub invariant-loop-part : goal.invariant-loop-part

@@ -1,5 +1,5 @@
 use Rattle.std.proofs.Common.{rules, ◌≡◌, ℕ, List, subst, ap, ◌∙◌}
-use Rattle.npf_boxes.specs.Cells.{in_box, section}
+use Rattle.npf_boxes.specs.Cell.{in_box, section}
 use Rattle.npf_boxes.proofs.CellLemmas.{all_written, within_sets}
 use Rattle.npf_boxes.proofs.SplitLemmas.{IsCut, IsKept, split_last, split_open, split_within}
 use Rattle.npf_boxes.proofs.split.split.Goals as goal

@@ -4,7 +4,7 @@ use Rattle.npf_bits.specs.Bits.{has}
 use Rattle.npf_boxes.specs.declared.fit.Fit.{Fit}
 use Rattle.npf_boxes.specs.declared.fit.Fit.TheVariants.{Apart, Open, Unit as UnitOf, Within}
 use Rattle.npf_boxes.specs.declared.shape.Shape.{Shape}
-use Rattle.npf_boxes.specs.Cells.{IsPart, in_box, section}
+use Rattle.npf_boxes.specs.Cell.{IsPart, in_box, section}
 
 -- the set of this dimension lies within the other's
 abbrev pub IsWithinAt : Shape → List ℕ → List ℕ → ℕ → Type 0

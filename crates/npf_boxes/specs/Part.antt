@@ -1,11 +1,11 @@
 -- What a search keeps of the parts of a box and of the others.
 use Rattle.std.specs.Prelude.{◌≡◌, ◌<◌, ◌||◌, ℕ, Bool, true, false, List, [], All, length, MatchOption}
 use Rattle.std.specs.List.{Contains, list_any}
-use Rattle.npf_boxes.specs.declared.boxes.Boxes.{Boxes}
+use Rattle.npf_boxes.specs.declared.box_list.Boxes.{Boxes}
 use Rattle.npf_boxes.specs.declared.look.Left.{Left}
 use Rattle.npf_boxes.specs.declared.part.BoxPart.{BoxPart}
 use Rattle.npf_boxes.specs.declared.shape.Shape.{Shape}
-use Rattle.npf_boxes.specs.Cells.{HasCell, IsPart, any_has, box_at, in_box, words_of}
+use Rattle.npf_boxes.specs.Cell.{HasCell, IsPart, any_has, box_at, in_box, words_of}
 
 -- a part of the box that has a cell, and none in any of the others
 pub record IsOutside (boxes : Boxes) (box others part : List ℕ) : Type 0 where

@@ -1,8 +1,8 @@
 use Rattle.std.proofs.Common.{◌+◌, ◌*◌, ap, ◌∙◌}
 use Rattle.std.specs.List.{slice_range}
-use Rattle.npf_boxes.specs.Cells.{box_at, words_of}
-use Rattle.npf_boxes.proofs.BoxesLemmas.{kept, pushed}
-use Rattle.npf_boxes.proofs.boxes.Boxes.push.Goals as goal
+use Rattle.npf_boxes.specs.Cell.{box_at, words_of}
+use Rattle.npf_boxes.proofs.BoxListLemmas.{kept, pushed}
+use Rattle.npf_boxes.proofs.box_list.Boxes.push.Goals as goal
 
 pub returns-clause-there : goal.returns-clause-there
 unfolding box_at

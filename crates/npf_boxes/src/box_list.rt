@@ -16,7 +16,7 @@ pub struct Boxes {
 
 impl Boxes {
     ghost use Rattle.std.specs.Prelude.{ℕ, ◌+◌, ◌≤◌, ◌<◌, OnOk};
-    ghost use Rattle.npf_boxes.specs.Cells.{box_at, words_of};
+    ghost use Rattle.npf_boxes.specs.Cell.{box_at, words_of};
 
     /// No box as yet.
     pub fn new(alloc: Global, shape: Shape) -> Boxes

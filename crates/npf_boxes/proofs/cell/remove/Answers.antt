@@ -1,8 +1,8 @@
 use Rattle.std.proofs.Common.{◌&&◌, not, ap, ◌∙◌}
 use Rattle.npf_bits.specs.Bits.{has}
-use Rattle.npf_boxes.specs.Cells.{section}
+use Rattle.npf_boxes.specs.Cell.{section}
 use Rattle.npf_boxes.proofs.SectionLemmas.{same_lengths, section_kept, section_written}
-use Rattle.npf_boxes.proofs.cells.remove.Goals as goal
+use Rattle.npf_boxes.proofs.cell.remove.Goals as goal
 
 pub difference_with-requires : goal.difference_with-requires
 unfolding section

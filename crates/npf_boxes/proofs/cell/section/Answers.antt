@@ -1,6 +1,6 @@
 use Rattle.std.proofs.Common.{refl}
-use Rattle.npf_boxes.specs.Cells.{section}
-use Rattle.npf_boxes.proofs.cells.section.Goals as goal
+use Rattle.npf_boxes.specs.Cell.{section}
+use Rattle.npf_boxes.proofs.cell.section.Goals as goal
 
 pub returns-clause-set : goal.returns-clause-set
 unfolding section

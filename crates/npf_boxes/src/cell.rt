@@ -1,7 +1,7 @@
 // The sets of a box by dimension, and its cells.
 ghost use Rattle.std.specs.Prelude.{◌≡◌, ◌≢◌, ◌≤◌, ◌<◌, ◌+◌, ◌-◌, ◌^◌, ◌&&◌, ℕ, true, false, not, List, length, slice_index, IfOk, IfSome, MatchOption, Ok, None};
 ghost use Rattle.npf_bits.specs.Bits.{has};
-ghost use Rattle.npf_boxes.specs.Cells.{HasCell, in_box, section, words_of};
+ghost use Rattle.npf_boxes.specs.Cell.{HasCell, in_box, section, words_of};
 
 use crate::shape::Shape;
 use npf_bits::{difference_with, first, intersect_with, meets};

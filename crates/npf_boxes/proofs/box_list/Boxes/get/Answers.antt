@@ -1,5 +1,5 @@
-use Rattle.npf_boxes.specs.Cells.{box_at}
-use Rattle.npf_boxes.proofs.boxes.Boxes.get.Goals as goal
+use Rattle.npf_boxes.specs.Cell.{box_at}
+use Rattle.npf_boxes.proofs.box_list.Boxes.get.Goals as goal
 
 pub returns-clause-words : goal.returns-clause-words
 unfolding box_at

@@ -2,7 +2,7 @@
 use Rattle.std.specs.Prelude.{◌≡◌, ◌+◌, ◌*◌, ℕ, Bool, true, List, slice_index}
 use Rattle.std.specs.List.{list_all, list_any, range_with_len, slice_range}
 use Rattle.npf_bits.specs.Bits.{has}
-use Rattle.npf_boxes.specs.declared.boxes.Boxes.{Boxes}
+use Rattle.npf_boxes.specs.declared.box_list.Boxes.{Boxes}
 use Rattle.npf_boxes.specs.declared.shape.Shape.{Shape}
 
 -- how many words a box has

@@ -2,7 +2,7 @@ use Rattle.std.proofs.Common.{rules, ◌≡◌, ◌&&◌, ℕ, length, ap, ◌�
 use Rattle.std.proofs.lemmas.Bool.{iff_false}
 use Rattle.npf_bits.specs.Bits.{has}
 use Rattle.npf_boxes.proofs.CellLemmas.{all_written, apart_sets, box_met, has_met, met_more}
-use Rattle.npf_boxes.proofs.cells.meet.Goals as goal
+use Rattle.npf_boxes.proofs.cell.meet.Goals as goal
 
 pub returns-then-not-meets-clause-none : goal.returns-then-not-meets-clause-none
 returns-then-not-meets-clause-none c = λ _.

@@ -1,7 +1,7 @@
 use Rattle.std.proofs.Common.{◌≡◌, ℕ, ◌<◌, true}
 use Rattle.npf_bits.specs.Bits.{has}
-use Rattle.npf_boxes.specs.Cells.{section}
-use Rattle.npf_boxes.proofs.cells.meet.Given as goal
+use Rattle.npf_boxes.specs.Cell.{section}
+use Rattle.npf_boxes.proofs.cell.meet.Given as goal
 
 abbrev pub invariant-loop-dimension : goal.invariant-loop-dimension
 invariant-loop-dimension l =

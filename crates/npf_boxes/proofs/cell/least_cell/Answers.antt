@@ -1,6 +1,6 @@
 use Rattle.std.proofs.Common.{arith, length-set}
 use Rattle.npf_boxes.proofs.CellLemmas.{IsLeastBelow, least_more, least_whole, no_cell}
-use Rattle.npf_boxes.proofs.cells.least_cell.Goals as goal
+use Rattle.npf_boxes.proofs.cell.least_cell.Goals as goal
 
 pub returns-in_default : goal.returns-in_default
 returns-in_default c = no_cell c.args.shape.now c.args.words.now _ c.loop-dimension.dimension c.loop-dimension-test.true c.section.ensures.set c.in_default.ensures
