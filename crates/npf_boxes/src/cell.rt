@@ -20,6 +20,17 @@ pub(crate) fn section<'a>(shape: &Shape, dimension: usize, words: &'a [u64]) -> 
     &words[shape.starts[dimension]..shape.starts[dimension + 1]]
 }
 
+/// Writes the set of a dimension.
+pub fn put(shape: &Shape, dimension: usize, words: &mut [u64], set: &[u64])
+    requires dimension { dimension < 6 }
+    requires whole { length words.old ≡ words_of shape.now }
+    requires set { length set.now ≡ slice_index shape.now.starts (dimension + 1) - slice_index shape.now.starts dimension }
+    ensures here { section shape.now dimension words.new ≡ set.now }
+    ensures elsewhere { (d : ℕ) → d < 6 → d ≢ dimension → section shape.now d words.new ≡ section shape.now d words.old }
+{
+    words[shape.starts[dimension]..shape.starts[dimension + 1]].copy_from_slice(set);
+}
+
 /// Takes out of the set of a dimension what the other box has there.
 pub(crate) fn remove(shape: &Shape, dimension: usize, words: &mut [u64], other: &[u64])
     requires dimension { dimension < 6 }

@@ -19,6 +19,6 @@ mod shape;
 mod split;
 
 pub use box_list::Boxes;
-pub use cell::{least_cell, meet};
+pub use cell::{least_cell, meet, put};
 pub use search::outside;
 pub use shape::Shape;
