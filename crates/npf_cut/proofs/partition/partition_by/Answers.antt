@@ -1,0 +1,42 @@
+use Rattle.std.proofs.{Common.{◌≡◌, ◌<◌, ◌≤◌, ℕ, List, length, take, arith, subst, ◌∙◌}, lemmas.List.take_all}
+use Rattle.npf_cut.specs.{declared.span.Span.Span, Partition.RespectsSets}
+use Rattle.npf_cut.proofs.PartitionLemmas.{respects_more, respects_numbered}
+use Rattle.npf_cut.proofs.partition.partition_by.Goals as goal
+
+pub loop-from-preserved-in_ok-number : goal.loop-from-preserved-in_ok-number
+loop-from-preserved-in_ok-number c =
+    let inv = c.loop-from.invariant in
+    let spans = c.args.spans.now in
+    let to = c.set_end-to.result in
+    let one = respects_more spans c.loop-from.from to c.loop-from.partition.classes.items c.refine.new.self.classes.items c.set_end-to.ensures inv.respects c.in_ok-refine.ensures.refined in
+    let refined = c.in_ok-refine.ensures.refined.same_len in
+    let numbers = c.in_ok-number.ensures.numbers in
+    let numbered = numbers.same_len in
+    let count = inv.count in
+    record {
+      within = c.set_end-to.ensures.within;
+      count = omega arith;
+      known = c.in_ok-number.ensures.known;
+      respects = respects_numbered (take to spans) c.refine.new.self.classes.items c.number.new.self.classes.items c.in_ok-number.field-0.items one numbers;
+      most = c.in_ok-take.ensures.most ∙ c.in_ok-refine.ensures.most ∙ inv.most;
+      rises = let a = c.in_ok-take.ensures.rises in let b = c.in_ok-refine.ensures.rises in let d = inv.rises in omega arith;
+    }
+
+pub loop-from-preserved : goal.loop-from-preserved
+loop-from-preserved c =
+    let inv = c.loop-from.invariant in
+    let spans = c.args.spans.now in
+    let to = c.set_end-to.result in
+    let refined = c.in_ok-refine.ensures.refined.same_len in
+    let count = inv.count in
+    record {
+      within = c.set_end-to.ensures.within;
+      count = omega arith;
+      known = c.in_ok-refine.ensures.known;
+      respects = respects_more spans c.loop-from.from to c.loop-from.partition.classes.items c.refine.new.self.classes.items c.set_end-to.ensures inv.respects c.in_ok-refine.ensures.refined;
+      most = c.in_ok-refine.ensures.most ∙ inv.most;
+      rises = let b = c.in_ok-refine.ensures.rises in let d = inv.rises in omega arith;
+    }
+
+pub returns-clause-respects : goal.returns-clause-respects
+returns-clause-respects c = subst (λ (l : List Span). RespectsSets l c.loop-from.partition.classes.items) (take_all c.loop-from.from c.args.spans.now c.loop-from-test.false) c.loop-from.invariant.respects
