@@ -2,5 +2,5 @@ mod RangeLemmas
 mod SpanLemmas
 mod StartLemmas
 mod PartitionLemmas
-mod CutLemmas
+mod DimensionLemmas
 mod SetBitsLemmas

@@ -1,8 +1,10 @@
 -- Classes that sets split, and numbers of classes.
-use Rattle.std.proofs.Common.{◌≡◌, ◌≤◌, ◌<◌, ◌+◌, ◌-◌, ◌↔◌, ◌⊎◌, ◌≢◌, ℕ, List, [], ◌∷◌, ◌++◌, Contains, length, get_or, set, take, replicate, vec_len, ap, inl, inr, ⊎_elim, sym, subst, ◌∙◌, arith}
-use Rattle.std.specs.List.{All, between}
-use Rattle.std.proofs.lemmas.{Bool.{cases_lt, cases_eq}, List.{get_or-set_same, get_or-set_other, get_or_append_left, get_or_at, length-set, length_push, get_or_default, get_or-replicate, length-replicate}}
-use Rattle.npf_cut.specs.{declared.{partition.Partition.Partition, span.Span.Span}, Partition.{AreKnown, AreParts, AreFirsts, IsNumbering, IsRefinedBy, RespectsSets}, Span.{IsIntervalOf, IsSpanned, IsRunOfSet}}
+use Rattle.std.proofs.Common.{◌≡◌, ◌≤◌, ◌<◌, ◌+◌, ◌↔◌, ◌⊎◌, ◌≢◌, ℕ, List, [], ◌∷◌, ◌++◌, length, get_or, set, take, replicate, vec_len, ap, inl, inr, ⊎_elim, sym, subst, ◌∙◌, arith}
+use Rattle.std.specs.List.{between}
+use Rattle.std.proofs.lemmas.{Bool.{cases_lt, cases_eq}, List.{get_or-set_same, get_or-set_other, get_or_append_left, get_or_at, get_or_default, get_or-replicate}}
+use Rattle.std.proofs.lemmas.List.{length-set, length_push, length-replicate}
+use Rattle.npf_cut.specs.{declared.{partition.Partition.Partition, span.SetSpan.SetSpan}, Span.{IsSpanned, IsRunOfSet}}
+use Rattle.npf_cut.specs.Partition.{AreKnown, AreParts, AreFirsts, IsNumbering, IsRefinedBy, RespectsSets}
 use Rattle.npf_cut.proofs.SpanLemmas.{among_first, first_among, among_between, between_among, spanned_cases, spanned_new, spanned_old}
 
 -- an interval more is in a fresh class
@@ -23,7 +25,7 @@ moved_more old now next n fresh from at inv order others here k lt = ⊎_elim
     (cases_eq k at)
 
 -- a span more has its intervals in fresh classes
-pub spans_moved : (now next : List ℕ) (xs : List Span) (y : Span) (n fresh : ℕ)
+pub spans_moved : (now next : List ℕ) (xs : List SetSpan) (y : SetSpan) (n fresh : ℕ)
     → ((k : ℕ) → k < n → (fresh ≤ get_or now k 0) ↔ IsSpanned xs k)
     → ((k : ℕ) → k < n → (fresh ≤ get_or next k 0) ↔ ((fresh ≤ get_or now k 0) ⊎ ((y.from ≤ k) × (k < y.to))))
     → (k : ℕ) → k < n → (fresh ≤ get_or next k 0) ↔ IsSpanned (xs ++ y ∷ []) k
@@ -46,7 +48,7 @@ parts_known old classes parts fresh are = record {
 }
 
 -- the spans of a set more are told apart
-pub respects_more : (spans : List Span) (from to : ℕ) (old new : List ℕ) → IsRunOfSet spans from to → RespectsSets (take from spans) old
+pub respects_more : (spans : List SetSpan) (from to : ℕ) (old new : List ℕ) → IsRunOfSet spans from to → RespectsSets (take from spans) old
     → IsRefinedBy (between from to spans) old new → RespectsSets (take to spans) new
 respects_more spans from to old new run had refined s j k ltj ltk same h =
     let len = refined.same_len in
@@ -65,20 +67,20 @@ respects_more spans from to old new run had refined s j k ltj ltk same h =
     record { span = h.span; among = among_between spans from to found.0 h.span all late found.1 found.2; from = h.from; to = h.to } in
     let at = between_among spans from to told.span all told.among in
     let of_one : (told.span).set ≡ (get_or spans from told.span).set =
-    subst (λ (x : Span). x.set ≡ (get_or spans from told.span).set) at.3 (run.same at.0 told.span at.1 at.2) in
+    subst (λ (x : SetSpan). x.set ≡ (get_or spans from told.span).set) at.3 (run.same at.0 told.span at.1 at.2) in
     let of_other : (h.span).set ≡ (get_or spans from h.span).set =
-    subst (λ (x : Span). x.set ≡ (get_or spans from h.span).set) found.2 (run.same found.0 h.span late found.1) in
+    subst (λ (x : SetSpan). x.set ≡ (get_or spans from h.span).set) found.2 (run.same found.0 h.span late found.1) in
     let begin : get_or spans from told.span ≡ get_or spans from h.span = get_or_default spans from told.span h.span (omega arith) in
     record {
       span = told.span;
       among = among_first spans to at.0 told.span all at.2 at.3;
-      of = of_one ∙ ap (λ (x : Span). x.set) begin ∙ sym of_other ∙ h.of;
+      of = of_one ∙ ap (λ (x : SetSpan). x.set) begin ∙ sym of_other ∙ h.of;
       from = told.from;
       to = told.to;
     })
     (cases_lt found.0 from)
 
-pub respects_numbered : (spans : List Span) (old new firsts : List ℕ) → RespectsSets spans old → IsNumbering old new firsts → RespectsSets spans new
+pub respects_numbered : (spans : List SetSpan) (old new firsts : List ℕ) → RespectsSets spans old → IsNumbering old new firsts → RespectsSets spans new
 respects_numbered spans old new firsts had numbered s j k ltj ltk same h =
     let len = numbered.same_len in
     had s j k (omega arith) (omega arith) (numbered.finer j k (omega arith) (omega arith) same) h

@@ -1,9 +1,12 @@
 -- The bits of sets through the numbers that are put into them.
-use Rattle.std.proofs.Common.{◌≡◌, ◌≤◌, ◌<◌, ◌+◌, ◌-◌, ◌*◌, ◌/◌, ◌%◌, ◌==◌, ◌||◌, ◌↔◌, ◌⊎◌, ℕ, Bool, true, List, [], ◌∷◌, ◌++◌, Contains, length, get_or, take, drop, vec_len, ap, inl, inr, ⊎_elim, sym, subst, ◌∙◌, arith, refl}
+use Rattle.std.proofs.Common.{◌≡◌, ◌≤◌, ◌<◌, ◌+◌, ◌-◌, ◌*◌, ◌/◌, ◌%◌, ◌==◌, ◌||◌, ◌↔◌, ◌⊎◌, ℕ, Bool, true, List, [], ◌∷◌, ◌++◌, Contains, length}
+use Rattle.std.proofs.Common.{get_or, take, drop, vec_len, ap, inl, inr, ⊎_elim, sym, subst, ◌∙◌, arith, refl}
 use Rattle.std.{specs.List.{All, between}, proofs.Math.Nat.mul-le-mul_right}
-use Rattle.std.proofs.lemmas.{Bool.{both_ways, cases_lt, eq-eqb, eqb-true, or_cases, or_left, or_right}, List.{get_or-take, get_or-drop, get_or_default, length-take}, List.Elements.{All-contains, Contains-append_left, Contains-push, Contains-push_cases}}
+use Rattle.std.proofs.lemmas.{Bool.{both_ways, cases_lt, eq-eqb, eqb-true, or_cases, or_left, or_right}, List.{get_or-take, get_or-drop, get_or_default, length-take}}
+use Rattle.std.proofs.lemmas.List.Elements.{All-contains, Contains-append_left, Contains-push, Contains-push_cases}
 use Rattle.npf_bits.{specs.Bits.has, proofs.BitLemmas.has_past}
-use Rattle.npf_cut.specs.{Cut.{HasClass, IsClassOf, class_count}, SetBits.{has_class, words_of}, Span.{IsIntervalOf, IsWithin}, declared.{bits.SetBits.SetBits, cut.Cut.Cut, span.Span.Span}}
+use Rattle.npf_cut.specs.{Dimension.{HasClass, IsClassOf, class_count}, SetBits.{has_class, words_of}, Span.IsSpanWithin}
+use Rattle.npf_cut.specs.declared.{set_bits.SetBits.SetBits, dimension.Dimension.Dimension, span.SetSpan.SetSpan}
 use Rattle.npf_cut.proofs.SpanLemmas.{among_between, between_among}
 
 -- a number more is in the set
@@ -47,7 +50,8 @@ put_row p s set k classes small short = (
   λ h.
       let le = h.0 in
       let class : ℕ = 64 * (s * p) + k - 64 * (set * p) in
-      let place = same_place p s set k class small (All-contains (λ c. c < 64 * p) classes class short h.1) (let e : 64 * (s * p) + k ≡ 64 * (set * p) + (64 * (s * p) + k - 64 * (set * p)) = omega arith in e) in
+      let e : 64 * (s * p) + k ≡ 64 * (set * p) + (64 * (s * p) + k - 64 * (set * p)) = omega arith in
+      let place = same_place p s set k class small (All-contains (λ c. c < 64 * p) classes class short h.1) e in
       (place.0, subst (λ (c : ℕ). Contains classes c) (sym place.1) h.1),
   λ h.
       let row : s * p ≡ set * p = ap (λ (n : ℕ). n * p) h.0 in
@@ -79,7 +83,7 @@ words_has words p set k small =
     rw word (rw rest refl)
 
 -- a span more has its classes
-pub class_cases : (classes : List ℕ) (xs : List Span) (y : Span) (set class : ℕ) → y.to ≤ length classes → IsClassOf classes (xs ++ y ∷ []) set class
+pub class_cases : (classes : List ℕ) (xs : List SetSpan) (y : SetSpan) (set class : ℕ) → y.to ≤ length classes → IsClassOf classes (xs ++ y ∷ []) set class
     → IsClassOf classes xs set class ⊎ ((set ≡ y.set) × Contains (between y.from y.to classes) class)
 class_cases classes xs y set class most h =
     let of = h.of_set in
@@ -90,15 +94,15 @@ class_cases classes xs y set class most h =
       of_class = h.of_class;
     })
     (λ (is : y ≡ of.span).
-    let from : y.from ≤ h.interval = subst (λ (s : Span). s.from ≤ h.interval) (sym is) of.from in
-    let to : h.interval < y.to = subst (λ (s : Span). h.interval < s.to) (sym is) of.to in
+    let from : y.from ≤ h.interval = subst (λ (s : SetSpan). s.from ≤ h.interval) (sym is) of.from in
+    let to : h.interval < y.to = subst (λ (s : SetSpan). h.interval < s.to) (sym is) of.to in
     inr (
-      sym of.of ∙ ap (λ (s : Span). s.set) (sym is),
+      sym of.of ∙ ap (λ (s : SetSpan). s.set) (sym is),
       among_between classes y.from y.to h.interval class most from to (get_or_default classes h.interval class 0 (omega arith) ∙ h.of_class),
     ))
     (Contains-push_cases xs y of.span of.among)
 
-pub class_old : (classes : List ℕ) (xs : List Span) (y : Span) (set class : ℕ) → IsClassOf classes xs set class → IsClassOf classes (xs ++ y ∷ []) set class
+pub class_old : (classes : List ℕ) (xs : List SetSpan) (y : SetSpan) (set class : ℕ) → IsClassOf classes xs set class → IsClassOf classes (xs ++ y ∷ []) set class
 class_old classes xs y set class h =
     let of = h.of_set in
     record {
@@ -107,7 +111,7 @@ class_old classes xs y set class h =
       of_class = h.of_class;
     }
 
-pub class_new : (classes : List ℕ) (xs : List Span) (y : Span) (set class : ℕ) → y.to ≤ length classes → set ≡ y.set → Contains (between y.from y.to classes) class
+pub class_new : (classes : List ℕ) (xs : List SetSpan) (y : SetSpan) (set class : ℕ) → y.to ≤ length classes → set ≡ y.set → Contains (between y.from y.to classes) class
     → IsClassOf classes (xs ++ y ∷ []) set class
 class_new classes xs y set class most of among =
     let at = between_among classes y.from y.to class most among in
@@ -118,7 +122,7 @@ class_new classes xs y set class most of among =
     }
 
 -- the bits with a span more
-pub bits_more : (now next : SetBits) (sets : ℕ) (classes : List ℕ) (xs : List Span) (y : Span) → now.sets ≡ sets → y.to ≤ length classes
+pub bits_more : (now next : SetBits) (sets : ℕ) (classes : List ℕ) (xs : List SetSpan) (y : SetSpan) → now.sets ≡ sets → y.to ≤ length classes
     → ((s class : ℕ) → s < now.sets → class < 64 * now.per_set
     → (has_class next s class ≡ true) ↔ ((has_class now s class ≡ true) ⊎ ((s ≡ y.set) × Contains (between y.from y.to classes) class)))
     → ((s class : ℕ) → s < sets → class < 64 * now.per_set → (has_class now s class ≡ true) ↔ IsClassOf classes xs s class)
@@ -132,16 +136,16 @@ bits_more now next sets classes xs y same most step inv s class lt less =
     )
 
 -- a class of a set is one of the classes
-pub class_below : (cut : Cut) (set class : ℕ) → HasClass cut set class → class < class_count cut
+pub class_below : (cut : Dimension) (set class : ℕ) → HasClass cut set class → class < class_count cut
 class_below cut set class h =
     let of = h.of_set in
-    let span : Span = of.span in
-    let most : IsWithin (vec_len cut.starts) span = subst (λ (s : Span). IsWithin (vec_len cut.starts) s) of.among.2 (cut.within of.among.0 span of.among.1) in
+    let span : SetSpan = of.span in
+    let most : IsSpanWithin (vec_len cut.starts) span = subst (λ (s : SetSpan). IsSpanWithin (vec_len cut.starts) s) of.among.2 (cut.within of.among.0 span of.among.1) in
     let lt : h.interval < length cut.classes.items = let a = of.to in let b = most.most in let pairs = cut.paired in let ok = cut.classes.ok in omega arith in
     subst (λ (c : ℕ). c < class_count cut) h.of_class (cut.firsts_are.below h.interval 0 lt)
 
 -- the words of a set have its classes, and nothing else
-pub words_are : (cut : Cut) (bits : SetBits) (set : ℕ) → class_count cut ≤ 64 * bits.per_set
+pub words_are : (cut : Dimension) (bits : SetBits) (set : ℕ) → class_count cut ≤ 64 * bits.per_set
     → ((class : ℕ) → class < 64 * bits.per_set → (has_class bits set class ≡ true) ↔ HasClass cut set class)
     → (class : ℕ) → (has (words_of bits set) class ≡ true) ↔ HasClass cut set class
 words_are cut bits set fits inv class = ⊎_elim

@@ -1,10 +1,10 @@
 -- Ranges and the intervals that they are.
 use Rattle.std.proofs.Common.{◌≡◌, ◌≤◌, ◌<◌, ◌+◌, ◌-◌, ◌↔◌, ◌⊎◌, ℕ, List, [], ◌∷◌, ◌++◌, Contains, true, false, max, length, get_or, take, ap, inl, inr, ⊎_elim, sym, subst, ◌∙◌, arith}
 use Rattle.std.specs.List.{All, Sorted.IsPartitionPoint, between}
-use Rattle.std.proofs.{Math.Dec.{leb, ltb}, lemmas.{Bool.{cases_lt, leb-true, leb-false, ltb-true, ltb-false}, List.{get_or_append_left, get_or_at, get_or_default, get_or-take, length-take-le, length_push}}}
+use Rattle.std.proofs.{Math.Dec.{leb, ltb}, lemmas.{Bool.{cases_lt, leb-true, leb-false, ltb-true, ltb-false}, List.{get_or_append_left, get_or_at, get_or-take, length-take-le, length_push}}}
 use Rattle.std.proofs.lemmas.List.{Edits.{get_or-between, length-between}, Elements.{Contains-append_left, Contains-get_or, Contains-push, Contains-push_cases}}
-use Rattle.npf_cut.specs.{declared.{range.Range.Range, span.Span.Span}, Range.IsInSet, Span.{IsIntervalOf, IsSpanned, IsSpanOf, IsWithin}}
-use Rattle.npf_cut.proofs.RangeLemmas.{Covers, in_at}
+use Rattle.npf_cut.specs.{declared.{range.Range.Range, span.SetSpan.SetSpan}, Range.IsInRanges, Span.{IsIntervalOf, IsSpanned, IsSpanOf, IsSpanWithin}}
+use Rattle.npf_cut.proofs.RangeLemmas.{in_at}
 
 pub span_is : (starts : List ℕ) (range : Range) (from to : ℕ) → from ≤ length starts → to ≤ length starts
     → IsPartitionPoint (λ y. ltb y range.low ≡ true) (λ y. ltb y range.low ≡ false) starts from
@@ -24,11 +24,11 @@ span_is starts range from to few short low high = record {
 }
 
 -- the spans are those of the first ranges, so many
-pub record AreSpansOf (starts : List ℕ) (ranges : List Range) (spans : List Span) (count : ℕ) : Type 0 where
+pub record AreSpansOf (starts : List ℕ) (ranges : List Range) (spans : List SetSpan) (count : ℕ) : Type 0 where
   pub pairs : length spans ≡ count
-  pub each : (k : ℕ) (d : Range) (e : Span) → k < count → IsSpanOf starts (get_or ranges k d) (get_or spans k e)
+  pub each : (k : ℕ) (d : Range) (e : SetSpan) → k < count → IsSpanOf starts (get_or ranges k d) (get_or spans k e)
 
-pub spans_more : (starts : List ℕ) (ranges : List Range) (spans : List Span) (count : ℕ) (range : Range) (span : Span) → ((d : Range) → get_or ranges count d ≡ range)
+pub spans_more : (starts : List ℕ) (ranges : List Range) (spans : List SetSpan) (count : ℕ) (range : Range) (span : SetSpan) → ((d : Range) → get_or ranges count d ≡ range)
     → IsSpanOf starts range span → AreSpansOf starts ranges spans count → AreSpansOf starts ranges (spans ++ span ∷ []) (count + 1)
 spans_more starts ranges spans count range span is of had =
     let pairs : length spans ≡ count = had.pairs in
@@ -36,52 +36,52 @@ spans_more starts ranges spans count range span is of had =
       pairs = length_push spans span ∙ ap (λ (n : ℕ). n + 1) pairs;
       each = λ k d e lt. ⊎_elim
           (λ (old : k < count).
-          subst (λ (s : Span). IsSpanOf starts (get_or ranges k d) s) (sym (get_or_append_left spans (span ∷ []) e k (omega arith))) (had.each k d e old))
+          subst (λ (s : SetSpan). IsSpanOf starts (get_or ranges k d) s) (sym (get_or_append_left spans (span ∷ []) e k (omega arith))) (had.each k d e old))
           (λ (new : count ≤ k).
           let same : count ≡ k = omega arith in
           subst (λ (n : ℕ). IsSpanOf starts (get_or ranges n d) (get_or (spans ++ span ∷ []) n e)) same
           (subst (λ (r : Range). IsSpanOf starts r (get_or (spans ++ span ∷ []) count e)) (sym (is d))
-          (subst (λ (s : Span). IsSpanOf starts range s) (sym (get_or_at spans span [] e count pairs)) of)))
+          (subst (λ (s : SetSpan). IsSpanOf starts range s) (sym (get_or_at spans span [] e count pairs)) of)))
           (cases_lt k count);
     }
 
 abbrev pub no_range : Range
 no_range = record { set = 0; low = 0; high = 0 }
 
-pub spans_within : (starts : List ℕ) (ranges : List Range) (spans : List Span) → AreSpansOf starts ranges spans (length ranges) → All (IsWithin (length starts)) spans
+pub spans_within : (starts : List ℕ) (ranges : List Range) (spans : List SetSpan) → AreSpansOf starts ranges spans (length ranges) → All (IsSpanWithin (length starts)) spans
 spans_within starts ranges spans had k e lt = let pairs = had.pairs in (had.each k no_range e (omega arith)).within
 
-pub spans_same : (starts : List ℕ) (ranges : List Range) (spans : List Span) → AreSpansOf starts ranges spans (length ranges)
-    → (set interval : ℕ) → interval < length starts → IsIntervalOf spans set interval ↔ IsInSet ranges set (get_or starts interval 0)
+pub spans_same : (starts : List ℕ) (ranges : List Range) (spans : List SetSpan) → AreSpansOf starts ranges spans (length ranges)
+    → (set interval : ℕ) → interval < length starts → IsIntervalOf spans set interval ↔ IsInRanges ranges set (get_or starts interval 0)
 spans_same starts ranges spans had set interval lt = (
   λ h.
       let pairs = had.pairs in
       let at = h.among in
       let k : at.0 < length ranges = let less = at.1 in omega arith in
-      let is : IsSpanOf starts (get_or ranges at.0 no_range) h.span = subst (λ (s : Span). IsSpanOf starts (get_or ranges at.0 no_range) s) at.2 (had.each at.0 no_range h.span k) in
+      let is : IsSpanOf starts (get_or ranges at.0 no_range) h.span = subst (λ (s : SetSpan). IsSpanOf starts (get_or ranges at.0 no_range) s) at.2 (had.each at.0 no_range h.span k) in
       let here = is.inside interval h.from h.to in
       in_at ranges at.0 no_range set (get_or starts interval 0) k record { of = sym is.of ∙ h.of; low = here.0; high = here.1 },
   λ h.
       let pairs = had.pairs in
       let at = h.among in
       let k : at.0 < length spans = let less = at.1 in omega arith in
-      let e : Span = record { set = 0; from = 0; to = 0 } in
+      let e : SetSpan = record { set = 0; from = 0; to = 0 } in
       let is : IsSpanOf starts h.range (get_or spans at.0 e) = subst (λ (r : Range). IsSpanOf starts r (get_or spans at.0 e)) at.2 (had.each at.0 h.range e at.1) in
       let here = is.whole interval lt h.low h.high in
       record { span = get_or spans at.0 e; among = Contains-get_or spans at.0 e k; of = is.of ∙ h.of; from = here.0; to = here.1 },
 )
 
 -- an interval through the spans of a list, one after the other
-pub spanned_old : (xs : List Span) (y : Span) (k : ℕ) → IsSpanned xs k → IsSpanned (xs ++ y ∷ []) k
+pub spanned_old : (xs : List SetSpan) (y : SetSpan) (k : ℕ) → IsSpanned xs k → IsSpanned (xs ++ y ∷ []) k
 spanned_old xs y k h = record { span = h.span; among = Contains-append_left xs (y ∷ []) h.span h.among; from = h.from; to = h.to }
 
-pub spanned_new : (xs : List Span) (y : Span) (k : ℕ) → y.from ≤ k → k < y.to → IsSpanned (xs ++ y ∷ []) k
+pub spanned_new : (xs : List SetSpan) (y : SetSpan) (k : ℕ) → y.from ≤ k → k < y.to → IsSpanned (xs ++ y ∷ []) k
 spanned_new xs y k from to = record { span = y; among = Contains-push xs y; from = from; to = to }
 
-pub spanned_cases : (xs : List Span) (y : Span) (k : ℕ) → IsSpanned (xs ++ y ∷ []) k → IsSpanned xs k ⊎ ((y.from ≤ k) × (k < y.to))
+pub spanned_cases : (xs : List SetSpan) (y : SetSpan) (k : ℕ) → IsSpanned (xs ++ y ∷ []) k → IsSpanned xs k ⊎ ((y.from ≤ k) × (k < y.to))
 spanned_cases xs y k h = ⊎_elim
     (λ (old : Contains xs h.span). inl record { span = h.span; among = old; from = h.from; to = h.to })
-    (λ (is : y ≡ h.span). inr (subst (λ (s : Span). (s.from ≤ k) × (k < s.to)) (sym is) (h.from, h.to)))
+    (λ (is : y ≡ h.span). inr (subst (λ (s : SetSpan). (s.from ≤ k) × (k < s.to)) (sym is) (h.from, h.to)))
     (Contains-push_cases xs y h.span h.among)
 
 -- what the first spans have, and what those from a place to another have

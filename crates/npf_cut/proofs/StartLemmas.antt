@@ -1,10 +1,9 @@
 -- The starts of intervals, and the interval of a number.
-use Rattle.std.proofs.Common.{◌≡◌, ◌≤◌, ◌<◌, ◌+◌, ◌-◌, ◌↔◌, ◌⊎◌, ℕ, List, Contains, true, false, length, get_or, ap, inl, inr, ⊎_elim, sym, subst, ◌∙◌, arith}
+use Rattle.std.proofs.Common.{◌≡◌, ◌≤◌, ◌<◌, ◌+◌, ◌-◌, ◌↔◌, ℕ, List, Contains, true, false, length, get_or, ap, ⊎_elim, sym, subst, ◌∙◌, arith}
 use Rattle.std.specs.List.{All, AllPairs, prefix_len, Sorted.{IsNonDecreasing, IsPartitionPoint}}
 use Rattle.std.proofs.{Math.Dec.leb, lemmas.{Bool.{cases_lt, cases_order, leb-true, leb-false}, List.get_or_default}}
 use Rattle.std.proofs.lemmas.List.{Elements.All-contains, Sums.{prefix_len-le-length, prefix_len_is, prefix_len_passes, prefix_len_stops}}
-use Rattle.npf_cut.specs.{declared.range.Range.Range, Range.IsInSet, Starts.{AreStarts, HasStarts, interval_of}}
-use Rattle.npf_cut.proofs.RangeLemmas.{in_at}
+use Rattle.npf_cut.specs.{declared.range.Range.Range, Range.IsInRanges, Start.{AreStarts, HasStarts, interval_of}}
 
 -- the starts have the ends of the first ranges, so many
 pub record HasStartsTo (top : ℕ) (ranges : List Range) (starts : List ℕ) (count : ℕ) : Type 0 where
@@ -144,7 +143,7 @@ module _ (top : ℕ) (ranges : List Range) (starts : List ℕ) (are : AreStarts 
       omega arith
 
   -- no set tells a number from the start of its interval
-  pub same_side : (interval : ℕ) → IsLastAt starts number interval → (set : ℕ) → IsInSet ranges set (get_or starts interval 0) ↔ IsInSet ranges set number
+  pub same_side : (interval : ℕ) → IsLastAt starts number interval → (set : ℕ) → IsInRanges ranges set (get_or starts interval 0) ↔ IsInRanges ranges set number
   same_side interval at set = (
     λ h. record {
       range = h.range;

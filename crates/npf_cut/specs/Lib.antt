@@ -1,6 +1,6 @@
-pub mod Cut
+pub mod Dimension
 pub mod Partition
 pub mod Range
 pub mod SetBits
 pub mod Span
-pub mod Starts
+pub mod Start

@@ -1,7 +1,7 @@
 -- Intervals in classes, by the class of each.
 use Rattle.std.specs.Prelude.{◌≡◌, ◌≤◌, ◌<◌, ℕ, List, length, slice_index}
 use Rattle.std.specs.List.{All}
-use Rattle.npf_cut.specs.declared.span.Span.{Span}
+use Rattle.npf_cut.specs.declared.span.SetSpan.{SetSpan}
 use Rattle.npf_cut.specs.Span.{IsSpanned, IsIntervalOf}
 
 -- there is an entry for each class, and each names a class
@@ -21,13 +21,13 @@ pub record AreParts (old classes parts : List ℕ) (fresh : ℕ) : Type 0 where
   pub named : (class : ℕ) → class < fresh → fresh ≤ slice_index parts class → slice_index parts (slice_index parts class) ≡ class
 
 -- intervals of one class were of one class before, and the spans have both or neither
-pub record IsRefinedBy (spans : List Span) (old new : List ℕ) : Type 0 where
+pub record IsRefinedBy (spans : List SetSpan) (old new : List ℕ) : Type 0 where
   pub same_len : length new ≡ length old
   pub finer : (j k : ℕ) → j < length old → k < length old → slice_index new j ≡ slice_index new k → slice_index old j ≡ slice_index old k
   pub told : (j k : ℕ) → j < length old → k < length old → slice_index new j ≡ slice_index new k → IsSpanned spans j → IsSpanned spans k
 
 -- no set has one interval of a class without another
-abbrev pub RespectsSets : List Span → List ℕ → Type 0
+abbrev pub RespectsSets : List SetSpan → List ℕ → Type 0
 RespectsSets spans classes = (set j k : ℕ) → j < length classes → k < length classes → slice_index classes j ≡ slice_index classes k
     → IsIntervalOf spans set j → IsIntervalOf spans set k
 

@@ -1,7 +1,7 @@
 -- The classes that sets have, as bits.
 use Rattle.std.specs.Prelude.{◌+◌, ◌*◌, ℕ, Bool, List, take, drop}
 use Rattle.npf_bits.specs.Bits.{has}
-use Rattle.npf_cut.specs.declared.bits.SetBits.{SetBits}
+use Rattle.npf_cut.specs.declared.set_bits.SetBits.{SetBits}
 
 -- the words of a set
 abbrev pub words_of : SetBits → ℕ → List ℕ

@@ -1,6 +1,6 @@
 // Ranges of a set that meet, as one.
 ghost use Rattle.std.specs.Prelude.{◌≡◌, ℕ, ◌↔◌, ◌+◌, ◌≤◌, ◌⊎◌, IfOk, IsTrue, length};
-ghost use Rattle.npf_cut.specs.Range.{IsInSet};
+ghost use Rattle.npf_cut.specs.Range.{IsInRanges};
 
 use crate::range::Range;
 use npf_types::NoMemory;
@@ -8,7 +8,7 @@ use std::alloc::Global;
 
 /// The same sets by ranges of which no two of a set meet. The given ones are brought in order.
 pub(crate) fn merged(alloc: Global, ranges: &mut Vec<Range>) -> Result<Vec<Range>, NoMemory>
-    ensures { IfOk result (λ merged. (set v : ℕ) → IsInSet merged.items set v ↔ IsInSet ranges.old.items set v) }
+    ensures { IfOk result (λ merged. (set v : ℕ) → IsInRanges merged.items set v ↔ IsInRanges ranges.old.items set v) }
 {
     ranges.sort_unstable();
     merged_in_order(alloc, ranges.as_slice())
@@ -16,7 +16,7 @@ pub(crate) fn merged(alloc: Global, ranges: &mut Vec<Range>) -> Result<Vec<Range
 
 /// The same sets by ranges of which no two neighbours of a set meet.
 fn merged_in_order(alloc: Global, ranges: &[Range]) -> Result<Vec<Range>, NoMemory>
-    ensures { IfOk result (λ merged. (set v : ℕ) → IsInSet merged.items set v ↔ IsInSet ranges.now set v) }
+    ensures { IfOk result (λ merged. (set v : ℕ) → IsInRanges merged.items set v ↔ IsInRanges ranges.now set v) }
 {
     let mut merged = Vec::new(alloc);
     let Some(first) = ranges.first() else {

@@ -4,9 +4,9 @@ ghost use Rattle.std.specs.List.{All};
 ghost use Rattle.npf_steps.specs.Spent.{IsSpent};
 ghost use Rattle.npf_steps.specs.declared.steps.Stopped.TheVariants.{Spent};
 ghost use Rattle.npf_cut.specs.Partition.{AreKnown, AreParts, IsNumbering, IsRefinedBy, RespectsSets};
-ghost use Rattle.npf_cut.specs.Span.{IsRunOfSet, IsWithin};
+ghost use Rattle.npf_cut.specs.Span.{IsRunOfSet, IsSpanWithin};
 
-use crate::span::Span;
+use crate::span::SetSpan;
 use npf_steps::{Steps, Stopped};
 use npf_types::NoMemory;
 use std::alloc::Global;
@@ -36,9 +36,9 @@ impl Partition {
     }
 
     /// Splits each class by the set that has these spans, and takes a step for each interval of the set.
-    fn refine(&mut self, spans: &[Span], steps: &mut Steps) -> Result<(), Stopped>
+    fn refine(&mut self, spans: &[SetSpan], steps: &mut Steps) -> Result<(), Stopped>
         requires known { AreKnown self.old.classes.items self.old.parts.items }
-        requires within { All (IsWithin (vec_len self.old.classes)) spans.now }
+        requires within { All (IsSpanWithin (vec_len self.old.classes)) spans.now }
         ensures known { OnOk result (AreKnown self.new.classes.items self.new.parts.items) }
         ensures refined { OnOk result (IsRefinedBy spans.now self.old.classes.items self.new.classes.items) }
         ensures spent { IsErrOf result Stopped.Spent → IsSpent steps.new }
@@ -54,8 +54,8 @@ impl Partition {
     }
 
     /// Moves the intervals of the span to the parts of their classes.
-    fn split(&mut self, span: Span, fresh: usize) -> Result<(), NoMemory>
-        requires within { IsWithin (vec_len self.old.classes) span }
+    fn split(&mut self, span: SetSpan, fresh: usize) -> Result<(), NoMemory>
+        requires within { IsSpanWithin (vec_len self.old.classes) span }
         requires room { fresh ≤ vec_len self.old.parts }
         ensures parts { OnOk result ((old : List ℕ) → AreParts old self.old.classes.items self.old.parts.items fresh
             → AreParts old self.new.classes.items self.new.parts.items fresh) }
@@ -116,10 +116,10 @@ fn part_of(parts: &mut Vec<usize>, class: usize, fresh: usize) -> Result<usize, 
 pub(crate) fn partition_by(
     alloc: Global,
     count: usize,
-    spans: &[Span],
+    spans: &[SetSpan],
     steps: &mut Steps,
 ) -> Result<Partition, Stopped>
-    requires within { All (IsWithin count) spans.now }
+    requires within { All (IsSpanWithin count) spans.now }
     ensures count { IfOk result (λ partition. vec_len partition.classes ≡ count) }
     ensures known { IfOk result (λ partition. AreKnown partition.classes.items partition.parts.items) }
     ensures respects { IfOk result (λ partition. RespectsSets spans.now partition.classes.items) }
@@ -143,7 +143,7 @@ pub(crate) fn partition_by(
 }
 
 /// The first place behind this one whose span isn't of the same set.
-fn set_end(spans: &[Span], from: usize) -> usize
+fn set_end(spans: &[SetSpan], from: usize) -> usize
     requires { from < length spans.now }
     ensures { IsRunOfSet spans.now from result }
 {

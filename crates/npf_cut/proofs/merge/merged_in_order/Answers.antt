@@ -1,6 +1,6 @@
 use Rattle.std.proofs.{Common.{◌≡◌, get_or}, lemmas.List.get_or_default}
 use Rattle.npf_cut.specs.declared.range.Range.{Range}
-use Rattle.npf_cut.proofs.RangeLemmas.{HasMerged, joined, pushed}
+use Rattle.npf_cut.proofs.RangeLemmas.{joined, pushed}
 use Rattle.npf_cut.proofs.merge.merged_in_order.Goals as goal
 use Rattle.npf_cut.proofs.merge.merged_in_order.Goals.{then-meets, else-meets+in_ok-push}
 

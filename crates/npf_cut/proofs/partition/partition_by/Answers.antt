@@ -1,5 +1,5 @@
-use Rattle.std.proofs.{Common.{◌≡◌, ◌<◌, ◌≤◌, ℕ, List, length, take, arith, subst, ◌∙◌}, lemmas.List.take_all}
-use Rattle.npf_cut.specs.{declared.span.Span.Span, Partition.RespectsSets}
+use Rattle.std.proofs.{Common.{List, take, arith, subst, ◌∙◌}, lemmas.List.take_all}
+use Rattle.npf_cut.specs.{declared.span.SetSpan.SetSpan, Partition.RespectsSets}
 use Rattle.npf_cut.proofs.PartitionLemmas.{respects_more, respects_numbered}
 use Rattle.npf_cut.proofs.partition.partition_by.Goals as goal
 
@@ -39,4 +39,5 @@ loop-from-preserved c =
     }
 
 pub returns-clause-respects : goal.returns-clause-respects
-returns-clause-respects c = subst (λ (l : List Span). RespectsSets l c.loop-from.partition.classes.items) (take_all c.loop-from.from c.args.spans.now c.loop-from-test.false) c.loop-from.invariant.respects
+returns-clause-respects c =
+    subst (λ (l : List SetSpan). RespectsSets l c.loop-from.partition.classes.items) (take_all c.loop-from.from c.args.spans.now c.loop-from-test.false) c.loop-from.invariant.respects

@@ -1,4 +1,4 @@
-use Rattle.std.proofs.{Common.{◌≡◌, ◌≤◌, length, arith, subst, ℕ}, lemmas.List.get_or_default}
+use Rattle.std.proofs.{Common.{◌≡◌, length, arith, subst, ℕ}, lemmas.List.get_or_default}
 use Rattle.npf_cut.proofs.SpanLemmas.{AreSpansOf, no_range, spans_more, spans_same, spans_within}
 use Rattle.npf_cut.proofs.span.spans_of.Goals as goal
 

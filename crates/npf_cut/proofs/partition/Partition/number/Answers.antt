@@ -1,5 +1,5 @@
-use Rattle.std.proofs.Common.{◌≡◌, ◌<◌, ◌≤◌, ◌≢◌, ◌∙◌, ℕ, List, get_or, set, replicate, length, arith, subst, sym, ap, inl, inr, rules}
-use Rattle.std.proofs.lemmas.List.{get_or_default, get_or_read}
+use Rattle.std.proofs.Common.{◌≡◌, ◌<◌, ◌∙◌, ℕ, get_or, set, replicate, length, arith, subst, sym, ap, inl, inr}
+use Rattle.std.proofs.lemmas.List.{get_or_read}
 use Rattle.npf_cut.specs.declared.partition.TheConstants.{NONE}
 use Rattle.npf_cut.proofs.PartitionLemmas.{HasNumbered, known_first, numbered_all, numbered_step}
 use Rattle.npf_cut.proofs.partition.Partition.number.Goals as goal

@@ -1,5 +1,5 @@
-use Rattle.std.proofs.{Common.{◌≡◌, ◌<◌, ◌≤◌, ◌↔◌, ℕ, List, get_or, take, length, arith, subst, sym, ◌∙◌, ◌+◌, ◌∷◌, [], ◌++◌}, lemmas.List.take_more}
-use Rattle.npf_cut.specs.{declared.span.Span.Span, Span.IsSpanned}
+use Rattle.std.proofs.{Common.{◌≡◌, ◌≤◌, ◌↔◌, List, get_or, take, arith, subst, sym, ◌∙◌, ◌+◌, ◌∷◌, [], ◌++◌}, lemmas.List.take_more}
+use Rattle.npf_cut.specs.{declared.span.SetSpan.SetSpan, Span.IsSpanned}
 use Rattle.npf_cut.proofs.PartitionLemmas.{parts_known, spans_moved}
 use Rattle.npf_cut.proofs.partition.Partition.refine.Goals as goal
 
@@ -9,12 +9,12 @@ loop-span-preserved c =
     let done = c.in_ok-split.ensures in
     let spans = c.args.spans.now in
     let at = c.loop-span.span-index in
-    let span : Span = get_or spans at record { set = 0; from = 0; to = 0 } in
+    let span : SetSpan = get_or spans at record { set = 0; from = 0; to = 0 } in
     let more : take (at + 1) spans ≡ take at spans ++ span ∷ [] = take_more spans at record { set = 0; from = 0; to = 0 } c.loop-span-test.true in
     let len = inv.parts.same_len in
     record {
       parts = done.parts c.args.self.now.classes.items inv.parts;
-      moved = λ k lt. subst (λ (l : List Span). (c.len-fresh.result ≤ get_or c.split.new.self.classes.items k 0) ↔ IsSpanned l k) (sym more)
+      moved = λ k lt. subst (λ (l : List SetSpan). (c.len-fresh.result ≤ get_or c.split.new.self.classes.items k 0) ↔ IsSpanned l k) (sym more)
           (spans_moved c.loop-span.self.classes.items c.split.new.self.classes.items (take at spans) span _ c.len-fresh.result inv.moved (λ j less. done.moved j (omega arith)) k lt);
       most = c.in_ok-take.ensures.most ∙ inv.most;
       rises = let a = c.in_ok-take.ensures.rises in let b = inv.rises in omega arith;

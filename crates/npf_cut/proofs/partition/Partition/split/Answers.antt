@@ -1,5 +1,5 @@
-use Rattle.std.proofs.Common.{◌≡◌, ◌<◌, ◌≤◌, ◌≢◌, ℕ, List, get_or, set, length, arith, sym}
-use Rattle.std.proofs.lemmas.List.{get_or-set_same, get_or-set_other, get_or_default, get_or_read}
+use Rattle.std.proofs.Common.{◌≡◌, ◌<◌, get_or, set, length, arith, sym}
+use Rattle.std.proofs.lemmas.List.{get_or-set_same, get_or-set_other, get_or_read}
 use Rattle.npf_cut.proofs.PartitionLemmas.{split_more}
 use Rattle.npf_cut.proofs.partition.Partition.split.Goals as goal
 use Rattle.npf_cut.proofs.partition.Partition.split.Goals.{then-class-fresh+in_ok-self, else-class-fresh}

@@ -1,7 +1,7 @@
-use Rattle.std.proofs.{Common.{◌≡◌, ◌≤◌, ◌<◌, ◌+◌, ◌*◌, ◌/◌, ◌↔◌, ◌∷◌, [], ◌++◌, ◌∙◌, ℕ, List, true, length, get_or, take, sym, subst, arith}, lemmas.List.{take_all, take_more}}
-use Rattle.npf_cut.specs.{Cut.{IsClassOf, class_count}, SetBits.has_class, declared.span.Span.Span}
+use Rattle.std.proofs.{Common.{◌≡◌, ◌≤◌, ◌<◌, ◌+◌, ◌*◌, ◌↔◌, ◌∷◌, [], ◌++◌, ◌∙◌, ℕ, List, true, length, get_or, take, sym, subst, arith}, lemmas.List.{take_all, take_more}}
+use Rattle.npf_cut.specs.{Dimension.{IsClassOf, class_count}, SetBits.has_class, declared.span.SetSpan.SetSpan}
 use Rattle.npf_cut.proofs.SetBitsLemmas.{bits_more, class_below, words_are}
-use Rattle.npf_cut.proofs.cut.Cut.bits.Goals as goal
+use Rattle.npf_cut.proofs.dimension.Dimension.bits.Goals as goal
 
 pub loop-span-preserved : goal.loop-span-preserved
 loop-span-preserved c =
@@ -9,9 +9,9 @@ loop-span-preserved c =
     let cut = c.args.self.now in
     let spans = cut.spans.items in
     let classes = cut.classes.items in
-    let none : Span = record { set = 0; from = 0; to = 0 } in
+    let none : SetSpan = record { set = 0; from = 0; to = 0 } in
     let at = c.loop-span.span-index in
-    let span : Span = get_or spans at none in
+    let span : SetSpan = get_or spans at none in
     let lt : at < length spans = omega (arith, c.loop-span-test.true, c.deref-span-items.ensures.len, cut.spans.ok) in
     let more : take (at + 1) spans ≡ take at spans ++ span ∷ [] = take_more spans at none lt in
     let within = (cut.within at none lt).most in
@@ -21,7 +21,7 @@ loop-span-preserved c =
       sets = c.put.ensures.sets ∙ inv.sets;
       words = c.put.ensures.words ∙ inv.words;
       classes = λ set class less small.
-          subst (λ (l : List Span). (has_class c.put.new.self set class ≡ true) ↔ IsClassOf classes l set class) (sym more)
+          subst (λ (l : List SetSpan). (has_class c.put.new.self set class ≡ true) ↔ IsClassOf classes l set class) (sym more)
           (bits_more c.loop-span.bits c.put.new.self c.args.sets classes (take at spans) span inv.sets most step inv.classes set class less
           (subst (λ (n : ℕ). class < 64 * n) c.put.ensures.words small));
       most = c.in_ok-take.ensures.most ∙ inv.most;
@@ -36,7 +36,7 @@ returns-clause-classes c = λ set class less.
     let fits : class_count cut ≤ 64 * bits.per_set = let words = inv.words in omega arith in
     let all : length cut.spans.items ≤ c.loop-span.span-index = omega (arith, c.loop-span-test.false, c.deref-span-items.ensures.len, cut.spans.ok) in
     words_are cut bits set fits
-    (λ k small. subst (λ (l : List Span). (has_class bits set k ≡ true) ↔ IsClassOf cut.classes.items l set k) (take_all c.loop-span.span-index cut.spans.items all) (inv.classes set k less small))
+    (λ k small. subst (λ (l : List SetSpan). (has_class bits set k ≡ true) ↔ IsClassOf cut.classes.items l set k) (take_all c.loop-span.span-index cut.spans.items all) (inv.classes set k less small))
     class
 
 pub returns-clause-below : goal.returns-clause-below

@@ -1,8 +1,9 @@
 use Rattle.std.proofs.{Common.{◌≡◌, ◌<◌, ℕ, List, Contains, subst, sym}, Math.Dec.eqb}
 use Rattle.std.specs.List.{AllPairs, dedup}
-use Rattle.std.proofs.lemmas.{Map.Keys.IsStrictlyIncreasing-dedup, List.{Filters.dedup_is, Kept.{AllPairs-from_increasing, Contains-dedup_nat, Contains-from_dedup}, Sorted.{Contains-permutation, IsPermutation-sym}}}
+use Rattle.std.proofs.lemmas.{Map.Keys.IsStrictlyIncreasing-dedup, List.{Filters.dedup_is, Sorted.{Contains-permutation, IsPermutation-sym}}}
+use Rattle.std.proofs.lemmas.List.Kept.{AllPairs-from_increasing, Contains-dedup_nat, Contains-from_dedup}
 use Rattle.npf_cut.proofs.StartLemmas.{starts_moved}
-use Rattle.npf_cut.proofs.starts.starts_of.Goals as goal
+use Rattle.npf_cut.proofs.start.starts_of.Goals as goal
 
 pub returns : goal.returns
 returns c =

@@ -1,6 +1,6 @@
 use Rattle.std.proofs.{Common.{◌+◌, ◌*◌, arith}, lemmas.List.with_items_is}
 use Rattle.npf_cut.proofs.SetBitsLemmas.{put_is}
-use Rattle.npf_cut.proofs.bits.SetBits.put.Goals as goal
+use Rattle.npf_cut.proofs.set_bits.SetBits.put.Goals as goal
 
 pub returns-then-set-self-clause-put : goal.returns-then-set-self-clause-put
 returns-then-set-self-clause-put c = λ s class lt small.

@@ -1,5 +1,5 @@
-use Rattle.npf_cut.proofs.{CutLemmas.cut_is, PartitionLemmas.respects_numbered}
-use Rattle.npf_cut.proofs.cut.Cut.new.Goals as goal
+use Rattle.npf_cut.proofs.{DimensionLemmas.cut_is, PartitionLemmas.respects_numbered}
+use Rattle.npf_cut.proofs.dimension.Dimension.new.Goals as goal
 
 pub returns-clause-cut : goal.returns-clause-cut
 returns-clause-cut c =

@@ -1,7 +1,7 @@
 // The numbers from which on a set may change.
 ghost use Rattle.std.specs.Prelude.{◌≤◌, ℕ, Contains, IfOk, OnOk};
 ghost use Rattle.std.specs.List.{All};
-ghost use Rattle.npf_cut.specs.Starts.{AreStarts, HasStarts};
+ghost use Rattle.npf_cut.specs.Start.{AreStarts, HasStarts};
 
 use crate::range::Range;
 use npf_types::NoMemory;

@@ -1,11 +1,11 @@
 -- What the classes of intervals say of numbers.
-use Rattle.std.proofs.Common.{◌≡◌, ◌≤◌, ◌<◌, ◌↔◌, ℕ, List, length, get_or, ap, arith, ◌∙◌, sym, subst, vec_len}
-use Rattle.npf_cut.specs.{declared.{cut.Cut.Cut, range.Range.Range, span.Span.Span}, Cut.{HasClass, IsCutBy, class_count, class_of, member_of}, Partition.RespectsSets, Range.IsInSet}
-use Rattle.npf_cut.specs.{Span.{IsIntervalOf, IsWithin}, Starts.{AreStarts, interval_of}}
+use Rattle.std.proofs.Common.{◌<◌, ◌↔◌, ℕ, List, length, get_or, ap, arith, ◌∙◌, subst, vec_len}
+use Rattle.npf_cut.specs.{declared.{dimension.Dimension.Dimension, range.Range.Range, span.SetSpan.SetSpan}, Dimension.{IsCutBy, class_at}, Partition.RespectsSets, Range.IsInRanges}
+use Rattle.npf_cut.specs.{Span.{IsIntervalOf, IsSpanWithin}, Start.{AreStarts, interval_of}}
 use Rattle.npf_cut.proofs.StartLemmas.{IsLastAt, interval_at, last_at, same_side}
 
-pub cut_is : (ranges merged : List Range) (top : ℕ) (cut : Cut) → ((s v : ℕ) → IsInSet merged s v ↔ IsInSet ranges s v) → AreStarts top merged cut.starts.items
-    → ((set interval : ℕ) → interval < length cut.starts.items → IsIntervalOf cut.spans.items set interval ↔ IsInSet merged set (get_or cut.starts.items interval 0))
+pub cut_is : (ranges merged : List Range) (top : ℕ) (cut : Dimension) → ((s v : ℕ) → IsInRanges merged s v ↔ IsInRanges ranges s v) → AreStarts top merged cut.starts.items
+    → ((set interval : ℕ) → interval < length cut.starts.items → IsIntervalOf cut.spans.items set interval ↔ IsInRanges merged set (get_or cut.starts.items interval 0))
     → RespectsSets cut.spans.items cut.classes.items → IsCutBy ranges top cut
 cut_is ranges merged top cut same are spans respects =
     let some : 0 < length cut.starts.items = let h = cut.some in let ok = cut.starts.ok in omega arith in
@@ -19,14 +19,14 @@ cut_is ranges merged top cut same are spans respects =
             λ h.
                 let span = (h.of_set).span in
                 let most = cut.within (h.of_set).among.0 span (h.of_set).among.1 in
-                let own : IsWithin (vec_len cut.starts) span = subst (λ (s : Span). IsWithin (vec_len cut.starts) s) (h.of_set).among.2 most in
+                let own : IsSpanWithin (vec_len cut.starts) span = subst (λ (s : SetSpan). IsSpanWithin (vec_len cut.starts) s) (h.of_set).among.2 most in
                 let lt : h.interval < length cut.classes.items = let a = (h.of_set).to in let b = own.most in let ok = cut.classes.ok in omega arith in
                 let there = respects set h.interval at lt (omega arith) h.of_class h.of_set in
                 (same set v).0 ((same_side top merged starts are v le at here set).0 ((spans set at in').0 there)),
             λ h. record {
               interval = at;
               of_set = (spans set at in').1 ((same_side top merged starts are v le at here set).1 ((same set v).1 h));
-              of_class = λ i. class_of cut v;
+              of_class = λ i. class_at cut v;
             },
           );
       below = λ v le.

@@ -1,8 +1,7 @@
-use Rattle.std.proofs.{Common.{◌≡◌, ◌<◌, ◌≤◌, ◌-◌, ◌∙◌, ap, sym, get_or, rules, arith, ℕ, length}, Math.Dec.{leb}}
+use Rattle.std.proofs.{Common.{◌<◌, ◌≤◌, ◌-◌, ◌∙◌, ap, sym, get_or, rules, arith, ℕ, length}, Math.Dec.{leb}}
 use Rattle.std.proofs.lemmas.{List.{get_or_read, Sorted.{IsPartitionPoint-from_clause, IsPartitionedBy-leb}}}
-use Rattle.npf_cut.specs.Starts.{interval_of}
 use Rattle.npf_cut.proofs.StartLemmas.{non_decreasing, searched_interval}
-use Rattle.npf_cut.proofs.cut.Cut.class_of.Goals as goal
+use Rattle.npf_cut.proofs.dimension.Dimension.class_at.Goals as goal
 
 pub returns : goal.returns
 returns c =

@@ -1,7 +1,7 @@
-use Rattle.std.proofs.{Common.{◌≡◌, ◌≤◌, ◌<◌, ◌-◌, ◌+◌, ◌∷◌, [], ◌++◌, ◌↔◌, ◌⊎◌, ℕ, List, true, Contains, length, get_or, take, subst, sym, arith}, lemmas.List.{take_all, take_more}}
+use Rattle.std.proofs.{Common.{◌≡◌, ◌≤◌, ◌-◌, ◌+◌, ◌∷◌, [], ◌++◌, ◌↔◌, ◌⊎◌, ℕ, List, true, Contains, get_or, take, subst, sym}, lemmas.List.{take_all, take_more}}
 use Rattle.npf_bits.specs.Bits.{has}
 use Rattle.npf_cut.proofs.SetBitsLemmas.{has_more}
-use Rattle.npf_cut.proofs.bits.put_all.Goals as goal
+use Rattle.npf_cut.proofs.set_bits.put_all.Goals as goal
 
 pub loop-number-preserved : goal.loop-number-preserved
 loop-number-preserved c =

@@ -1,6 +1,6 @@
 use Rattle.std.proofs.Common.{◌≡◌, ◌≤◌, ◌<◌, ◌+◌, ◌*◌, ◌/◌, ◌↔◌, ℕ, true, take}
-use Rattle.npf_cut.specs.{Cut.{IsClassOf, class_count}, SetBits.has_class}
-use Rattle.npf_cut.proofs.cut.Cut.bits.Given as goal
+use Rattle.npf_cut.specs.{Dimension.{IsClassOf, class_count}, SetBits.has_class}
+use Rattle.npf_cut.proofs.dimension.Dimension.bits.Given as goal
 
 abbrev pub invariant-loop-span : goal.invariant-loop-span
 invariant-loop-span l = record {

@@ -2,20 +2,20 @@
 ghost use Rattle.std.specs.Prelude.{◌≡◌, ◌≤◌, ◌<◌, slice_index, vec_len};
 ghost use Rattle.std.specs.List.{All, AllPairs};
 ghost use Rattle.npf_cut.specs.Partition.{AreFirsts};
-ghost use Rattle.npf_cut.specs.Span.{IsWithin};
+ghost use Rattle.npf_cut.specs.Span.{IsSpanWithin};
 
-use crate::bits::SetBits;
 use crate::merge::merged;
 use crate::partition::partition_by;
 use crate::range::Range;
-use crate::span::{Span, spans_of};
-use crate::starts::starts_of;
+use crate::set_bits::SetBits;
+use crate::span::{SetSpan, spans_of};
+use crate::start::starts_of;
 use npf_steps::{Steps, Stopped};
 use std::alloc::Global;
 
 /// The numbers from 0 to a top in the classes that some sets tell apart.
 #[derive(Drop)]
-pub struct Cut {
+pub struct Dimension {
     /// The starts of the intervals, in order.
     starts: Vec<u128>,
     /// The class of each interval.
@@ -23,20 +23,20 @@ pub struct Cut {
     /// The first interval of each class.
     firsts: Vec<usize>,
     /// The sets as intervals.
-    spans: Vec<Span>,
+    spans: Vec<SetSpan>,
     ghost rises: { AllPairs (λ a b. a < b) starts.items },
     ghost some: { 0 < vec_len starts },
     ghost zero: { slice_index starts.items 0 ≡ 0 },
     ghost paired: { vec_len classes ≡ vec_len starts },
     ghost firsts_are: { AreFirsts classes.items firsts.items },
-    ghost within: { All (IsWithin (vec_len starts)) spans.items },
+    ghost within: { All (IsSpanWithin (vec_len starts)) spans.items },
 }
 
-impl Cut {
+impl Dimension {
     ghost use Rattle.std.specs.Prelude.{◌+◌, ◌*◌, ◌/◌, ◌↔◌, ℕ, true, IfOk, IsErrOf};
     ghost use Rattle.npf_bits.specs.Bits.{has};
     ghost use Rattle.npf_steps.specs.Spent.{IsSpent};
-    ghost use Rattle.npf_cut.specs.Cut.{HasClass, IsCutBy, class_count, class_of, member_of};
+    ghost use Rattle.npf_cut.specs.Dimension.{HasClass, IsCutBy, class_count, class_at, member_of};
     ghost use Rattle.npf_cut.specs.SetBits.{words_of};
 
     /// The numbers from 0 to `top` in the classes that the sets with these ranges tell apart. A set's ranges may be many, overlap and be
@@ -49,7 +49,7 @@ impl Cut {
         top: u128,
         mut ranges: Vec<Range>,
         steps: &mut Steps,
-    ) -> Result<Cut, Stopped>
+    ) -> Result<Dimension, Stopped>
         ensures cut { IfOk result (IsCutBy ranges.items top) }
         ensures spent { IsErrOf result Stopped.Spent → IsSpent steps.new }
         ensures most { steps.new.most ≡ steps.old.most }
@@ -60,7 +60,7 @@ impl Cut {
         let spans = spans_of(alloc, starts.as_slice(), ranges.as_slice())?;
         let mut partition = partition_by(alloc, starts.len(), spans.as_slice(), steps)?;
         let firsts = partition.number(alloc)?;
-        Ok(Cut {
+        Ok(Dimension {
             starts,
             classes: partition.classes,
             firsts,
@@ -76,8 +76,8 @@ impl Cut {
     }
 
     /// The class of a number that is at most the top.
-    pub fn class_of(&self, number: u128) -> usize
-        ensures { result ≡ class_of self.now number }
+    pub fn class_at(&self, number: u128) -> usize
+        ensures { result ≡ class_at self.now number }
     {
         let behind = self.starts.partition_point(|start| *start <= number);
         self.classes[behind.saturating_sub(1)]
