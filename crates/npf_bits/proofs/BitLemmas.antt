@@ -1,7 +1,7 @@
 -- Which numbers a set of words has, from its words.
-use Rattle.std.proofs.Common.{◌≡◌, ◌≢◌, ℕ, zero, suc, ◌+◌, ◌-◌, ◌*◌, ◌/◌, ◌%◌, ◌^◌, ◌<◌, ◌≤◌, ◌==◌, ◌&&◌, ◌||◌, true, false, not, List, length}
+use Rattle.std.proofs.Common.{◌≡◌, ◌≢◌, ℕ, zero, suc, ◌+◌, ◌-◌, ◌*◌, ◌/◌, ◌%◌, ◌^◌, ◌<◌, ◌≤◌, ◌==◌, ◌&&◌, ◌||◌, true, false, not, List, length, drop}
 use Rattle.std.proofs.Common.{get_or, set, replicate, min, bit_or, refl, sym, ap, ◌∙◌, inl, inr, arith, w64, get_or-set_same, get_or-set_other, eq-eqb, ne_eqb}
-use Rattle.std.{specs.{Prelude.{bit_and, nat_lt}, Int.{bit_at, bit_not, trailing_zeros}}, proofs.lemmas.List.get_or_past}
+use Rattle.std.{specs.{Prelude.{bit_and, nat_lt}, Int.{bit_at, bit_not, trailing_zeros}}, specs.List.slice_range, proofs.lemmas.List.{get_or_past, get_or-take, get_or-drop, length-take}}
 use Rattle.std.proofs.lemmas.Bool.{and_from, and_parts, both_ways, cases_eq, cases_lt, lt-ltb, le-ltb, not-true, not_from_false, true_from_ne_false}
 use Rattle.std.proofs.lemmas.Nat.{and_le_l}
 use Rattle.std.proofs.lemmas.Nat.Bits.{bit_at-lt, bit_at-zero, bit_at_and, bit_at_not, bit_at_ones, bit_at_ones_above, bit_at_set_same, bit_at_set_other, bit_at-trailing_zeros}
@@ -216,3 +216,20 @@ has_filled words count room filled n =
           ])
       | inr past ↦ has_past words n past ∙ sym (le-ltb n count (omega arith))
     ]
+
+-- ---- a part of the words
+pub has_range : (words : List ℕ) (from to n : ℕ) → n / 64 < to - from → has (slice_range words from to) n ≡ has words (64 * from + n)
+has_range words from to n within =
+    let row : (64 * from + n) / 64 ≡ from + n / 64 = omega arith in
+    let column : (64 * from + n) % 64 ≡ n % 64 = omega arith in
+    let word : get_or (slice_range words from to) (n / 64) 0 ≡ get_or words ((64 * from + n) / 64) 0 =
+    get_or-take (to - from) (drop from words) (n / 64) 0 within
+    ∙ get_or-drop from words (n / 64) 0
+    ∙ sym (ap (λ j. get_or words j 0) row) in
+    has-word (slice_range words from to) n _ word
+    ∙ sym (ap (λ j. bit_at (get_or words ((64 * from + n) / 64) 0) j == 1) column)
+    ∙ sym (has-word words (64 * from + n) _ refl)
+
+pub has_range_past : (words : List ℕ) (from to n : ℕ) → to - from ≤ n / 64 → has (slice_range words from to) n ≡ false
+has_range_past words from to n past =
+    has_past (slice_range words from to) n (omega (arith, length-take {A = ℕ} (to - from) (drop from words)))

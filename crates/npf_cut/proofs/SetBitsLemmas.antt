@@ -5,7 +5,7 @@ use Rattle.std.{specs.List.{All, between}, proofs.Math.Nat.mul-le-mul_right}
 use Rattle.std.proofs.lemmas.{Bool.{both_ways, cases_lt, eq-eqb, eqb-true, or_cases, or_left, or_right}, List.{get_or-take, get_or-drop, get_or_default, length-take}}
 use Rattle.std.proofs.lemmas.List.Elements.{All-contains, Contains-append_left, Contains-push, Contains-push_cases}
 use Rattle.npf_bits.{specs.Bits.has, proofs.BitLemmas.has_past}
-use Rattle.npf_cut.specs.{Dimension.{HasClass, IsClassOf, class_count}, SetBits.{has_class, words_of}, Span.IsSpanWithin}
+use Rattle.npf_cut.specs.{Dimension.{HasClass, IsClassOf, class_count}, SetBits.{has_class, set_words}, Span.IsSpanWithin}
 use Rattle.npf_cut.specs.declared.{set_bits.SetBits.SetBits, dimension.Dimension.Dimension, span.SetSpan.SetSpan}
 use Rattle.npf_cut.proofs.SpanLemmas.{among_between, between_among}
 
@@ -147,11 +147,11 @@ class_below cut set class h =
 -- the words of a set have its classes, and nothing else
 pub words_are : (cut : Dimension) (bits : SetBits) (set : ℕ) → class_count cut ≤ 64 * bits.per_set
     → ((class : ℕ) → class < 64 * bits.per_set → (has_class bits set class ≡ true) ↔ HasClass cut set class)
-    → (class : ℕ) → (has (words_of bits set) class ≡ true) ↔ HasClass cut set class
+    → (class : ℕ) → (has (set_words bits set) class ≡ true) ↔ HasClass cut set class
 words_are cut bits set fits inv class = ⊎_elim
     (λ (lt : class < 64 * bits.per_set).
     subst (λ (b : Bool). (b ≡ true) ↔ HasClass cut set class) (sym (words_has bits.words.items bits.per_set set class lt)) (inv class lt))
     (λ (ge : 64 * bits.per_set ≤ class).
-    let short : length (words_of bits set) ≤ bits.per_set = rw length-take (omega arith) in
-    (λ h. absurd (both_ways _ (has_past (words_of bits set) class (omega arith)) h), λ h. let lt = class_below cut set class h in absurd (omega arith)))
+    let short : length (set_words bits set) ≤ bits.per_set = rw length-take (omega arith) in
+    (λ h. absurd (both_ways _ (has_past (set_words bits set) class (omega arith)) h), λ h. let lt = class_below cut set class h in absurd (omega arith)))
     (cases_lt class (64 * bits.per_set))

@@ -37,7 +37,7 @@ impl Dimension {
     ghost use Rattle.npf_bits.specs.Bits.{has};
     ghost use Rattle.npf_steps.specs.Spent.{IsSpent};
     ghost use Rattle.npf_cut.specs.Dimension.{HasClass, IsCutBy, class_count, class_at, member_of};
-    ghost use Rattle.npf_cut.specs.SetBits.{words_of};
+    ghost use Rattle.npf_cut.specs.SetBits.{set_words};
 
     /// The numbers from 0 to `top` in the classes that the sets with these ranges tell apart. A set's ranges may be many, overlap and be
     /// empty; it takes a step for each interval of each set, where sets that are equal are best given as one.
@@ -99,9 +99,9 @@ impl Dimension {
         ensures sets { IfOk result (λ bits. bits.sets ≡ sets) }
         ensures words { IfOk result (λ bits. bits.per_set ≡ (class_count self.now + 63) / 64) }
         ensures classes { IfOk result (λ bits. (set class : ℕ) → set < sets
-            → (has (words_of bits set) class ≡ true) ↔ HasClass self.now set class) }
+            → (has (set_words bits set) class ≡ true) ↔ HasClass self.now set class) }
         ensures below { IfOk result (λ bits. (set class : ℕ) → set < sets
-            → has (words_of bits set) class ≡ true → class < class_count self.now) }
+            → has (set_words bits set) class ≡ true → class < class_count self.now) }
         ensures spent { IsErrOf result Stopped.Spent → IsSpent steps.new }
         ensures most { steps.new.most ≡ steps.old.most }
         ensures rises { steps.old.taken ≤ steps.new.taken }

@@ -19,7 +19,7 @@ pub struct SetBits {
 
 impl SetBits {
     ghost use Rattle.std.specs.Prelude.{◌/◌, false, IfOk};
-    ghost use Rattle.npf_cut.specs.SetBits.{has_class, words_of};
+    ghost use Rattle.npf_cut.specs.SetBits.{has_class, set_words};
 
     /// So many sets that have no class of so many.
     pub(crate) fn new(alloc: Global, sets: usize, count: usize) -> Result<SetBits, NoMemory>
@@ -57,7 +57,7 @@ impl SetBits {
     /// The classes of the set, as a set of `npf_bits`.
     pub fn of(&self, set: usize) -> &[u64]
         requires { set < self.now.sets }
-        ensures value { result.now ≡ words_of self.now set }
+        ensures value { result.now ≡ set_words self.now set }
         ensures len { length result.now ≡ self.now.per_set }
     {
         let first = set * self.per_set;

@@ -1,0 +1,5 @@
+pub mod SectionLemmas
+pub mod CellLemmas
+pub mod BoxesLemmas
+pub mod LookLemmas
+pub mod SplitLemmas
