@@ -1,8 +1,8 @@
 -- What the classes of intervals say of numbers.
-use Rattle.std.proofs.Common.{◌<◌, ◌↔◌, ℕ, List, length, get_or, ap, arith, ◌∙◌, subst, vec_len}
+use Rattle.std.proofs.Common.{◌≤◌, ◌<◌, ◌↔◌, ℕ, List, length, get_or, ap, arith, ◌∙◌, subst, vec_len}
 use Rattle.npf_cut.specs.{declared.{dimension.Dimension.Dimension, range.Range.Range, span.SetSpan.SetSpan}, Dimension.{IsCutBy, class_at}, Partition.RespectsSets, Range.IsInRanges}
 use Rattle.npf_cut.specs.{Span.{IsIntervalOf, IsSpanWithin}, Start.{AreStarts, interval_of}}
-use Rattle.npf_cut.proofs.StartLemmas.{IsLastAt, interval_at, last_at, same_side}
+use Rattle.npf_cut.proofs.StartLemmas.{IsLastAt, interval_at, last_at, non_decreasing, same_side}
 
 pub cut_is : (ranges merged : List Range) (top : ℕ) (cut : Dimension) → ((s v : ℕ) → IsInRanges merged s v ↔ IsInRanges ranges s v) → AreStarts top merged cut.starts.items
     → ((set interval : ℕ) → interval < length cut.starts.items → IsIntervalOf cut.spans.items set interval ↔ IsInRanges merged set (get_or cut.starts.items interval 0))
@@ -34,6 +34,15 @@ cut_is ranges merged top cut same are spans respects =
           let pairs = cut.paired in
           let in' = here.within in
           cut.firsts_are.below (interval_of cut.starts.items v) 0 (omega arith);
+      least = λ v le.
+          let starts = cut.starts.items in
+          let at : ℕ = interval_of starts v in
+          let here : IsLastAt starts v at = last_at starts cut.rises some cut.zero v in
+          let pairs = cut.paired in
+          let in' = here.within in
+          let first : get_or cut.firsts.items (class_at cut v) 0 ≤ at = cut.firsts_are.least at (omega arith) in
+          let rise : get_or starts (get_or cut.firsts.items (class_at cut v) 0) 0 ≤ get_or starts at 0 = non_decreasing starts cut.rises _ at 0 first in' in
+          let low = here.low in omega arith;
       member = λ class less.
           let first = cut.firsts_are.first class less in
           let pairs = cut.paired in

@@ -1,9 +1,9 @@
 -- Classes that sets split, and numbers of classes.
-use Rattle.std.proofs.Common.{◌≡◌, ◌≤◌, ◌<◌, ◌+◌, ◌↔◌, ◌⊎◌, ◌≢◌, ℕ, List, [], ◌∷◌, ◌++◌, length, get_or, set, take, replicate, vec_len, ap, inl, inr, ⊎_elim, sym, subst, ◌∙◌, arith}
+use Rattle.std.proofs.Common.{◌≡◌, ◌≤◌, ◌<◌, ◌+◌, ◌-◌, ◌↔◌, ◌⊎◌, ◌≢◌, ℕ, List, [], ◌∷◌, ◌++◌, length, get_or, set, take, drop, replicate, vec_len, ap, inl, inr, ⊎_elim, sym, subst, ◌∙◌, arith}
 use Rattle.std.specs.List.{between}
 use Rattle.std.proofs.lemmas.{Bool.{cases_lt, cases_eq}, List.{get_or-set_same, get_or-set_other, get_or_append_left, get_or_at, get_or_default, get_or-replicate}}
-use Rattle.std.proofs.lemmas.List.{length-set, length_push, length-replicate}
-use Rattle.npf_cut.specs.{declared.{partition.Partition.Partition, span.SetSpan.SetSpan}, Span.{IsSpanned, IsRunOfSet}}
+use Rattle.std.proofs.lemmas.List.{length-set, length_push, length-replicate, take-append-drop, take-take, drop-take, Sums.sum_by-append}
+use Rattle.npf_cut.specs.{declared.{partition.Partition.Partition, span.SetSpan.SetSpan}, Span.{IsSpanned, IsRunOfSet, interval_count}}
 use Rattle.npf_cut.specs.Partition.{AreKnown, AreParts, AreFirsts, IsNumbering, IsRefinedBy, RespectsSets}
 use Rattle.npf_cut.proofs.SpanLemmas.{among_first, first_among, among_between, between_among, spanned_cases, spanned_new, spanned_old}
 
@@ -92,6 +92,7 @@ pub record HasNumbered (none : ℕ) (old new numbers firsts : List ℕ) (count :
   pub left : (k : ℕ) → count ≤ k → get_or new k 0 ≡ get_or old k 0
   pub below : (k : ℕ) → k < count → get_or new k 0 < length firsts
   pub told : (k : ℕ) → k < count → get_or old (get_or firsts (get_or new k 0) 0) 0 ≡ get_or old k 0
+  pub least : (k : ℕ) → k < count → get_or firsts (get_or new k 0) 0 ≤ k
   pub first : (class : ℕ) → class < length firsts → (get_or firsts class 0 < count) × (get_or new (get_or firsts class 0) 0 ≡ class)
   pub named : (class : ℕ) → class < length numbers → get_or numbers class 0 ≢ none
       → (get_or numbers class 0 < length firsts) × (get_or old (get_or firsts (get_or numbers class 0) 0) 0 ≡ class)
@@ -126,6 +127,14 @@ module _ (none : ℕ) (old new numbers firsts : List ℕ) (at : ℕ) (lt : at < 
             (ap (λ (m : ℕ). get_or old (get_or firsts m 0) 0) here ∙ name.1 ∙ sym is))
             (λ (ne : k ≡ at → ⊥). ap (λ (m : ℕ). get_or old (get_or firsts m 0) 0) (get_or-set_other new at k part 0 ne) ∙ had.told k (omega arith))
             (cases_eq k at);
+        least = λ k less. ⊎_elim
+            (λ (e : k ≡ at).
+            let e' : get_or firsts (get_or (set new at part) k 0) 0 ≡ get_or firsts part 0 =
+            ap (λ (m : ℕ). get_or firsts (get_or (set new at part) m 0) 0) e ∙ ap (λ (m : ℕ). get_or firsts m 0) here in
+            let f = (had.first part name.0).0 in omega arith)
+            (λ (ne : k ≡ at → ⊥).
+            let e' = ap (λ (m : ℕ). get_or firsts m 0) (get_or-set_other new at k part 0 ne) in let h = had.least k (omega arith) in omega arith)
+            (cases_eq k at);
         first = λ c less.
             let f = had.first c less in
             (omega (arith, f.0), get_or-set_other new at (get_or firsts c 0) part 0 (λ e. absurd (omega (arith, e, f.0))) ∙ f.1);
@@ -159,6 +168,16 @@ module _ (none : ℕ) (old new numbers firsts : List ℕ) (at : ℕ) (lt : at < 
             let less' : get_or new k 0 < part = had.below k (omega arith) in
             ap (λ (m : ℕ). get_or old (get_or (firsts ++ at ∷ []) m 0) 0) (get_or-set_other new at k part 0 ne)
             ∙ ap (λ (m : ℕ). get_or old m 0) (stays (get_or new k 0) less') ∙ had.told k (omega arith))
+            (cases_eq k at);
+        least = λ k less. ⊎_elim
+            (λ (e : k ≡ at).
+            let e' : get_or (firsts ++ at ∷ []) (get_or (set new at part) k 0) 0 ≡ at =
+            ap (λ (m : ℕ). get_or (firsts ++ at ∷ []) (get_or (set new at part) m 0) 0) e ∙ ap (λ (m : ℕ). get_or (firsts ++ at ∷ []) m 0) here ∙ begin in
+            omega arith)
+            (λ (ne : k ≡ at → ⊥).
+            let e' : get_or (firsts ++ at ∷ []) (get_or (set new at part) k 0) 0 ≡ get_or firsts (get_or new k 0) 0 =
+            ap (λ (m : ℕ). get_or (firsts ++ at ∷ []) m 0) (get_or-set_other new at k part 0 ne) ∙ stays (get_or new k 0) (had.below k (omega arith)) in
+            let h = had.least k (omega arith) in omega arith)
             (cases_eq k at);
         first = λ c less. ⊎_elim
             (λ (less' : c < part).
@@ -216,6 +235,7 @@ numbered_all none old new numbers firsts had =
       numbered = record {
         below = λ k d lt. subst (λ (m : ℕ). m < length firsts) (get_or_default new k 0 d lt) (had.below k (omega arith));
         first = λ c less. let f = had.first c less in (omega (arith, f.0), f.1);
+        least = λ k lt. had.least k (omega arith);
       };
     }
 
@@ -249,3 +269,14 @@ split_more old now next fresh from at had order within same room kept others her
   parts = λ before h. kept before (had.parts before h);
   moved = moved_more old.classes.items now.classes.items next.classes.items (vec_len old.classes) fresh from at had.moved order others here;
 }
+
+-- the intervals of the spans to a place are those to an earlier one, and those between
+pub count_more : (spans : List SetSpan) (from to : ℕ) → from ≤ to → interval_count (take to spans) ≡ interval_count (take from spans) + interval_count (between from to spans)
+count_more spans from to le =
+    let n : ℕ = to - from in
+    let whole : from + n ≡ to = omega arith in
+    let parts : take (from + n) spans ≡ take from spans ++ take n (drop from spans) =
+    sym (take-append-drop from (take (from + n) spans)) ∙ ap (λ (l : List SetSpan). l ++ drop from (take (from + n) spans)) (take-take from (from + n) spans (omega arith))
+    ∙ ap (λ (l : List SetSpan). take from spans ++ l) (drop-take from n spans) in
+    ap (λ (m : ℕ). interval_count (take m spans)) (sym whole) ∙ ap interval_count parts
+    ∙ sum_by-append (λ (span : SetSpan). span.to - span.from) (take from spans) (take n (drop from spans))

@@ -31,11 +31,12 @@ abbrev pub RespectsSets : List SetSpan → List ℕ → Type 0
 RespectsSets spans classes = (set j k : ℕ) → j < length classes → k < length classes → slice_index classes j ≡ slice_index classes k
     → IsIntervalOf spans set j → IsIntervalOf spans set k
 
--- the classes have the numbers below those of the firsts, each of which is an interval of its class
+-- the classes have the numbers below those of the firsts, each of which is the first interval of its class
 pub record AreFirsts (classes firsts : List ℕ) : Type 0 where
   pub below : All (λ class. class < length firsts) classes
   pub first : (class : ℕ) → class < length firsts
       → (slice_index firsts class < length classes) × (slice_index classes (slice_index firsts class) ≡ class)
+  pub least : (k : ℕ) → k < length classes → slice_index firsts (slice_index classes k) ≤ k
 
 -- intervals of one class were of one class before
 pub record IsNumbering (old new firsts : List ℕ) : Type 0 where

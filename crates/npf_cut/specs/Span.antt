@@ -1,5 +1,6 @@
 -- Sets as intervals.
-use Rattle.std.specs.Prelude.{◌≡◌, ◌≤◌, ◌<◌, ℕ, List, Contains, length, slice_index, slice_index_or}
+use Rattle.std.specs.Prelude.{◌-◌, ◌≡◌, ◌≤◌, ◌<◌, ℕ, List, Contains, length, slice_index, slice_index_or}
+use Rattle.std.specs.List.{sum_by}
 use Rattle.npf_cut.specs.declared.range.Range.{Range}
 use Rattle.npf_cut.specs.declared.span.SetSpan.{SetSpan}
 
@@ -17,6 +18,10 @@ pub record IsIntervalOf (spans : List SetSpan) (set interval : ℕ) : Type 0 whe
   pub of : span.set ≡ set
   pub from : span.from ≤ interval
   pub to : interval < span.to
+
+-- how many intervals the sets have, each set's counted by itself
+abbrev pub interval_count : List SetSpan → ℕ
+interval_count spans = sum_by (λ span. span.to - span.from) spans
 
 -- the span has its places in order, and no more of them than there are intervals
 pub record IsSpanWithin (count : ℕ) (span : SetSpan) : Type 0 where

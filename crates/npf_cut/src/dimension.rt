@@ -33,14 +33,17 @@ pub struct Dimension {
 }
 
 impl Dimension {
-    ghost use Rattle.std.specs.Prelude.{◌+◌, ◌*◌, ◌/◌, ◌↔◌, ℕ, true, IfOk, IsErrOf};
+    ghost use Rattle.std.specs.Prelude.{◌+◌, ◌*◌, ◌/◌, ◌↔◌, ℕ, true, IfOk, OnOk, IsErrOf};
     ghost use Rattle.npf_bits.specs.Bits.{has};
     ghost use Rattle.npf_steps.specs.Spent.{IsSpent};
     ghost use Rattle.npf_cut.specs.Dimension.{HasClass, IsCutBy, class_count, class_at, member_of};
     ghost use Rattle.npf_cut.specs.SetBits.{set_words};
+    ghost use Rattle.npf_cut.specs.Span.{interval_count};
 
     /// The numbers from 0 to `top` in the classes that the sets with these ranges tell apart. A set's ranges may be many, overlap and be
-    /// empty; it takes a step for each interval of each set, where sets that are equal are best given as one.
+    /// empty; it takes a step for each interval of each set, so sets that are equal are best given as one. Proved is that no set tells
+    /// two numbers of a class apart; that some set tells numbers of different classes apart, so that the classes are as few as can be, is
+    /// not proved.
     ///
     /// # Errors
     /// `Stopped::Spent` where it wants more steps than are left, and `Stopped::NoMemory`.
@@ -51,6 +54,7 @@ impl Dimension {
         steps: &mut Steps,
     ) -> Result<Dimension, Stopped>
         ensures cut { IfOk result (IsCutBy ranges.items top) }
+        ensures counted { IfOk result (λ made. steps.old.taken + interval_count made.spans.items ≤ steps.new.taken) }
         ensures spent { IsErrOf result Stopped.Spent → IsSpent steps.new }
         ensures most { steps.new.most ≡ steps.old.most }
         ensures rises { steps.old.taken ≤ steps.new.taken }
@@ -102,6 +106,7 @@ impl Dimension {
             → (has (set_words bits set) class ≡ true) ↔ HasClass self.now set class) }
         ensures below { IfOk result (λ bits. (set class : ℕ) → set < sets
             → has (set_words bits set) class ≡ true → class < class_count self.now) }
+        ensures counted { OnOk result (steps.new.taken ≡ steps.old.taken + interval_count self.now.spans.items) }
         ensures spent { IsErrOf result Stopped.Spent → IsSpent steps.new }
         ensures most { steps.new.most ≡ steps.old.most }
         ensures rises { steps.old.taken ≤ steps.new.taken }

@@ -1,10 +1,10 @@
 // Intervals in classes that sets split, one after the other.
-ghost use Rattle.std.specs.Prelude.{◌≡◌, ◌≤◌, ◌<◌, ◌↔◌, ◌⊎◌, ℕ, List, IfOk, OnOk, IsErrOf, length, slice_index, slice_set, vec_len};
+ghost use Rattle.std.specs.Prelude.{◌≡◌, ◌≤◌, ◌<◌, ◌+◌, ◌↔◌, ◌⊎◌, ℕ, List, IfOk, OnOk, IsErrOf, length, slice_index, slice_set, vec_len};
 ghost use Rattle.std.specs.List.{All};
 ghost use Rattle.npf_steps.specs.Spent.{IsSpent};
 ghost use Rattle.npf_steps.specs.declared.steps.Stopped.TheVariants.{Spent};
 ghost use Rattle.npf_cut.specs.Partition.{AreKnown, AreParts, IsNumbering, IsRefinedBy, RespectsSets};
-ghost use Rattle.npf_cut.specs.Span.{IsRunOfSet, IsSpanWithin};
+ghost use Rattle.npf_cut.specs.Span.{IsRunOfSet, IsSpanWithin, interval_count};
 
 use crate::span::SetSpan;
 use npf_steps::{Steps, Stopped};
@@ -41,6 +41,7 @@ impl Partition {
         requires within { All (IsSpanWithin (vec_len self.old.classes)) spans.now }
         ensures known { OnOk result (AreKnown self.new.classes.items self.new.parts.items) }
         ensures refined { OnOk result (IsRefinedBy spans.now self.old.classes.items self.new.classes.items) }
+        ensures counted { OnOk result (steps.new.taken ≡ steps.old.taken + interval_count spans.now) }
         ensures spent { IsErrOf result Stopped.Spent → IsSpent steps.new }
         ensures most { steps.new.most ≡ steps.old.most }
         ensures rises { steps.old.taken ≤ steps.new.taken }
@@ -123,6 +124,7 @@ pub(crate) fn partition_by(
     ensures count { IfOk result (λ partition. vec_len partition.classes ≡ count) }
     ensures known { IfOk result (λ partition. AreKnown partition.classes.items partition.parts.items) }
     ensures respects { IfOk result (λ partition. RespectsSets spans.now partition.classes.items) }
+    ensures counted { OnOk result (steps.old.taken + interval_count spans.now ≤ steps.new.taken) }
     ensures spent { IsErrOf result Stopped.Spent → IsSpent steps.new }
     ensures most { steps.new.most ≡ steps.old.most }
     ensures rises { steps.old.taken ≤ steps.new.taken }

@@ -1,5 +1,5 @@
-use Rattle.std.proofs.{Common.{◌≡◌, ◌≤◌, ◌<◌, ◌+◌, ◌*◌, ◌↔◌, ◌∷◌, [], ◌++◌, ◌∙◌, ℕ, List, true, length, get_or, take, sym, subst, arith}, lemmas.List.{take_all, take_more}}
-use Rattle.npf_cut.specs.{Dimension.{IsClassOf, class_count}, SetBits.has_class, declared.span.SetSpan.SetSpan}
+use Rattle.std.proofs.{Common.{◌≡◌, ◌≤◌, ◌<◌, ◌+◌, ◌*◌, ◌↔◌, ◌∷◌, [], ◌++◌, ◌∙◌, ℕ, List, true, length, get_or, take, sym, ap, subst, ◌-◌, arith}, lemmas.List.{take_all, take_more, Sums.sum_by_more}}
+use Rattle.npf_cut.specs.{Dimension.{IsClassOf, class_count}, SetBits.has_class, Span.interval_count, declared.span.SetSpan.SetSpan}
 use Rattle.npf_cut.proofs.SetBitsLemmas.{bits_more, class_below, words_are}
 use Rattle.npf_cut.proofs.dimension.Dimension.bits.Goals as goal
 
@@ -24,6 +24,9 @@ loop-span-preserved c =
           subst (λ (l : List SetSpan). (has_class c.put.new.self set class ≡ true) ↔ IsClassOf classes l set class) (sym more)
           (bits_more c.loop-span.bits c.put.new.self c.args.sets classes (take at spans) span inv.sets most step inv.classes set class less
           (subst (λ (n : ℕ). class < 64 * n) c.put.ensures.words small));
+      counted =
+          let sum = sum_by_more (λ (s : SetSpan). s.to - s.from) spans at none lt in
+          let take' = rw c.deref-span-items.ensures.value at c.in_ok-take.ensures.counted in let before = inv.counted in omega arith;
       most = c.in_ok-take.ensures.most ∙ inv.most;
       rises = let a = c.in_ok-take.ensures.rises in let b = inv.rises in omega arith;
     }
@@ -41,3 +44,10 @@ returns-clause-classes c = λ set class less.
 
 pub returns-clause-below : goal.returns-clause-below
 returns-clause-below c = λ set class less h. class_below c.args.self.now set class ((returns-clause-classes c set class less).0 h)
+
+pub returns-clause-counted : goal.returns-clause-counted
+returns-clause-counted c =
+    let spans = c.args.self.now.spans in
+    let le : length spans.items ≤ c.loop-span.span-index = omega (arith, c.loop-span-test.false, c.deref-span-items.ensures.len, spans.ok) in
+    let all = ap interval_count (take_all c.loop-span.span-index spans.items le) in
+    let before = c.loop-span.invariant.counted in omega arith

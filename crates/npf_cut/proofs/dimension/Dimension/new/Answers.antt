@@ -8,3 +8,6 @@ returns-clause-cut c =
     let respects = rw c.as_slice-4.ensures.value at c.in_ok-partition.ensures.respects in
     cut_is c.args.ranges.items c.in_ok-ranges.ranges.items c.args.top _ c.in_ok-ranges.ensures starts spans
     (respects_numbered c.in_ok-spans.spans.items c.in_ok-partition.partition.classes.items c.number.new.self.classes.items c.in_ok-firsts.firsts.items respects c.in_ok-firsts.ensures.numbers)
+
+pub returns-clause-counted : goal.returns-clause-counted
+returns-clause-counted c = rw c.as_slice-4.ensures.value at c.in_ok-partition.ensures.counted
