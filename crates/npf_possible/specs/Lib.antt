@@ -1,0 +1,4 @@
+pub mod Possible
+pub mod Tested
+pub mod Witness
+pub mod PossibleLaw
