@@ -95,11 +95,10 @@ fn parse_set(word: &str) -> Result<u128> {
     }
     for range in word.split(',') {
         let (low, high) = range.split_once('-').unwrap_or((range, range));
+        let low: u32 = low.parse()?;
         let high: u32 = high.parse()?;
-        let mut class: u32 = low.parse()?;
-        while class <= high && class < 128 {
-            set |= 1 << class;
-            class += 1;
+        for class in low..high.min(127) + 1 {
+            set |= 1u128.checked_shl(class).unwrap_or(0);
         }
     }
     Ok(set)
