@@ -16,18 +16,30 @@ pub enum Stopped {
 }
 
 impl From<NoMemory> for Stopped {
+    ghost use Rattle.npf_steps.specs.declared.steps.Stopped.TheVariants.{NoMemory};
+
+    ghost from_gives = { λ _ stopped. stopped ≡ NoMemory };
+
     fn from(_error: NoMemory) -> Stopped {
         Stopped::NoMemory
     }
 }
 
 impl From<AllocError> for Stopped {
+    ghost use Rattle.npf_steps.specs.declared.steps.Stopped.TheVariants.{NoMemory};
+
+    ghost from_gives = { λ _ stopped. stopped ≡ NoMemory };
+
     fn from(_error: AllocError) -> Stopped {
         Stopped::NoMemory
     }
 }
 
 impl<T: Drop> From<AllocFailed<T>> for Stopped {
+    ghost use Rattle.npf_steps.specs.declared.steps.Stopped.TheVariants.{NoMemory};
+
+    ghost from_gives = { λ _ stopped. stopped ≡ NoMemory };
+
     fn from(_error: AllocFailed<T>) -> Stopped {
         Stopped::NoMemory
     }
