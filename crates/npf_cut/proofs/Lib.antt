@@ -1,0 +1,6 @@
+mod RangeLemmas
+mod SpanLemmas
+mod StartLemmas
+mod PartitionLemmas
+mod DimensionLemmas
+mod SetBitsLemmas
