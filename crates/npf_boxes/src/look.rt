@@ -1,5 +1,5 @@
 // A look at each of the other boxes of a part.
-ghost use Rattle.std.specs.Prelude.{◌≡◌, ◌≢◌, ◌≤◌, ◌<◌, ◌∷◌, ◌++◌, [], ℕ, true, false, List, All, length, IfOk, IfSome, IfNone, IsErrOf, OnOk, Some, None, Ok};
+ghost use Rattle.std.specs.Prelude.{◌≡◌, ◌≢◌, ◌≤◌, ◌<◌, ◌+◌, ◌∷◌, ◌++◌, [], ℕ, true, false, List, All, length, IfOk, IfSome, IfNone, IsErrOf, OnOk, Some, None, Ok};
 ghost use Rattle.npf_steps.specs.Spent.{IsSpent};
 ghost use Rattle.npf_boxes.specs.Cell.{IsPart, any_has, box_at, in_box, words_of};
 ghost use Rattle.npf_boxes.specs.Part.{AreLeft, IsToSplitBy, Narrows};
@@ -90,6 +90,7 @@ pub(crate) fn look(
     ensures by { IfOk result (λ left. IfSome left IsToSplitBy) }
     ensures spent { IsErrOf result Stopped.Spent → IsSpent steps.new }
     ensures most { steps.new.most ≡ steps.old.most }
+    ensures counted { IfOk result (λ found. IfSome found (λ _. steps.new.taken ≡ steps.old.taken + length others.now)) }
     ensures rises { steps.old.taken ≤ steps.new.taken }
     ensures within { OnOk result (steps.old.taken ≤ steps.old.most → steps.new.taken ≤ steps.new.most) }
 {

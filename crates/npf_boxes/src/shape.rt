@@ -12,7 +12,8 @@ pub struct Shape {
 }
 
 impl Shape {
-    /// The shape of boxes whose dimensions have so many classes.
+    /// The shape of boxes whose dimensions have so many classes. A set whose last word has more bits than that has
+    /// the classes of these, too: it is for who makes the sets to leave them out.
     pub fn new(counts: [u32; 6]) -> Shape
         ensures begins { slice_index result.starts 0 ≡ 0 }
         ensures goes_on { (d : ℕ) → d < 6

@@ -1,4 +1,4 @@
-use Rattle.std.proofs.Common.{◌≡◌, ◌≤◌, take}
+use Rattle.std.proofs.Common.{◌≡◌, ◌+◌, ◌≤◌, take}
 use Rattle.npf_boxes.specs.Part.{AreLeft, IsToSplitBy}
 use Rattle.npf_boxes.proofs.look.look.Given as goal
 
@@ -8,5 +8,5 @@ invariant-loop-other l = record {
   by : IsToSplitBy l.left;
   most : l.steps.most ≡ l.initial.steps.most;
   within : l.initial.steps.taken ≤ l.initial.steps.most → l.steps.taken ≤ l.steps.most;
-  rises : l.initial.steps.taken ≤ l.steps.taken;
+  counted : l.steps.taken ≡ l.initial.steps.taken + l.other-index;
 }
