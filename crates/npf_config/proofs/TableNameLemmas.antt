@@ -148,8 +148,7 @@ module _ (names : List (List ℕ)) (is_defined : List ℕ → Bool) (is_among : 
   module _ (ifaces : List Iface) (env : Env) (all : NamesDefined env) where
     addresses_numbers : (addresses : Addresses) → tables_of_addresses is_defined addresses ≡ [] → HasItemNumbers (address_items ifaces env names addresses)
     addresses_numbers (Written.Any span) none = tt
-    addresses_numbers (Written.Excluded (Values.One value _) span) none = addresses_numbers (Written.One value span) none
-    addresses_numbers (Written.Excluded (Values.List list _) span) none = addresses_numbers (Written.List list span) none
+    addresses_numbers (Written.Excluded values span) none = all_numbers (spliced ifaces env (listed_values values)) (listed_defined ifaces env all values none)
     addresses_numbers (Written.One value span) none = all_numbers (spliced ifaces env (value ∷ [])) (values_defined ifaces env all (value ∷ []) (append-nil (table_faults is_defined value) ∙ none))
     addresses_numbers (Written.List list span) none = all_numbers (spliced ifaces env list.values) (values_defined ifaces env all list.values none)
 

@@ -3,11 +3,12 @@ use Rattle.std.{proofs.Common.{◌≡◌, Option, Some, None, List, [], ◌∷�
 use Rattle.std.{specs.{Option.{IfSome, option_map}, List.flat_map, Str.IsUtf8}, proofs.lemmas.List.Elements.{All-append, All-cons, All-nil}}
 use Rattle.std.proofs.lemmas.Str.{IsUtf8-from_is_utf8}
 use Rattle.npf_lexer.specs.declared.token.Token.{Token}
-use Rattle.npf_syntax.specs.declared.{stmt.{Stmt.Stmt, Tree.Tree}, word.Str.Str}
+use Rattle.npf_types.specs.declared.span.Span.{Span}
+use Rattle.npf_syntax.specs.declared.{stmt.{Stmt.Stmt, Tree.Tree}, value.IfaceTree.IfaceTree, word.Str.Str}
 use Rattle.npf_phrase.specs.{Phrase.are_items, Grammar.{Grammar, meaning, making, ◌or◌, optional, preceded, unless, those_there}}
 use Rattle.npf_phrase.proofs.ReadingLemmas.{by_choice}
-use Rattle.npf_parser.specs.{Parse.Parses, Stmt.{define, set, alg, table, map, group, procedure, stmt, stmts, ends_stmt, file}}
-use Rattle.npf_parser_values.specs.Token.{quoted, separator, text_string}
+use Rattle.npf_parser.specs.{Parse.Parses, Stmt.{MapRest, define, set, alg, table, no_translation, translation, map_rest, map, group, procedure, stmt, stmts, ends_stmt, file}}
+use Rattle.npf_parser_values.specs.Token.{quoted, separator, span_of, text_string}
 use Rattle.npf_expand.specs.Table.{tables_of}
 use Rattle.npf_config.specs.Tables.{HasTextName}
 
@@ -43,9 +44,20 @@ alg_text : MeansText alg
 unfolding alg
 alg_text ts s n is = no_tables s _ is.2 refl
 
+-- what stands behind a map's interface makes no table of it
+rest_tables : (ts : List Token) (rest : MapRest) (n : Option Token) → (meaning map_rest).Is ts rest n → (iface : IfaceTree) (span : Span) → tables_of (rest iface span) ≡ []
+unfolding map_rest translation
+rest_tables ts rest n =
+    by_choice _ ((meaning no_translation).Is ts rest n) ((meaning translation).Is ts rest n) ((iface : IfaceTree) (span : Span) → tables_of (rest iface span) ≡ [])
+    (λ is iface span. ap (λ (r : MapRest). tables_of (r iface span)) is.2) (λ is iface span. ap (λ (r : MapRest). tables_of (r iface span)) is.2)
+
 map_text : MeansText map
 unfolding map
-map_text ts s n is = no_tables s _ is.2 refl
+map_text ts s n is =
+    let parts = is.1.1.second in
+    no_tables s _ is.2 (
+      ap (λ (a : IfaceTree × MapRest). tables_of (a.1 a.0 (span_of ts))) is.1.2 ∙ rest_tables parts.other is.1.0.1.1 n parts.second is.1.0.1.0 (span_of ts)
+    )
 
 group_text : MeansText group
 unfolding group

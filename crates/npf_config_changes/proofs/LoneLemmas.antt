@@ -76,8 +76,8 @@ module _ (names : List (List ℕ)) (ifaces : List Iface) where
 
   addresses_named : (addresses : Addresses) → unknown_in_addresses addresses (address_items ifaces alone names addresses) ≡ [] → tables_of_addresses (is_among names) addresses ≡ []
   addresses_named (Written.Any span) none = refl
-  addresses_named (Written.Excluded (Values.One value _) span) none = addresses_named (Written.One value span) none
-  addresses_named (Written.Excluded (Values.List list _) span) none = addresses_named (Written.List list span) none
+  addresses_named (Written.Excluded (Values.One value _) span) none = front (table_faults (is_among names) value) [] (values_named (value ∷ []) none)
+  addresses_named (Written.Excluded (Values.List list _) span) none = values_named list.values none
   addresses_named (Written.One value span) none = front (table_faults (is_among names) value) [] (values_named (value ∷ []) none)
   addresses_named (Written.List list span) none = values_named list.values none
 

@@ -4,14 +4,15 @@ use Rattle.std.proofs.{Common.{length, flat_map, filter_map, codes, refl, sym, a
 use Rattle.std.{proofs.lemmas.List.Elements.filter_map-append, specs.{List.All, Prelude.slice_get}}
 use Rattle.npf_types.specs.declared.span.Span.{Span}
 use Rattle.npf_lexer.specs.declared.token.Sign.TheVariants as Signs
-use Rattle.npf_lexer.specs.declared.token.TokenKind.{TokenKind}
+use Rattle.npf_lexer.specs.declared.token.{Token.Token, TokenKind.TokenKind}
 use Rattle.npf_lexer.specs.declared.token.TokenKind.TheVariants as Kind
 use Rattle.npf_syntax.specs.declared.{filter.{Addresses.Addresses, EndsTree.EndsTree as WrittenEnds, Where.Where}, value.{Value.Value, ValueList.ValueList}}
 use Rattle.npf_syntax.specs.declared.{value.Values.Values, word.{Address.Address, Number.Number, Word.Word}}
 use Rattle.npf_model.specs.declared.{ends.{AddrItem.{AddrItem, TheVariants.{Net, InTable}}, Ends.Ends}, iface.Iface.Iface, model.Model.Model}
 use Rattle.npf_model.specs.Count.{elements_of_ends}
-use Rattle.npf_phrase.specs.Grammar.{meaning, optional, preceded}
+use Rattle.npf_phrase.specs.Grammar.{Grammar, making, meaning, optional, preceded}
 use Rattle.npf_parser_values.specs.{Token.{quoted, sign, span_of}, Value.{value, values, can_stand, is_port, is_port_end}}
+use Rattle.npf_parser_values.specs.declared.role.ValueRole.{ValueRole}
 use Rattle.npf_parser.specs.Filter.{addresses, ports, ends, the_ends}
 use Rattle.npf_expand_values.specs.{Address.{items_of, addresses_faults, addresses_count, address_items, is_excluded}, Atom.Atom}
 use Rattle.npf_expand_values.specs.{Port.{atom_ports, ports_faults, ports_count, ports_of}, Variable.empty_list_at, Source.declared_of}
@@ -108,12 +109,15 @@ module _ (ifaces : List Iface) (model : Model) where
   excluded_one own v x is span =
       let one = says_one span v x is in record { excludes = refl; faults = is.faults [] refl; gives = one.gives; count = one.count }
 
+  abbrev excluded_addresses : Grammar Token Addresses
+  excluded_addresses = making (λ ts those. Addresses.Excluded those (span_of ts)) (preceded (sign Signs.Exclamation) (values ValueRole.Address))
+
   addresses_go : (excluded : Bool) (x : AddrItem) (xs : List AddrItem) → All (IsRegularItem model) (x ∷ xs) → (to : List TokenKind) → Behind false to
       → Goes addresses (SaysAddresses excluded (x ∷ xs)) (onto (addresses_pieces model excluded (x ∷ xs)) to) to
   unfolding addresses values
   addresses_go false x xs all to here =
       pick_second (list_head (IsRegularItem model) (item_pieces model) item_head x xs all to (meaning (quoted (codes "any"))).starts (λ ks head s. head.any s) (λ s. refl))
-      (pick_second (list_head (IsRegularItem model) (item_pieces model) item_head x xs all to (meaning (sign Signs.Exclamation)).starts (λ ks head s. head.exclamation s) (λ s. refl))
+      (pick_second (list_head (IsRegularItem model) (item_pieces model) item_head x xs all to (meaning excluded_addresses).starts (λ ks head s. ap (λ b. b || false) (head.exclamation s)) (λ s. refl))
       (either_goes _ IsItem (IsRegularItem model) (item_pieces model) (item_goes _ (λ a o s. refl) (λ w s. refl)) item_head (SaysAddresses false)
       (λ ts list. Addresses.List list (span_of ts)) (λ ts v. Addresses.One v (span_of ts))
       (λ ts list x xs each. says_list (span_of ts) list x xs each) (λ ts v x is. says_one (span_of ts) v x is) x xs all to here))
