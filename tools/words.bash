@@ -197,7 +197,7 @@ hint_command() {
     check | test | verify | -n | -f | -nf) other='validate says whether a configuration is accepted, and run what becomes of packets' ;;
     replay | simulate | trace | read | -r) other='run says what becomes of the packets of captures' ;;
     print | dump | rules) other='show prints what a configuration means' ;;
-    diff | compare) other="npfctl(8), EXAMPLES, compares what two configurations do to the same packets: man $(printf %q "$page8")" ;;
+    diff | compare) other='npfctl(8), EXAMPLES, compares what two configurations do to the same packets' ;;
   esac
   if [ -n "$here" ]; then
     hint "there is no command $word: NetBSD's is for a running kernel, which this program never touches"
