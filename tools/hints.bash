@@ -62,13 +62,15 @@ hint_filter() {
 
 # How a file in another format becomes a capture that is read. Fails where it is in none that is known.
 hint_format() {
-  local format file
+  local format file makes='this makes'
   format=$(format_of "$1")
   file=$(printf %q "$1")
   case $format in
     pcapng | snoop | modified)
-      hint "$1 is $(format_in_words "$format"), and what is read is pcap; this makes it such a capture:"
+      [ "$format" != pcapng ] || makes='either of these makes'
+      hint "$1 is $(format_in_words "$format"), and what is read is pcap; $makes it such a capture:"
       hint_recipe "editcap -F pcap $file NEW.pcap"
+      [ "$format" != pcapng ] || hint_recipe "tcpdump -r $file -w NEW.pcap"
       ;;
     gzip | bzip2 | xz | zstd | lz4 | zip)
       hint "$1 is $(format_in_words "$format"), and what is read is pcap; this unpacks it:"
@@ -111,7 +113,11 @@ name_link() {
       [ "$(bytes_of "$2" 40 2)" = ff03 ] || header=2 mixed=''
       ;;
     10) link=FDDI ;;
-    12 | 14) link=RAW header=0 ;;
+    12 | 14)
+      link=RAW header=0
+      # 12 is also LOOP of OpenBSD, which begins with a small number of 32 bits, and IP never with a zero
+      [ "$1 $(bytes_of "$2" 40 3)" != '12 000000' ] || link=LOOP header=4 mixed=''
+      ;;
     50) link=PPP_HDLC header=4 fields='ppp.protocol in {0x0021, 0x0057}' ;;
     51) link=PPP_ETHER header=8 fields='ppp.protocol in {0x0021, 0x0057}' ;;
     104) link=C_HDLC header=4 fields='chdlc.protocol in {0x0800, 0x86dd}' ;;
@@ -157,6 +163,31 @@ captures_of() {
   else
     sed -nE 's/^[[:blank:]]*capture[[:blank:]].*"(.*)"[[:blank:]]*$/\1/p' "$1"
   fi
+}
+
+# The configurations that a script loads.
+reloads_of() {
+  sed -nE 's/^[[:blank:]]*reload[[:blank:]]*"(.*)"[[:blank:]]*$/\1/p' "$1"
+}
+
+# The rules of a run: the texts of CONF and of what SCRIPT loads, and the rules that this adds, without comments and what stands in quotes.
+texts_of_rules() {
+  local script=${files[1]} texts=("${files[0]}") it
+  [ "$(format_of "$script")" = pcap ] || mapfile -O 1 -t texts < <(reloads_of "$script")
+  for it in "${texts[@]}"; do
+    [ ! -f "$it" ] || cat -- "$it"
+  done | sed 's/#.*//; s/"[^"]*"//g'
+  [ "$(format_of "$script")" = pcap ] || sed -nE 's/^[[:blank:]]*rule[[:blank:]]+[^[:blank:]]+[[:blank:]]+add[[:blank:]]//p' "$script"
+}
+
+# That workers which take turns had packets of connections, of which one may be handled before the packet that opens its connection.
+hint_workers() {
+  local rules what='--spread flow gives a connection one worker'
+  [ "$((10#${workers#+}))" -gt 1 ] && [ "$spread" = rr ] || return
+  rules=$(texts_of_rules)
+  grep -qwE 'stateful|dynamic' <<<"$rules" || return
+  ! grep -qw map <<<"$rules" || what='as a map translates, one worker alone keeps the order'
+  hint "workers that take turns may handle an answer before its question, so that calls differ; $what"
 }
 
 # Whether none of these captures has a packet. What is no file is taken to have one.
@@ -279,6 +310,7 @@ hint_done() {
     hint 'nothing crossed there, or nothing that was asked for; of lo tcpdump -Q out records none, as what crosses lo is recorded as in'
     return
   fi
+  hint_workers
   for capture in "${captures[@]}"; do
     [ ! -f "$capture" ] || ! hint_packets "$capture" || return
   done
@@ -325,6 +357,15 @@ hint_return() {
   hint "tr -d '\\r' <$(printf %q "$1") >NEW"
 }
 
+# That a line of a file of interfaces has a tab before its comment, where it does.
+hint_tab() {
+  local text
+  text=$(line_of "$1" "$2")
+  [[ ${text%%#*} == *$'\t'* ]] || return
+  hint "line $2 of $1 has a tab, which is no space there; this makes spaces of all tabs:"
+  hint "tr '\\t' ' ' <$(printf %q "$1") >NEW"
+}
+
 # That a text begins with a byte order mark, of UTF-8 or UTF-16, where it does.
 hint_mark() {
   case $(bytes_of "$1" 0 3) in
@@ -356,11 +397,26 @@ hint_swapped() {
   hint "the words are: npfctl $(words_of "$command")"
 }
 
+# The first bytes of a text of one line.
+shown_of() {
+  printf %s "$1" | cut -b -60 | tr -c '[:print:]\n' '?'
+}
+
+# The line for which a table's file is refused. BEFORE is what the configuration has before the file's name.
+hint_entry() {
+  local file=$1 line=$2 before=$3 text kind='' prefix='^[[:blank:]]*[0-9A-Fa-f.:]+/[0-9]'
+  text=$(line_of "$file" "$line")
+  [ -n "$text" ] || return 0
+  hint "line $line of $file is: $(shown_of "$text")"
+  ! [[ $before =~ type[[:blank:]]+(ipset|const)[[:blank:]] ]] || kind=${BASH_REMATCH[1]}
+  ! [[ -n $kind && $text =~ $prefix ]] || hint "a table of type $kind has single addresses; one of type lpm takes prefixes, too"
+}
+
 # What stands at a place of a configuration where something else is to stand, and what is missing there, as far as one can tell: TEXT is the line,
 # THERE what it has from the place on, NUMBER the fault's.
 hint_there() {
   local text=$1 there=$2 number=$3 before shown
-  shown=$(printf %s "${there%$'\r'}" | cut -b -60 | tr -c '[:print:]\n' '?')
+  shown=$(shown_of "${there%$'\r'}")
   [ -z "$shown" ] || hint "what stands there is: $shown"
   before=${text:0:${#text}-${#there}}
   before=${before%%#*}
@@ -379,27 +435,28 @@ is_rule_without_ends() {
 
 # Status 3.
 hint_refused() {
-  local file line column number name text there table
+  local file line column number name text there table entry
   [[ $said =~ ^(.*):([0-9]+):([0-9]+):' '([0-9]+)' '([A-Za-z]+)(' '([0-9]+))? ]] || return
-  file=${BASH_REMATCH[1]} line=${BASH_REMATCH[2]} column=${BASH_REMATCH[3]} number=${BASH_REMATCH[4]} name=${BASH_REMATCH[5]}
+  file=${BASH_REMATCH[1]} line=${BASH_REMATCH[2]} column=${BASH_REMATCH[3]} number=${BASH_REMATCH[4]} name=${BASH_REMATCH[5]} entry=${BASH_REMATCH[7]}
   if is_empty "$file"; then
     hint "$file is empty"
     return
   fi
   text=$(line_of "$file" "$line")
   there=$(printf %s "$text" | cut -b "$column"-)
-  table=${there#*\"}
+  table=${there#*\"} table=${table%%\"*}
   case $number in
     # a backslash joins lines where a line feed alone is behind it
     10) [ "$there" != \\$'\r' ] || ! hint_return "$file" "$line" || return ;;
-    34) ! hint_return "$file" "$line" || return ;;
-    35) ! hint_mark "${table%%\"*}" && ! hint_return "${table%%\"*}" "${BASH_REMATCH[7]}" || return ;;
+    34) ! hint_return "$file" "$line" && ! hint_tab "$file" "$line" || return ;;
+    35) ! hint_mark "$table" && ! hint_return "$table" "$entry" || return ;;
   esac
   ! hint_swapped "$file" && ! hint_mark "$file" || return
   [ "$file" != "${files[0]}" ] || ! hint_binary "$file" CONF || return
   case $number in
     10 | 20 | 32) hint_there "$text" "$there" "$number" ;;
     31) [ -n "$ifaces" ] || hint '--ifaces FILE gives interfaces their addresses, by lines such as: wm0 192.0.2.1' ;;
+    35) hint_entry "$table" "$entry" "${text:0:${#text}-${#there}}" ;;
     34) hint 'a line has the name of an interface and its addresses, as in: wm0 192.0.2.1 2001:db8::1' ;;
   esac
   hint_page "$number" "$name"
@@ -430,7 +487,7 @@ hint_unread() {
     return
   fi
   texts=("${files[@]}")
-  [ ! -f "${files[1]-}" ] || mapfile -O 2 -t texts < <(sed -nE 's/^[[:blank:]]*reload[[:blank:]]*"(.*)"[[:blank:]]*$/\1/p' "${files[1]}")
+  [ ! -f "${files[1]-}" ] || mapfile -O 2 -t texts < <(reloads_of "${files[1]}")
   for it in "${texts[@]}"; do
     if [ ! -f "$it" ] || [ -n "$(format_of "$it")" ] || ! line=$(grep -nFm 1 -- "\"$file\"" "$it"); then continue; fi
     folder=$(dirname -- "$it")
@@ -532,12 +589,17 @@ hint_line() {
       hint "a name stands there without signs round it: ${words[0]} ${BASH_REMATCH[1]}${words[2]:+ ${words[*]:2}}"
       return
     elif [[ ${words[0]}:${#words[@]} =~ ^(capture:4|reload:2)$ && $text != *\"* ]]; then
-      hint "the name of a file stands between double quotes: ${words[*]:0:${#words[@]}-1} \"${words[-1]}\""
+      # other signs may stand round it
+      near=${words[-1]#[\'\`]}
+      hint "the name of a file stands between double quotes: ${words[*]:0:${#words[@]}-1} \"${near%[\'\`]}\""
       return
     else
       hint "the form is: $form"
       hint 'lines of capture stand before the first phase, and all others behind one'
     fi
+  elif [ "$number" -eq 53 ]; then
+    read -ra words < <(line_of "$file" "$line")
+    hint "table ${words[1]-} is of type ipset, which has single addresses; one of type lpm takes prefixes such as ${words[3]-}, too"
   fi
   hint_page "$number" "$name"
 }
@@ -554,13 +616,13 @@ hint_limit() {
 
 # About a file that can't be read, where nothing is built: FILE, and then the words.
 hint_unread_file() {
-  local said="cannot read $1" command=$2 files ifaces load write wrong
+  local said="cannot read $1" command=$2 files ifaces load write workers spread wrong
   read_words "${@:2}"
   hint_unread
 }
 
 hint_about() {
-  local status=$1 said program=$3 command=${4-} files ifaces load write wrong is_by_editcap=
+  local status=$1 said program=$3 command=${4-} files ifaces load write workers spread wrong is_by_editcap=
   said=$(cat "$2")
   said=${said#npfctl: }
   shift 3

@@ -101,11 +101,11 @@ judge_value() {
   esac
 }
 
-# Sets `files` to the words that are neither the command nor an option nor the value of one, `ifaces`, `load` and `write` to the values of these
-# options, and `wrong` to what makes the words no command, whatever the files hold: the first such thing, or nothing.
+# Sets `files` to the words that are neither the command nor an option nor the value of one, `ifaces`, `load`, `write`, `workers` and `spread` to the
+# values of these options, and `wrong` to what makes the words no command, whatever the files hold: the first such thing, or nothing.
 read_words() {
   local command=$1 names=(CONF) options=(--ifaces) known name value near given=' '
-  files=() ifaces='' load='' write='' wrong=''
+  files=() ifaces='' load='' write='' workers=1 spread=rr wrong=''
   case $command in
     run) names=(CONF SCRIPT) options=("${run_options[@]}") ;;
     gen) names=(NUMBER) options=() ;;
@@ -134,6 +134,8 @@ read_words() {
             --ifaces) ifaces=$value ;;
             --load) load=$value ;;
             --write) write=$value ;;
+            --workers) workers=$value ;;
+            --spread) spread=$value ;;
           esac
         fi
         ;;
@@ -154,7 +156,7 @@ read_words() {
 
 # Whether the words are no command, whatever the files hold.
 are_wrong() {
-  local files ifaces load write wrong
+  local files ifaces load write workers spread wrong
   is_command "${1-}" || return 0
   read_words "$@"
   [ -n "$wrong" ]
@@ -162,7 +164,7 @@ are_wrong() {
 
 # The first file that the words of a command name and that can't be read: it isn't there, may not be read, or is a folder.
 unread_file() {
-  local files ifaces load write wrong it
+  local files ifaces load write workers spread wrong it
   [ "$1" != gen ] || return 0
   read_words "$@"
   for it in "$ifaces" "${files[@]}" "$load"; do
@@ -195,6 +197,7 @@ hint_command() {
     check | test | verify | -n | -f | -nf) other='validate says whether a configuration is accepted, and run what becomes of packets' ;;
     replay | simulate | trace | read | -r) other='run says what becomes of the packets of captures' ;;
     print | dump | rules) other='show prints what a configuration means' ;;
+    diff | compare) other='npfctl(8), EXAMPLES, compares what two configurations do to the same packets' ;;
   esac
   if [ -n "$here" ]; then
     hint "there is no command $word: NetBSD's is for a running kernel, which this program never touches"
@@ -204,7 +207,7 @@ hint_command() {
   elif [ -f "$1" ]; then
     hint "there is no command $word: a command stands before the files, as in npfctl run CONF SCRIPT"
   elif [[ $1 == -* ]]; then
-    hint "there is no command $word: options stand behind the command, as in npfctl run CONF SCRIPT --workers 4"
+    hint "there is no command $word: options stand behind the command, as in npfctl run CONF SCRIPT --ifaces FILE"
   else
     near=$(nearest "$1" run validate show debug gen help version install)
     hint "there is no command $word${near:+; the nearest is $near}"
@@ -214,7 +217,7 @@ hint_command() {
 
 # What is wrong with the words, and what they have to be; where there are none, the help.
 hint_words() {
-  local files ifaces load write wrong
+  local files ifaces load write workers spread wrong
   if [ $# -eq 0 ]; then
     usage >&2
     return
