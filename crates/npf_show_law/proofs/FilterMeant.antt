@@ -1,5 +1,5 @@
 -- What the filters of a configuration without a fault are.
-use Rattle.std.proofs.Common.{◌≡◌, ◌<◌, ◌≤◌, nat_lt, ◌^◌, ℕ, ◌-◌, Bool, true, false, ◌==◌, ◌||◌, if◌then◌else◌, Option, Some, None, IfSome, option_map, List, [], ◌∷◌, ◌++◌}
+use Rattle.std.proofs.Common.{◌≡◌, ◌<◌, ◌≤◌, nat_lt, ◌^◌, ℕ, ◌-◌, Bool, true, false, ◌==◌, ◌||◌, if◌then◌else◌, Option, Some, None, IfSome, List, [], ◌∷◌, ◌++◌}
 use Rattle.std.proofs.{Common.{length, replicate, flat_map, filter_map, refl, sym, subst, ◌∙◌, arith, append-nil, lt_of_lt_of_le}, Math.Seq.take-append_seam}
 use Rattle.std.{proofs.lemmas.{Bool.and_parts, List.Elements.{All-cons, All-head, All-nil, All-tail}, Nat.{or_lt, le_or_l}}, specs.List.{All, list_all}}
 use Rattle.npf_types.specs.{declared.{address.Addr.Addr, span.Span.Span}, Block.block, Name.name_bytes, Named.{named, name_where}, NameText.is_name}
@@ -102,10 +102,10 @@ mask_shown w None is mask = (flags_shown w is, bits_small w.text)
 mask_shown w (Some m) is mask = (flags_shown m mask, bits_small m.text)
 
 -- what is said of protocols
-pub record IsGoodDetail (protos : List ℕ) (flags : Option (ℕ × ℕ)) (icmp : Option (ℕ × Option ℕ)) : Type 0 where
-  pub flags : IfSome flags AreShowableFlags
-  pub icmp : IfSome icmp (λ icmp. FitsByte icmp.0 × IfSome icmp.1 FitsByte)
-  pub one : IsOneDetail protos flags icmp
+pub record IsGoodDetail (protos : List ℕ) (bits : Option (ℕ × ℕ)) (message : Option (ℕ × Option ℕ)) : Type 0 where
+  pub flags : IfSome bits AreShowableFlags
+  pub icmp : IfSome message (λ icmp. FitsByte icmp.0 × IfSome icmp.1 FitsByte)
+  pub one : IsOneDetail protos bits message
 
 -- the type and the code of a message
 module _ (names : Names) (small : (text : List ℕ) (n : ℕ) → number_named names text ≡ Some n → n ≤ 255) where

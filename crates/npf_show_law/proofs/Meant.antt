@@ -1,8 +1,8 @@
 -- What the values, filters and rules of a configuration without a fault mean.
-use Rattle.std.proofs.Common.{◌≡◌, ◌≤◌, ◌<◌, ◌^◌, ℕ, suc, ◌-◌, min, Bool, true, false, not, is_some, ◌||◌, nat_lt, nat_le, if◌then◌else◌, Option, Some, None, unwrap_or, List, []}
+use Rattle.std.proofs.Common.{◌≡◌, ◌≤◌, ◌<◌, ◌^◌, ℕ, suc, ◌-◌, min, Bool, true, false, not, is_some, ◌||◌, nat_lt, Option, Some, None, unwrap_or, List, []}
 use Rattle.std.proofs.Common.{◌∷◌, ◌++◌, length, map, flat_map, filter_map, refl, sym, ap, subst, arith, div-mul-le_self, lt_of_le_of_lt}
-use Rattle.std.proofs.lemmas.{Bool.{and_parts, leb-true, or_parts, Decides.nat_tests}, List.{length-map, Elements.{All-append, All-cons, All-nil}}}
-use Rattle.std.specs.{List.{All, list_any, list_all, cons_option}, Str.bytes_eq}
+use Rattle.std.proofs.lemmas.{Bool.{or_parts, Decides.nat_tests}, List.{length-map, Elements.{All-append, All-cons, All-nil}}}
+use Rattle.std.specs.{List.{All, list_any, cons_option}}
 use Rattle.npf_types.specs.{declared.{address.Addr.{Addr, TheVariants.{V4, V6}}, span.Span.Span}, Address.{width, kept_bits}, Block.block, NameText.is_name}
 use Rattle.npf_shelf.proofs.ListLemmas.{nil_from_append_left, nil_from_append_right}
 use Rattle.npf_faults.specs.{declared.fault.{ConfFault.ConfFault, Fault.TheVariants.{Expected, UnknownService}}, First.fault_if}
