@@ -56,7 +56,7 @@ unfolding map
 map_text ts s n is =
     let parts = is.1.1.second in
     no_tables s _ is.2 (
-      ap (λ (a : IfaceTree × MapRest). tables_of (a.1 a.0 (span_of ts))) is.1.2 ∙ rest_tables parts.other is.1.0.1.1 n parts.second is.1.0.1.0 (span_of ts)
+    ap (λ (a : IfaceTree × MapRest). tables_of (a.1 a.0 (span_of ts))) is.1.2 ∙ rest_tables parts.other is.1.0.1.1 n parts.second is.1.0.1.0 (span_of ts)
     )
 
 group_text : MeansText group
