@@ -1,3 +1,4 @@
 pub mod Cells
+pub mod Due
 pub mod Telling
 pub mod Step

@@ -13,6 +13,7 @@
 #![tactic(auto)]
 
 mod cells;
+mod due;
 mod free;
 mod hints;
 mod hold;

@@ -92,6 +92,14 @@ impl<L: Law, H: KeyHash> Cells<L, H> {
             .load::<SweepsPool<L, H, W>>(&mut pass.seat, place)
     }
 
+    /// A word of a pool, as `load_pool` loads it, of which the pass learns nothing: any number is a hint.
+    pub fn peek_pool(&self, _pass: &CellPass<L>, pool: Pool, word: u32) -> u64
+        requires own { IsPassIn self.now _pass.now }
+        requires word { word < pool_words (pool_places self.now.table.shared.key pool) }
+    {
+        self.table.shared.peek(self.layout.pool_place(pool, word))
+    }
+
     /// Claims a place, unless it is taken. Answers whether it did. A node is then the pass's own. In a slot the pass is then building
     /// its next connection, for the packet n.
     pub fn claim(&self, pass: &mut CellPass<L>, pool: Pool, place: u32, n: u64) -> bool

@@ -5,3 +5,4 @@ pub mod LimitLemmas
 pub mod MapLemmas
 pub mod NameLemmas
 pub mod PairLemmas
+pub mod ParameterLemmas

@@ -7,6 +7,7 @@ pub mod LoneRule
 pub mod Map
 pub mod Name
 pub mod Pair
+pub mod Parameter
 pub mod Port
 pub mod Unbuilt
 pub mod Undefined

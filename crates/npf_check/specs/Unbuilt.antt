@@ -1,9 +1,8 @@
--- 48: what npf.conf(5) has and this project doesn't build. Told at the statement: `set` of anything but `bpf.jit` with `on` or
--- `off`, and a parameter that has an effect with `on`, `off`, `1` or `0`; `alg` of anything but "icmp"; and a map's `algo` of
--- anything but `netmap` and `npt66`, or of a dynamic one. Told at its own word: a group's `layer-2`; `pcap-filter` of a rule or a
--- map; `user` and `group` of a rule; a map's `no-ports`; and a procedure's `route` and "random-id". A map that is the place of
--- dynamic maps is told at its interface.
-use Rattle.std.specs.Prelude.{Bool, true, false, not, ◌&&◌, ◌||◌, if◌then◌else◌, is_some, ℕ, Option, Some, None, List, [], ◌++◌, codes}
+-- 48: what npf.conf(5) has and this project doesn't build. Told at the statement: `set` of a parameter that isn't built or with a
+-- value that isn't; `alg` of anything but "icmp"; and a map's `algo` of anything but `netmap` and `npt66`, or of a dynamic one. Told
+-- at its own word: a group's `layer-2`; `pcap-filter` of a rule or a map; `user` and `group` of a rule; a map's `no-ports`; and a
+-- procedure's `route` and "random-id". A map that is the place of dynamic maps is told at its interface.
+use Rattle.std.specs.Prelude.{Bool, true, not, ◌||◌, is_some, ℕ, Option, Some, None, List, [], ◌++◌, codes}
 use Rattle.std.specs.List.{flat_map}
 use Rattle.std.specs.Str.{bytes_eq}
 use Rattle.npf_faults.specs.declared.fault.ConfFault.{ConfFault}
@@ -18,26 +17,13 @@ use Rattle.npf_syntax.specs.declared.map.MapKind.{MapKind}
 use Rattle.npf_syntax.specs.declared.procedure.Call.{Call}
 use Rattle.npf_syntax.specs.declared.procedure.Opt.{Opt}
 use Rattle.npf_syntax.specs.declared.rule.RuleTree.{RuleTree}
-use Rattle.npf_syntax.specs.declared.stmt.Setting.{Setting}
 use Rattle.npf_syntax.specs.declared.stmt.Stmt.{Stmt}
 use Rattle.npf_syntax.specs.declared.stmt.Tree.{Tree}
 use Rattle.npf_syntax.specs.declared.value.IfaceTree.{IfaceTree}
 use Rattle.npf_syntax.specs.declared.word.Word.{Word}
 use Rattle.npf_faults.specs.First.{fault_at, fault_if}
-use Rattle.npf_model.specs.Settings.{parameter_named, switch_number, switch_word}
-
--- what sets a parameter on or off, by a word, or by a word or a number
-abbrev pub is_switch_word : Setting → Bool
-is_switch_word (Setting.Word word span) = is_some (switch_word word.text)
-is_switch_word (Setting.Number number span) = false
-
-abbrev pub is_switch : Setting → Bool
-is_switch (Setting.Word word span) = is_some (switch_word word.text)
-is_switch (Setting.Number number span) = is_some (switch_number number.value)
-
-abbrev pub is_built_setting : List ℕ → Setting → Bool
-is_built_setting name value =
-    if bytes_eq name (codes "bpf.jit") then is_switch_word value else is_some (parameter_named name) && is_switch value
+use Rattle.npf_model.specs.Settings.{default_settings}
+use Rattle.npf_check.specs.Parameter.{is_built_set, range_faults}
 
 abbrev pub is_built_algo : Option Word → Bool
 is_built_algo None = true
@@ -91,7 +77,7 @@ unbuilt_call (Call.Normalize options span) = flat_map unbuilt_option options
 unbuilt_call (Call.Route span) = fault_at span Unbuilt
 
 abbrev pub unbuilt : Stmt → List ConfFault
-unbuilt (Stmt.Set name value span) = fault_if (not (is_built_setting name.text value)) span Unbuilt
+unbuilt (Stmt.Set name value span) = fault_if (not (is_built_set (Stmt.Set name value span))) span Unbuilt
 unbuilt (Stmt.Alg name span) = fault_if (not (bytes_eq name.text (codes "icmp"))) span Unbuilt
 unbuilt (Stmt.Map iface kind proto left arrow right pass span) = fault_if (not (is_built_kind kind)) span Unbuilt ++ unbuilt_at (no_ports_of kind) ++ unbuilt_in_pass pass
 unbuilt (Stmt.MapRuleset iface span) = fault_at (iface_place iface) Unbuilt
@@ -100,4 +86,4 @@ unbuilt (Stmt.Procedure name calls span) = flat_map unbuilt_call calls
 unbuilt _ = []
 
 abbrev pub unbuilt_faults : Tree → List ConfFault
-unbuilt_faults tree = flat_map unbuilt tree.stmts
+unbuilt_faults tree = flat_map unbuilt tree.stmts ++ range_faults default_settings tree.stmts

@@ -22,10 +22,14 @@ is_table known (Value.Table name span) = true
 is_table known (Value.Var var span) = known var.name
 is_table known _ = false
 
--- a list stands in no side
+-- of lists one of one value stands in a side
+abbrev pub is_only_table : (List ℕ → Bool) → List Value → Bool
+is_only_table known (value ∷ []) = is_table known value
+is_only_table known _ = false
+
 abbrev pub is_one_table : (List ℕ → Bool) → Values → Bool
 is_one_table known (Values.One value span) = is_table known value
-is_one_table known (Values.List list span) = false
+is_one_table known (Values.List list span) = is_only_table known list.values
 
 -- a definition counts until the next one of its name
 abbrev pub with_definition : (List ℕ → Bool) → List ℕ → Values → List ℕ → Bool

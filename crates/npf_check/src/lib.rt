@@ -15,6 +15,7 @@ mod limit;
 mod lone_rule;
 mod map;
 mod name;
+mod parameter;
 mod port;
 mod unbuilt;
 mod undefined;

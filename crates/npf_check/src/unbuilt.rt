@@ -3,22 +3,30 @@ ghost use Rattle.std.specs.Prelude.{◌≡◌, ◌++◌, not};
 ghost use Rattle.std.specs.List.{flat_map};
 ghost use Rattle.npf_faults.specs.First.{fault_if, first_fault};
 ghost use Rattle.npf_faults.specs.declared.fault.Fault.TheVariants.{Unbuilt};
-ghost use Rattle.npf_check.specs.Unbuilt.{is_built_algo, is_built_kind, is_built_setting, is_switch, is_switch_word, iface_place, layer_of, no_ports_of, unbuilt, unbuilt_at, unbuilt_call, unbuilt_faults, unbuilt_in_pass, unbuilt_in_rule, unbuilt_in_where, unbuilt_item, unbuilt_option};
+ghost use Rattle.npf_check.specs.Unbuilt.{is_built_algo, is_built_kind, iface_place, layer_of, no_ports_of, unbuilt, unbuilt_at, unbuilt_call, unbuilt_faults, unbuilt_in_pass, unbuilt_in_rule, unbuilt_in_where, unbuilt_item, unbuilt_option};
 
+use crate::parameter::{is_built_set, range_fault};
 use npf_faults::{ConfFault, Fault, earlier, fault_if};
-use npf_model::{Parameter, switch_number, switch_word};
 use npf_syntax::{
-    Boxed, Call, Filter, GroupHead, IfaceTree, ItemTree, MapKind, Opt, RuleTree, Setting, Stmt,
-    Tree, Where, Word,
+    Boxed, Call, Filter, GroupHead, IfaceTree, ItemTree, MapKind, Opt, RuleTree, Stmt, Tree, Where,
+    Word,
 };
 use npf_types::Span;
 
 /// The first `Unbuilt`.
+#[tactic(auto, using(crate::proofs::FaultLemmas::joined))]
 pub(crate) fn unbuilt_fault(tree: &Tree) -> Option<ConfFault>
     ensures { result ≡ first_fault (unbuilt_faults tree.now) }
 {
+    let stmts = tree.stmts.as_slice();
+    earlier(unbuilt_in_stmts(stmts), range_fault(stmts))
+}
+
+fn unbuilt_in_stmts(stmts: &[Stmt]) -> Option<ConfFault>
+    ensures { result ≡ first_fault (flat_map unbuilt stmts.now) }
+{
     let mut first = None;
-    for stmt in tree.stmts.as_slice() {
+    for stmt in stmts {
         first = earlier(first, unbuilt_stmt(stmt));
     }
     first
@@ -29,8 +37,8 @@ fn unbuilt_stmt(stmt: &Stmt) -> Option<ConfFault>
     ensures { result ≡ first_fault (unbuilt stmt.now) }
 {
     match stmt {
-        Stmt::Set { name, value, span } => {
-            let built = is_built_setting(name.text.as_slice(), value);
+        Stmt::Set { span, .. } => {
+            let built = is_built_set(stmt);
             fault_if(!built, *span, Fault::Unbuilt)
         }
         Stmt::Alg { name, span } => {
@@ -184,33 +192,6 @@ fn unbuilt_option(option: &Opt) -> Option<ConfFault>
     match option {
         Opt::RandomId { span } => fault_if(true, *span, Fault::Unbuilt),
         _ => None,
-    }
-}
-
-fn is_built_setting(name: &[u8], value: &Setting) -> bool
-    ensures { result ≡ is_built_setting name.now value.now }
-{
-    if name == "bpf.jit".as_bytes() {
-        return is_switch_word(value);
-    }
-    Parameter::named(name).is_some() && is_switch(value)
-}
-
-fn is_switch_word(value: &Setting) -> bool
-    ensures { result ≡ is_switch_word value.now }
-{
-    match value {
-        Setting::Word { word, .. } => switch_word(word.text.as_slice()).is_some(),
-        Setting::Number { .. } => false,
-    }
-}
-
-fn is_switch(value: &Setting) -> bool
-    ensures { result ≡ is_switch value.now }
-{
-    match value {
-        Setting::Word { word, .. } => switch_word(word.text.as_slice()).is_some(),
-        Setting::Number { number, .. } => switch_number(number.value).is_some(),
     }
 }
 

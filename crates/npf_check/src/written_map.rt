@@ -2,7 +2,7 @@
 // a block there.
 ghost use Rattle.std.specs.Prelude.{◌≡◌, ◌||◌, OnOk, List, ℕ};
 ghost use Rattle.npf_check.specs.Name.{no_text};
-ghost use Rattle.npf_check.specs.WrittenMap.{is_one_table, is_table, stands_for_table, with_definition};
+ghost use Rattle.npf_check.specs.WrittenMap.{is_one_table, is_only_table, is_table, stands_for_table, with_definition};
 
 use npf_syntax::{Value, Values, Var};
 use npf_types::NoMemory;
@@ -39,7 +39,16 @@ impl<'a> TableVariables<'a> {
     {
         match values {
             Values::One { value, .. } => self.is_table(value),
-            Values::List { .. } => false,
+            Values::List { list, .. } => self.is_only_table(list.values.as_slice()),
+        }
+    }
+
+    fn is_only_table(&self, values: &[Value]) -> bool
+        ensures { result ≡ is_only_table (stands_for_table self.now) values.now }
+    {
+        match values {
+            [value] => self.is_table(value),
+            _ => false,
         }
     }
 

@@ -2,14 +2,14 @@
 use Rattle.std.proofs.Common.{◌≡◌, ◌≤◌, ◌<◌, ◌+◌, ◌^◌, ℕ, suc, Bool, true, false, not, ◌||◌, if◌then◌else◌, min, unwrap_or, Option, Some, None, List}
 use Rattle.std.{proofs.Common.{[], ◌∷◌, ◌++◌, All, length, map, refl, sym, ap, subst, ◌∙◌, append-nil, arith}, specs.{List.{flat_map, list_any}, Str.bytes_eq}}
 use Rattle.std.{specs.Bool.one_answer, proofs.lemmas.{Slice.Eq.bytes_eq-Decides, List.Elements.{All-append, All-cons, All-head, All-map, All-nil, All-tail}}}
-use Rattle.npf_types.specs.{Address.width, Block.block}
+use Rattle.npf_types.specs.{declared.address.Addr.Addr, Address.width, Block.block}
 use Rattle.npf_faults.specs.declared.fault.{ConfFault.ConfFault, Fault.TheVariants.UnknownTable}
 use Rattle.npf_syntax.specs.declared.{filter.{Addresses.Addresses, EndsTree.EndsTree as WrittenEnds, Where.Where}, rule.RuleTree.RuleTree, stmt.Stmt.Stmt}
 use Rattle.npf_syntax.specs.declared.filter.Addresses.TheVariants as Written
 use Rattle.npf_syntax.specs.declared.filter.EndsTree.TheVariants as EndsAre
 use Rattle.npf_syntax.specs.declared.{value.{Value.Value, Values.Values}, word.Number.Number}
 use Rattle.npf_model.specs.{declared.{ends.AddrItem.TheVariants.{Net, InTable}, iface.Iface.Iface}, Verdict.first_where}
-use Rattle.npf_expand_values.specs.Address.{address_items, host_item, items_of}
+use Rattle.npf_expand_values.specs.{Address.{address_items, host_item, items_of}, Host.hosts_of}
 use Rattle.npf_expand_values.specs.Atom.{Atom, NumberAtom, RangeAtom, WordAtom, StringAtom, BlockAtom, TableAtom, AddressesAtom, Binding, Env}
 use Rattle.npf_expand_values.specs.{Declarations.{Declared, no_number, table_names, table_number}, Iface.{addresses_of, iface_name}, Use.atoms_of}
 use Rattle.npf_expand_values.specs.Variable.{Definition, binding_of, defined, definition_faults, env_of, length_of_block, listed_values, number_atom, spliced, unless_refused}
@@ -94,7 +94,7 @@ module _ (names : List (List ℕ)) (is_defined : List ℕ → Bool) (is_among : 
     value_defined env all (Value.Word word span) none = one_atom (WordAtom word.text word.span) tt
     value_defined env all (Value.Str string span) none = one_atom (StringAtom string.text) tt
     value_defined env all (Value.Address address len span) none = one_atom (BlockAtom address.addr (length_of_block len)) tt
-    value_defined env all (Value.Function function iface span) none = one_atom (AddressesAtom (addresses_of ifaces function (iface_name env iface))) tt
+    value_defined env all (Value.Function function iface span) none = one_atom (AddressesAtom (iface_name env iface) (addresses_of ifaces function (iface_name env iface))) tt
 
     values_defined : (env : Env) → NamesDefined env → (values : List Value) → flat_map (table_faults is_defined) values ≡ [] → All IsDefinedAtom (spliced ifaces env values)
     values_defined env all [] none = All-nil IsDefinedAtom
@@ -131,26 +131,30 @@ module _ (names : List (List ℕ)) (is_defined : List ℕ → Bool) (is_among : 
         (kept_defined (definition_faults ifaces env newest.values) (spliced ifaces env (listed_values newest.values)) (listed_defined env before newest.values all.0))
         (before name)
 
-  item_numbers : (atom : Atom) → IsDefinedAtom atom → All HasItemNumber (items_of names atom)
-  item_numbers (TableAtom name) is = All-cons HasItemNumber (InTable (table_number names name)) [] (defined_small name is) (All-nil HasItemNumber)
-  item_numbers (BlockAtom addr len) is = All-cons HasItemNumber (Net (block addr (unwrap_or len (width addr)))) [] tt (All-nil HasItemNumber)
-  item_numbers (AddressesAtom addrs) is = All-map HasItemNumber host_item addrs (λ k d below. tt)
-  item_numbers (NumberAtom _) is = All-nil HasItemNumber
-  item_numbers (RangeAtom _ _) is = All-nil HasItemNumber
-  item_numbers (WordAtom _ _) is = All-nil HasItemNumber
-  item_numbers (StringAtom _) is = All-nil HasItemNumber
+  host_numbers : (addrs : List Addr) → All HasItemNumber (map host_item addrs)
+  host_numbers addrs = All-map HasItemNumber host_item addrs (λ k d below. tt)
 
-  all_numbers : (atoms : List Atom) → All IsDefinedAtom atoms → All HasItemNumber (flat_map (items_of names) atoms)
-  all_numbers [] all = All-nil HasItemNumber
-  all_numbers (atom ∷ atoms) all = All-append HasItemNumber (items_of names atom) (flat_map (items_of names) atoms)
-      (item_numbers atom (All-head IsDefinedAtom atom atoms all)) (all_numbers atoms (All-tail IsDefinedAtom atom atoms all))
+  item_numbers : (ifaces : List Iface) (atom : Atom) → IsDefinedAtom atom → All HasItemNumber (items_of ifaces names atom)
+  item_numbers ifaces (TableAtom name) is = All-cons HasItemNumber (InTable (table_number names name)) [] (defined_small name is) (All-nil HasItemNumber)
+  item_numbers ifaces (BlockAtom addr len) is = All-cons HasItemNumber (Net (block addr (unwrap_or len (width addr)))) [] tt (All-nil HasItemNumber)
+  item_numbers ifaces (AddressesAtom _ addrs) is = host_numbers addrs
+  item_numbers ifaces (NumberAtom _) is = All-nil HasItemNumber
+  item_numbers ifaces (RangeAtom _ _) is = All-nil HasItemNumber
+  item_numbers ifaces (WordAtom text span) is = host_numbers (hosts_of ifaces (WordAtom text span))
+  item_numbers ifaces (StringAtom text) is = host_numbers (hosts_of ifaces (StringAtom text))
+
+  all_numbers : (ifaces : List Iface) (atoms : List Atom) → All IsDefinedAtom atoms → All HasItemNumber (flat_map (items_of ifaces names) atoms)
+  all_numbers ifaces [] all = All-nil HasItemNumber
+  all_numbers ifaces (atom ∷ atoms) all = All-append HasItemNumber (items_of ifaces names atom) (flat_map (items_of ifaces names) atoms)
+      (item_numbers ifaces atom (All-head IsDefinedAtom atom atoms all)) (all_numbers ifaces atoms (All-tail IsDefinedAtom atom atoms all))
 
   module _ (ifaces : List Iface) (env : Env) (all : NamesDefined env) where
     addresses_numbers : (addresses : Addresses) → tables_of_addresses is_defined addresses ≡ [] → HasItemNumbers (address_items ifaces env names addresses)
     addresses_numbers (Written.Any span) none = tt
-    addresses_numbers (Written.Excluded values span) none = all_numbers (spliced ifaces env (listed_values values)) (listed_defined ifaces env all values none)
-    addresses_numbers (Written.One value span) none = all_numbers (spliced ifaces env (value ∷ [])) (values_defined ifaces env all (value ∷ []) (append-nil (table_faults is_defined value) ∙ none))
-    addresses_numbers (Written.List list span) none = all_numbers (spliced ifaces env list.values) (values_defined ifaces env all list.values none)
+    addresses_numbers (Written.Excluded values span) none = all_numbers ifaces (spliced ifaces env (listed_values values)) (listed_defined ifaces env all values none)
+    addresses_numbers (Written.One value span) none =
+        all_numbers ifaces (spliced ifaces env (value ∷ [])) (values_defined ifaces env all (value ∷ []) (append-nil (table_faults is_defined value) ∙ none))
+    addresses_numbers (Written.List list span) none = all_numbers ifaces (spliced ifaces env list.values) (values_defined ifaces env all list.values none)
 
     ends_numbers : (ends : Option WrittenEnds) → tables_of_target is_defined ends ≡ [] → HasItemNumbers ((ends_of_written ifaces env names ends).addrs)
     ends_numbers None none = tt

@@ -7,7 +7,7 @@ use Rattle.npf_syntax.specs.declared.{filter.{Addresses.Addresses, EndsTree.Ends
 use Rattle.npf_syntax.specs.declared.filter.Addresses.TheVariants as Written
 use Rattle.npf_syntax.specs.declared.filter.EndsTree.TheVariants as EndsAre
 use Rattle.npf_model.specs.{declared.{ends.AddrItem.AddrItem, iface.Iface.Iface, rule.Rule.Rule}, Verdict.first_where}
-use Rattle.npf_expand_values.specs.{Address.{address_items, host_item, items_of}, Atom.Env, Declarations.{no_number, table_number}}
+use Rattle.npf_expand_values.specs.{Address.{address_items, host_item, items_of}, Atom.{Atom, WordAtom, StringAtom, Env}, Host.hosts_of, Declarations.{no_number, table_number}}
 use Rattle.npf_expand_values.specs.{Iface.{addresses_of, iface_name}, Variable.{env_of, spliced}}
 use Rattle.npf_expand.{specs.Rule.{destination_ends, ends_of_written, source_ends}, proofs.ElementLemmas.untold}
 use Rattle.npf_check.specs.LoneRule.{number_of_none, table_numbers, table_places, unknown_among, unknown_in_addresses, unknown_in_ends, unknown_in_target, unknown_in_where, unknown_table}
@@ -55,22 +55,30 @@ module _ (names : List (List ℕ)) (ifaces : List Iface) where
   abbrev alone : Env
   alone = env_of ifaces []
 
-  values_named : (values : List Value) → unknown_among values (flat_map (items_of names) (spliced ifaces alone values)) ≡ [] → flat_map (table_faults (is_among names)) values ≡ []
+  -- no interface that is named is a table
+  hosts_skipped : (atom : Atom) (values : List Value) → unknown_among values (map host_item (hosts_of ifaces atom) ++ flat_map (items_of ifaces names) (spliced ifaces alone values)) ≡ []
+      → (unknown_among values (flat_map (items_of ifaces names) (spliced ifaces alone values)) ≡ [] → flat_map (table_faults (is_among names)) values ≡ [])
+      → flat_map (table_faults (is_among names)) values ≡ []
+  hosts_skipped atom values none later =
+      let skipped = hosts_have_none (hosts_of ifaces atom) (flat_map (items_of ifaces names) (spliced ifaces alone values)) in
+      later (ap (λ numbers. flat_map unknown_table (zip (table_places values) numbers)) (sym skipped) ∙ none)
+
+  values_named : (values : List Value) → unknown_among values (flat_map (items_of ifaces names) (spliced ifaces alone values)) ≡ [] → flat_map (table_faults (is_among names)) values ≡ []
   values_named [] none = refl
   values_named (Value.Table name span ∷ values) none =
       let number = table_number names name.text in
       let here = unknown_table (span, number) in
-      let rest = unknown_among values (flat_map (items_of names) (spliced ifaces alone values)) in
+      let rest = unknown_among values (flat_map (items_of ifaces names) (spliced ifaces alone values)) in
       let there = numbered names name.text (is_among names name.text) refl (untold (number == number_of_none) span UnknownTable (front here rest none)) in
       ap (λ is. fault_if (not is) span UnknownTable ++ flat_map (table_faults (is_among names)) values) there ∙ values_named values (back here rest none)
   values_named (Value.Function function iface span ∷ values) none =
-      let items = flat_map (items_of names) (spliced ifaces alone values) in
+      let items = flat_map (items_of ifaces names) (spliced ifaces alone values) in
       let skipped = hosts_have_none (addresses_of ifaces function (iface_name alone iface)) items in
       values_named values (ap (λ numbers. flat_map unknown_table (zip (table_places values) numbers)) (sym skipped) ∙ none)
   values_named (Value.Number first None span ∷ values) none = values_named values none
   values_named (Value.Number first (Some last) span ∷ values) none = values_named values none
-  values_named (Value.Word word span ∷ values) none = values_named values none
-  values_named (Value.Str string span ∷ values) none = values_named values none
+  values_named (Value.Word word span ∷ values) none = hosts_skipped (WordAtom word.text word.span) values none (values_named values)
+  values_named (Value.Str string span ∷ values) none = hosts_skipped (StringAtom string.text) values none (values_named values)
   values_named (Value.Var var span ∷ values) none = values_named values none
   values_named (Value.Address address len span ∷ values) none = values_named values none
 

@@ -1,7 +1,7 @@
 -- What a collection has done of the slots that it visited.
-use Rattle.std.specs.{List.Contains, Prelude.is_some}
-use Rattle.std.proofs.Common.{◌≡◌, ◌≢◌, ℕ, ◌+◌, ◌≤◌, ◌<◌, false, Option, Some, None, List, [], ◌∷◌, ◌++◌, length, append-nil, refl, sym, ap, ◌∙◌, subst, ⊎_elim, inl, inr, arith}
-use Rattle.std.proofs.lemmas.{Bool.{cases_eq, cases_lt}, List.{map-append, Elements.Contains-append_left}}
+use Rattle.std.specs.List.{Contains}
+use Rattle.std.proofs.Common.{◌≡◌, ◌≢◌, ◌⊎◌, ℕ, ◌+◌, ◌≤◌, ◌<◌, Option, Some, None, List, [], ◌∷◌, ◌++◌, length, append-nil, refl, sym, ap, ◌∙◌, subst, ⊎_elim, inl, inr, arith}
+use Rattle.std.proofs.lemmas.{Bool.{cases_eq}, List.{map-append, Elements.Contains-append_left}}
 use Rattle.atomic_table.specs.Table.{Me}
 use Rattle.npf_core.specs.declared.{act.Act.TheVariants.Free, conn_id.ConnId.ConnId, entry.Entry.Entry, reply.Reply.TheVariants.Nothing, slot.Slot.Slot}
 use Rattle.npf_core.specs.{declared.stage.Stage.TheVariants.{Dead, Vacant}, History.{IsPrefix, Legal, state_of}, Meaning.Meaning}
@@ -14,11 +14,6 @@ use Rattle.npf_conndb.{specs.{Between.{IsBetweenCalls, StaysBetween}, Frees.{Col
 use Rattle.npf_pool.specs.Takes.{HasSeenMore}
 use Rattle.npf_conndb.proofs.{PassLemmas.{hands, goes_between, goes_further, adds_nothing, adds_none, begins}, SeenLemmas.seen_stays, VisitLemmas.stays_more}
 use Rattle.npf_conndb.proofs.WithinLemmas.{dead_within}
-
--- what isn't something is none
-pub none_freed : (freed : Option ConnId) → is_some freed ≡ false → freed ≡ None
-none_freed None e = refl
-none_freed (Some id) e = absurd cc
 
 -- who isn't worn now wasn't before
 was_unworn : {S A R : Type 0} (m : Meaning S A R) (old now : CellView S A R) → StaysBetween m old now →
@@ -40,7 +35,7 @@ module _ {S A R : Type 0} (m : Meaning S A R) (epoch : ℕ) (old : Me (Running S
   -- nothing yet
   pub collected_none : (now : Me (Running S) (CellView S A R)) → IsPass m (cell_pass old.0) → IsBetweenCalls m old.0 → old.0.epochs.pin ≡ Idle →
       now ≡ with_epochs old now.0.epochs → now.0.epochs.pin ≡ Idle → now.0.epochs.loaded ≡ epoch → now.0.epochs.greatest ≡ epoch → old.0.epochs.greatest ≤ epoch → epoch ≤ last_epoch →
-      (length old.0.seats.readers ≡ all_places → epoch ≢ last_epoch → old.0.pools.dated + 2 ≤ epoch) → HasCollected m epoch 0 old now
+      (length old.0.seats.readers ≡ all_places → epoch ≢ last_epoch → old.0.pools.dated + 2 ≤ epoch) → HasCollected m epoch (λ p. ⊥) old now
   collected_none now legal between out same idle loaded greatest goes most later = record {
     ids = [];
     adds = adds_none (cell_pass old.0) now.0.seats.history (adds_nothing (cell_pass old.0) now.0.seats.history history);
@@ -55,7 +50,7 @@ module _ {S A R : Type 0} (m : Meaning S A R) (epoch : ℕ) (old : Me (Running S
     loaded = loaded;
     dated = ap (λ (y : Me (Running S) (CellView S A R)). y.0.pools.dated) same;
     later = λ all unworn. later all (λ e. unworn (inl (greatest ∙ e)));
-    clean = λ all unworn p h. absurd (omega (arith, h));
+    clean = λ all unworn p none. absurd none;
   }
     where
       history : now.0.seats.history ≡ old.0.seats.history
@@ -90,7 +85,8 @@ module _ {S A R : Type 0} (m : Meaning S A R) (epoch : ℕ) (old : Me (Running S
       ))
 
   -- the pass has seen more, while nothing was freed
-  module _ (slot : ℕ) (now next : Me (Running S) (CellView S A R)) (so : HasCollected m epoch slot old now) (none : Adds (cell_pass old.0) now.0.seats.history []) (sees : HasSeenMore m now next) where
+  module _ (Done : ℕ → Type 0) (now next : Me (Running S) (CellView S A R)) (so : HasCollected m epoch Done old now)
+      (none : Adds (cell_pass old.0) now.0.seats.history []) (sees : HasSeenMore m now next) where
     seen : StaysBetween m now.0 next.0
     seen = seen_stays m now next sees so.stays.legal so.stays.between
 
@@ -110,7 +106,7 @@ module _ {S A R : Type 0} (m : Meaning S A R) (epoch : ℕ) (old : Me (Running S
         (ap (λ (y : Me (Running S) (CellView S A R)). length y.0.seats.readers) sees.is ∙ (ap (λ (p : Pass (Entry S A R)). p.places) begun ∙ all))
         (ap (λ (y : Me (Running S) (CellView S A R)). y.0.seats.number) sees.is) (ap (λ (y : Me (Running S) (CellView S A R)). y.0.seats.joined) sees.is) sees.adds ∙ append-nil now.0.seats.history
 
-    pub collected_seen : HasCollected m epoch slot old next
+    pub collected_seen : HasCollected m epoch Done old next
     collected_seen = record {
       ids = [];
       adds = adds_none (cell_pass old.0) next.0.seats.history sees_none;
@@ -122,20 +118,22 @@ module _ {S A R : Type 0} (m : Meaning S A R) (epoch : ℕ) (old : Me (Running S
     }
 
   -- more slots, in which nobody stands
-  pub collected_vacant : (i j : ℕ) (now : Me (Running S) (CellView S A R)) → HasCollected m epoch i old now →
-      ((p : ℕ) → i ≤ p → p < j → ((state_of m now.0.seats.history).slot p).stage ≡ Vacant) → HasCollected m epoch j old now
-  collected_vacant i j now so vacant = record {
+  pub collected_vacant : (Done More : ℕ → Type 0) (now : Me (Running S) (CellView S A R)) → HasCollected m epoch Done old now →
+      ((p : ℕ) → More p → Done p ⊎ (((state_of m now.0.seats.history).slot p).stage ≡ Vacant)) → HasCollected m epoch More old now
+  collected_vacant Done More now so either = record {
     ids = so.ids;
     adds = so.adds;
     stays = so.stays;
     loaded = so.loaded;
     dated = so.dated;
     later = so.later;
-    clean = λ all unworn p h. ⊎_elim (λ (below : p < i). so.clean all unworn p below) (λ (past : i ≤ p) dead. let no : Vacant ≡ Dead = sym (vacant p past h) ∙ dead in cc) (cases_lt p i);
+    clean = λ all unworn p h. ⊎_elim (λ was. so.clean all unworn p was)
+        (λ (vacant : ((state_of m now.0.seats.history).slot p).stage ≡ Vacant) dead. let no : Vacant ≡ Dead = sym vacant ∙ dead in cc) (either p h);
   }
 
   -- one slot more
-  module _ (slot : ℕ) (freed : Option ConnId) (now next : Me (Running S) (CellView S A R)) (so : HasCollected m epoch slot old now) (more : CollectsSlot m slot freed now next) where
+  module _ (Done More : ℕ → Type 0) (slot : ℕ) (either : (p : ℕ) → More p → Done p ⊎ (p ≡ slot)) (freed : Option ConnId)
+      (now next : Me (Running S) (CellView S A R)) (so : HasCollected m epoch Done old now) (more : CollectsSlot m slot freed now next) where
     shown : cell_pass now.0 ≡ record (cell_pass old.0) { history = now.0.seats.history; epoch = now.0.epochs.greatest }
     shown = so.stays.goes.view
 
@@ -145,11 +143,12 @@ module _ {S A R : Type 0} (m : Meaning S A R) (epoch : ℕ) (old : Me (Running S
     still : ¬ IsWorn (cell_pass next.0) → ¬ IsWorn (cell_pass now.0)
     still = was_unworn m now.0 next.0 more.stays (record { rest = more.adds.adds.rest; goes_on = more.adds.adds.goes_on })
 
-    clean_more : length old.0.seats.readers ≡ all_places → ¬ IsWorn (cell_pass next.0) → (p : ℕ) → p < slot + 1 → ((state_of m next.0.seats.history).slot p).stage ≢ Dead
+    clean_more : length old.0.seats.readers ≡ all_places → ¬ IsWorn (cell_pass next.0) → (p : ℕ) → More p → ((state_of m next.0.seats.history).slot p).stage ≢ Dead
     clean_more all unworn p h = ⊎_elim
         (λ (e : p ≡ slot). subst (λ q. ((state_of m next.0.seats.history).slot q).stage ≢ Dead) (sym e)
         (more.clean (all_now all) (still unworn) (let later = so.later all (still unworn) in let dated = so.dated in let loaded = so.loaded in omega (arith, later, dated, loaded))))
-        (λ (ne : p ≢ slot) dead. so.clean all (still unworn) p (omega (arith, h, ne)) (ap (λ (x : Slot S). x.stage) (sym (more.others (all_now all) p ne)) ∙ dead))
+        (λ (ne : p ≢ slot) dead. so.clean all (still unworn) p (⊎_elim (λ was. was) (λ is. absurd (ne is)) (either p h))
+        (ap (λ (x : Slot S). x.stage) (sym (more.others (all_now all) p ne)) ∙ dead))
         (cases_eq p slot)
 
     entries_same : (ids : List ConnId) → free_entries (cell_pass now.0) ids ≡ free_entries (cell_pass old.0) ids
@@ -167,7 +166,7 @@ module _ {S A R : Type 0} (m : Meaning S A R) (epoch : ℕ) (old : Me (Running S
           (subst (AddsOwn (cell_pass now.0) next.0.seats.history) (entries_same (id ∷ [])) adds)),
     )
 
-    pub collected_more : HasCollected m epoch (slot + 1) old next
+    pub collected_more : HasCollected m epoch More old next
     collected_more =
         let both = adds_both freed more.adds more.same in
         record {
@@ -185,30 +184,14 @@ module _ {S A R : Type 0} (m : Meaning S A R) (epoch : ℕ) (old : Me (Running S
           clean = clean_more;
         }
 
-  -- nothing was freed in it either
-  pub collected_still : (slot : ℕ) (freed : Option ConnId) (now next : Me (Running S) (CellView S A R)) → CollectsSlot m slot freed now next →
-      freed ≡ None → Adds (cell_pass old.0) now.0.seats.history [] → Adds (cell_pass old.0) next.0.seats.history []
-  collected_still slot freed now next more is none = subst (λ h. Adds (cell_pass old.0) h []) (sym (more.same is)) none
-
-  -- of more slots, and so of fewer
-  pub collected_below : (i j : ℕ) (now : Me (Running S) (CellView S A R)) → j ≤ i → HasCollected m epoch i old now → HasCollected m epoch j old now
-  collected_below i j now fewer so = record {
-    ids = so.ids;
-    adds = so.adds;
-    stays = so.stays;
-    loaded = so.loaded;
-    dated = so.dated;
-    later = so.later;
-    clean = λ all unworn p h. so.clean all unworn p (omega (arith, h, fewer));
-  }
-
   -- each slot: no connection is Dead
-  pub collected_all : (slots i : ℕ) (now : Me (Running S) (CellView S A R)) → HasCollected m epoch i old now → now.0.seats.about ≡ slots → slots ≤ i → IsClean m (cell_pass now.0)
-  collected_all slots i now so sized past all unworn id dead =
+  pub collected_all : (Done : ℕ → Type 0) (slots : ℕ) (now : Me (Running S) (CellView S A R)) → HasCollected m epoch Done old now → now.0.seats.about ≡ slots →
+      ((p : ℕ) → p < slots → Done p) → IsClean m (cell_pass now.0)
+  collected_all Done slots now so sized each all unworn id dead =
       let legal = subst (λ n. Legal m n now.0.seats.history) sized so.stays.legal.legal in
       let within = dead_within m slots now.0.seats.history id legal dead in
       so.clean (ap (λ (p : Pass (Entry S A R)). p.places) (sym so.stays.goes.view) ∙ all) unworn id.slot
-      (omega (arith, within, past)) (dead_at ((state_of m now.0.seats.history).slot id.slot) id.inc dead).1
+      (each id.slot within) (dead_at ((state_of m now.0.seats.history).slot id.slot) id.inc dead).1
 
 -- Once the slots are done the pass sees no more: what was clean stays so.
 module _ {S A R : Type 0} (m : Meaning S A R) (old now : CellView S A R) (stays : StaysBetween m old now) (seats : now.seats ≡ old.seats) where

@@ -178,4 +178,4 @@ module _ {S A R : Type 0} (m : Meaning S A R) (slot time : ℕ) (old now : Me (R
   }
 
   pub left_idle : ExpiresIn m time (λ s. s ≡ slot) 0 (cell_pass old.0) (cell_pass now.0)
-  left_idle = expires_idle m time slot (cell_pass old.0) (cell_pass now.0) leaves.adds leaves.idle
+  left_idle = expires_idle m time (λ s. s ≡ slot) (cell_pass old.0) (cell_pass now.0) leaves.adds leaves.idle

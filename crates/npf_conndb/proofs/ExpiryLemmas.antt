@@ -82,7 +82,7 @@ module _ {S A R : Type 0} (m : Meaning S A R) (time : ℕ) (old mid now : Pass (
       goes_none : (id : ConnId) (way : Way) → IsOver (state_of m mid.history) id → HoldsNone (state_of m mid.history) id way → HoldsNone (state_of m now.history) id way
       goes_none id way over none = subst (λ k. HoldsNone k id way) (sym state) (over_none m now.slots (state_of m mid.history) then.adds.rest id way legal (over_life _ id over) none)
 
--- what was expired in some slots was in fewer, and in more where none is Live that was Live before
+-- what was expired in some slots was in fewer
 pub expires_fewer : {S A R : Type 0} (m : Meaning S A R) (time : ℕ) (old now : Pass (Entry S A R)) (Slots Fewer : ℕ → Type 0) (count : ℕ) →
     ((slot : ℕ) → Fewer slot → Slots slot) → ExpiresIn m time Slots count old now → ExpiresIn m time Fewer count old now
 expires_fewer m time old now Slots Fewer count fewer so = record {
@@ -94,22 +94,11 @@ expires_fewer m time old now Slots Fewer count fewer so = record {
   left = λ id there live. so.left id (fewer id.slot there) live;
 }
 
-pub expires_wider : {S A R : Type 0} (m : Meaning S A R) (time : ℕ) (old now : Pass (Entry S A R)) (Slots More : ℕ → Type 0) (count : ℕ) → ExpiresIn m time Slots count old now →
-    ((id : ConnId) → More id.slot → WasNotDue m old.history now.history id time) → ExpiresIn m time (λ slot. Slots slot ⊎ More slot) count old now
-expires_wider m time old now Slots More count so idle = record {
-  killed = so.killed;
-  adds = so.adds;
-  counted = so.counted;
-  over = so.over;
-  gave_up = so.gave_up;
-  left = λ id there live. ⊎_elim (λ in_first. so.left id in_first live) (λ in_more. inr (idle id in_more)) there;
-}
-
--- a pass that adds nothing expires nothing, where none is due in a slot
-pub expires_idle : {S A R : Type 0} (m : Meaning S A R) (time slot : ℕ) (old now : Pass (Entry S A R)) → Adds old now.history [] →
-    ((id : ConnId) → id.slot ≡ slot → ¬ IsDue m time (stage_of (state_of m now.history) id)) →
-    ExpiresIn m time (λ s. s ≡ slot) 0 old now
-expires_idle m time slot old now adds idle = record {
+-- a pass that adds nothing expires nothing, where none is due in some slots
+pub expires_idle : {S A R : Type 0} (m : Meaning S A R) (time : ℕ) (Slots : ℕ → Type 0) (old now : Pass (Entry S A R)) → Adds old now.history [] →
+    ((id : ConnId) → Slots id.slot → ¬ IsDue m time (stage_of (state_of m now.history) id)) →
+    ExpiresIn m time Slots 0 old now
+expires_idle m time Slots old now adds idle = record {
   killed = [];
   adds = adds;
   counted = refl;

@@ -1,5 +1,5 @@
 -- A pass that loads a word of the slots sees which are claimed.
-use Rattle.std.proofs.Common.{◌≡◌, ◌⊎◌, ℕ, ◌+◌, [], refl, sym, ap, ◌∙◌, subst, inr, arith}
+use Rattle.std.proofs.Common.{◌≡◌, ◌⊎◌, ◌≤◌, ◌<◌, ℕ, ◌+◌, [], refl, sym, ap, ◌∙◌, subst, inr, arith}
 use Rattle.atomic_table.specs.Table.{Me}
 use Rattle.npf_shelf.proofs.ListLemmas.{Contains-nil}
 use Rattle.npf_core.specs.{declared.{entry.Entry.Entry, stage.Stage.{Stage, TheVariants.{Vacant, Building, Live, Dead}}}, Allowed.IsDue, History.state_of}
@@ -39,10 +39,11 @@ module _ {S A R F : Type 0} (m : Meaning S A R) (old now : Me F (CellView S A R)
     pin = ap (λ (y : Me F (CellView S A R)). y.0.epochs.pin) sees.is;
   }
 
-  -- none was due in a vacant slot
-  pub vacant_expires : (time slot : ℕ) → ((state_of m now.0.seats.history).slot slot).stage ≡ Vacant → ExpiresIn m time (λ s. s ≡ slot) 0 (cell_pass old.0) (cell_pass now.0)
-  vacant_expires time slot vacant = expires_idle m time slot (cell_pass old.0) (cell_pass now.0) sees.adds
-      (λ id there. subst (λ (x : Stage S). ¬ IsDue m time x) (sym (vacant_of (state_of m now.0.seats.history) id slot there vacant)) (λ due. due))
+  -- none was due in vacant slots
+  pub vacant_expires : (time from to : ℕ) → ((p : ℕ) → from ≤ p → p < to → ((state_of m now.0.seats.history).slot p).stage ≡ Vacant) →
+      ExpiresIn m time (λ s. (from ≤ s) × (s < to)) 0 (cell_pass old.0) (cell_pass now.0)
+  vacant_expires time from to vacant = expires_idle m time (λ s. (from ≤ s) × (s < to)) (cell_pass old.0) (cell_pass now.0) sees.adds
+      (λ id there. subst (λ (x : Stage S). ¬ IsDue m time x) (sym (vacant_of (state_of m now.0.seats.history) id id.slot refl (vacant id.slot there.0 there.1))) (λ due. due))
 
   -- and what is expired after it is expired since before it
   pub seen_expires : (time slot count : ℕ) (next : CellView S A R) → StaysBetween m now.0 next → ExpiresIn m time (λ s. s ≡ slot) count (cell_pass now.0) (cell_pass next) →

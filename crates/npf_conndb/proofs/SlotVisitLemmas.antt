@@ -1,20 +1,18 @@
 -- What a collection has made of each slot so far.
-use Rattle.std.specs.List.{Contains}
-use Rattle.std.proofs.Common.{◌≡◌, ◌≢◌, ℕ, ◌+◌, ◌≤◌, ◌<◌, Option, Some, None, List, [], ◌∷◌, ◌++◌, refl, sym, ap, ◌∙◌, subst, ⊎_elim, arith}
-use Rattle.std.proofs.lemmas.{Bool.{cases_eq, cases_lt}, List.{map-append, Elements.{Contains-append_left, Contains-append_right, Contains-push}}}
+use Rattle.std.proofs.Common.{◌≡◌, ◌≢◌, ◌⊎◌, ℕ, ◌≤◌, Option, Some, None, List, [], ◌∷◌, ◌++◌, refl, sym, ap, ◌∙◌, subst, ⊎_elim, arith}
+use Rattle.std.proofs.lemmas.{Bool.{cases_eq}, List.{map-append, Elements.{Contains-append_left, Contains-append_right, Contains-push}}}
 use Rattle.atomic_table.specs.Table.{Me}
 use Rattle.npf_types.specs.declared.key.Key.{Key}
-use Rattle.npf_core.specs.declared.{act.Act.TheVariants.Free, conn_id.ConnId.ConnId, entry.Entry.Entry, reply.Reply.TheVariants.Nothing}
+use Rattle.npf_core.specs.declared.{act.Act.TheVariants.Free, conn_id.ConnId.ConnId, reply.Reply.TheVariants.Nothing}
 use Rattle.npf_core.specs.{declared.stage.Stage.TheVariants.Vacant, History.{IsPrefix, state_of}, Meaning.Meaning}
 use Rattle.npf_core.proofs.HistoryLemmas.{IsPrefix-self, IsPrefix-trans}
-use Rattle.npf_connections.{specs.{Adding.Adds, Entries.{entry_of, free_entries}, Pass.Pass}, proofs.AddLemmas.adds_more}
+use Rattle.npf_connections.{specs.{Adding.Adds, Entries.{entry_of, free_entries}}, proofs.AddLemmas.adds_more}
 use Rattle.npf_cells_words.specs.{declared.layout.{Layout.Layout, Pool.TheVariants.Slots}, Layout.{notes_field, field_at}}
-use Rattle.npf_cells_pins.specs.declared.pin.EpochSide.{EpochSide}
 use Rattle.npf_cells_lives.specs.Turns.{Running}
 use Rattle.npf_cells_rule.specs.{declared.view.CellView.CellView, Passes.cell_pass, Stood.StoodSo}
-use Rattle.npf_turn.specs.Reclaims.{IsLongLeft, WhyLeft, HasReclaimed, LeavesSlot}
+use Rattle.npf_turn.specs.Reclaims.{IsLongLeft, WhyLeft, HasReclaimed}
 use Rattle.npf_conndb.specs.Frees.{freed_ids}
-use Rattle.npf_conndb.specs.SlotVisit.{having_freed, WhyNotFreed, was_vacant, was_noted, was_tried, IsOnTheWay, IsVisited, was_freed, was_left, VisitsSlots, HasVisited, TriesSlot}
+use Rattle.npf_conndb.specs.SlotVisit.{having_freed, was_vacant, was_noted, was_tried, IsOnTheWay, IsVisited, was_freed, was_left, VisitsSlots, HasVisited, TriesSlot}
 use Rattle.npf_conndb.proofs.PassLemmas.{adds_nothing, begins}
 
 module _ {S A R : Type 0} (m : Meaning S A R) (digest : Key → ℕ) (layout : Layout) where
@@ -42,7 +40,7 @@ module _ {S A R : Type 0} (m : Meaning S A R) (digest : Key → ℕ) (layout : L
   module _ (old : CellView S A R) where
     -- nothing yet
     pub visited_none : (now : CellView S A R) → now ≡ record old { epochs = now.epochs } → old.epochs.greatest ≤ now.epochs.loaded →
-        now.epochs.loaded ≤ now.epochs.greatest → HasVisited m digest layout 0 old now
+        now.epochs.loaded ≤ now.epochs.greatest → HasVisited m digest layout (λ p. ⊥) old now
     visited_none now same from reached = record {
       visits = record {
         epochs = now.epochs;
@@ -50,7 +48,7 @@ module _ {S A R : Type 0} (m : Meaning S A R) (digest : Key → ℕ) (layout : L
         reached = reached;
         ids = [];
         adds = adds_nothing (cell_pass old) now.seats.history history;
-        each = λ slot h. absurd (omega (arith, h));
+        each = λ slot none. absurd none;
       };
       is = same ∙ (λ i. record old { seats = record old.seats { history = sym history i }; epochs = now.epochs; pools = record old.pools { found = sym found i } });
     }
@@ -62,7 +60,7 @@ module _ {S A R : Type 0} (m : Meaning S A R) (digest : Key → ℕ) (layout : L
         found = ap (λ (v : CellView S A R). v.pools.found) same
 
     -- the pass has seen more, and freed these meanwhile
-    module _ (i : ℕ) (now next : CellView S A R) (so : HasVisited m digest layout i old now) (goes : next ≡ having_freed now now.epochs next)
+    module _ (Done : ℕ → Type 0) (now next : CellView S A R) (so : HasVisited m digest layout Done old now) (goes : next ≡ having_freed now now.epochs next)
         (more : List ConnId) (adds : Adds (cell_pass now) next.seats.history (free_entries (cell_pass now) more)) where
       on : next ≡ having_freed old so.visits.epochs next
       on = goes ∙ ap (λ (v : CellView S A R). having_freed v v.epochs next) so.is
@@ -94,7 +92,7 @@ module _ {S A R : Type 0} (m : Meaning S A R) (digest : Key → ℕ) (layout : L
             turnless = way.turnless;
           }) why
 
-      pub visited_seen : HasVisited m digest layout i old next
+      pub visited_seen : HasVisited m digest layout Done old next
       visited_seen = record {
         visits = record {
           epochs = so.visits.epochs;
@@ -108,76 +106,65 @@ module _ {S A R : Type 0} (m : Meaning S A R) (digest : Key → ℕ) (layout : L
       }
 
     -- as the pass is it is on its way
-    here : (i : ℕ) (now next : CellView S A R) (so : HasVisited m digest layout i old now) → old.turn ≡ None → IsPrefix now.seats.history next.seats.history → IsOnTheWay old next so.visits.epochs now
-    here i now next so turnless seen = record { freed = so.visits.ids; adds = so.visits.adds; seen = seen; is = so.is; turnless = ap (λ (v : CellView S A R). v.turn) so.is ∙ turnless }
+    here : (Done : ℕ → Type 0) (now next : CellView S A R) (so : HasVisited m digest layout Done old now) →
+        old.turn ≡ None → IsPrefix now.seats.history next.seats.history → IsOnTheWay old next so.visits.epochs now
+    here Done now next so turnless seen = record { freed = so.visits.ids; adds = so.visits.adds; seen = seen; is = so.is; turnless = ap (λ (v : CellView S A R). v.turn) so.is ∙ turnless }
 
     -- slots that nobody has claimed
-    pub visited_vacant : (i j : ℕ) (now : CellView S A R) → HasVisited m digest layout i old now → old.turn ≡ None →
-        ((p : ℕ) → i ≤ p → p < j → ((state_of m now.seats.history).slot p).stage ≡ Vacant) → HasVisited m digest layout j old now
-    visited_vacant i j now so turnless vacant = record {
+    pub visited_vacant : (Done More : ℕ → Type 0) (now : CellView S A R) → HasVisited m digest layout Done old now → old.turn ≡ None →
+        ((p : ℕ) → More p → Done p ⊎ (((state_of m now.seats.history).slot p).stage ≡ Vacant)) → HasVisited m digest layout More old now
+    visited_vacant Done More now so turnless either = record {
       visits = record {
         epochs = so.visits.epochs;
         from = so.visits.from;
         reached = so.visits.reached;
         ids = so.visits.ids;
         adds = so.visits.adds;
-        each = λ slot h. ⊎_elim (λ (below : slot < i). so.visits.each slot below) (λ (past : i ≤ slot).
-            was_left now (here i now now so turnless (IsPrefix-self now.seats.history)) (was_vacant (vacant slot past h))) (cases_lt slot i);
+        each = λ slot h. ⊎_elim (λ was. so.visits.each slot was)
+            (λ (vacant : ((state_of m now.seats.history).slot slot).stage ≡ Vacant).
+            was_left now (here Done now now so turnless (IsPrefix-self now.seats.history)) (was_vacant vacant)) (either slot h);
       };
       is = so.is;
     }
 
     -- one slot more
-    module _ (slot : ℕ) (now next : CellView S A R) (so : HasVisited m digest layout slot old now) (turnless : old.turn ≡ None) where
+    module _ (Done More : ℕ → Type 0) (slot : ℕ) (either : (p : ℕ) → More p → Done p ⊎ (p ≡ slot)) (now next : CellView S A R)
+        (so : HasVisited m digest layout Done old now) (turnless : old.turn ≡ None) where
       by_try : (freed : Option ConnId) → TriesSlot m digest layout slot freed now next → ((id : ConnId) → freed ≡ Some id → id.slot ≡ slot) → IsPrefix now.seats.history next.seats.history →
           IsVisited m digest layout old next so.visits.epochs (so.visits.ids ++ freed_ids freed) slot
-      by_try None tried there seen = was_left now (here slot now next so turnless seen) (tried.left refl)
+      by_try None tried there seen = was_left now (here Done now next so turnless seen) (tried.left refl)
       by_try (Some id) tried there seen = was_freed id (Contains-append_right so.visits.ids (id ∷ []) id (Contains-append_left (id ∷ []) [] id (Contains-push [] id))) (there id refl)
 
       pub visited_more : (freed : Option ConnId) → TriesSlot m digest layout slot freed now next → ((id : ConnId) → freed ≡ Some id → id.slot ≡ slot) →
-          Adds (cell_pass now) next.seats.history (free_entries (cell_pass now) (freed_ids freed)) → HasVisited m digest layout (slot + 1) old next
+          Adds (cell_pass now) next.seats.history (free_entries (cell_pass now) (freed_ids freed)) → HasVisited m digest layout More old next
       visited_more freed tried there adds =
-          let on' = on slot now next so tried.is (freed_ids freed) adds in
+          let on' = on Done now next so tried.is (freed_ids freed) adds in
           record {
             visits = record {
               epochs = so.visits.epochs;
               from = so.visits.from;
-              reached = reached_on slot now next so tried.is (freed_ids freed) adds;
+              reached = reached_on Done now next so tried.is (freed_ids freed) adds;
               ids = so.visits.ids ++ freed_ids freed;
-              adds = adds_both slot now next so tried.is (freed_ids freed) adds;
+              adds = adds_both Done now next so tried.is (freed_ids freed) adds;
               each = λ p h. ⊎_elim
                   (λ (e : p ≡ slot). subst (IsVisited m digest layout old next so.visits.epochs (so.visits.ids ++ freed_ids freed))
-                  (sym e) (by_try freed tried there (seen_on slot now next so tried.is (freed_ids freed) adds)))
-                  (λ (ne : p ≢ slot). still_visited slot now next so tried.is (freed_ids freed) adds p (so.visits.each p (omega (arith, h, ne))))
+                  (sym e) (by_try freed tried there (seen_on Done now next so tried.is (freed_ids freed) adds)))
+                  (λ (ne : p ≢ slot). still_visited Done now next so tried.is (freed_ids freed) adds p (so.visits.each p (⊎_elim (λ was. was) (λ is. absurd (ne is)) (either p h))))
                   (cases_eq p slot);
             };
             is = on';
           }
 
-    -- of more slots, and so of fewer
-    pub visited_below : (i j : ℕ) (now : CellView S A R) → j ≤ i → HasVisited m digest layout i old now → HasVisited m digest layout j old now
-    visited_below i j now fewer so = record {
-      visits = record {
-        epochs = so.visits.epochs;
-        from = so.visits.from;
-        reached = so.visits.reached;
-        ids = so.visits.ids;
-        adds = so.visits.adds;
-        each = λ slot h. so.visits.each slot (omega (arith, h, fewer));
-      };
-      is = so.is;
-    }
-
     -- once the slots are done the pass sees no more
-    pub visits_all : (slots i : ℕ) (now next : CellView S A R) → slots ≤ i → HasVisited m digest layout i old now →
-        next.seats ≡ now.seats → now.epochs.greatest ≤ next.epochs.greatest → VisitsSlots m digest layout slots old next
-    visits_all slots i now next past so seats later = record {
+    pub visits_all : (Done All : ℕ → Type 0) (now next : CellView S A R) → ((p : ℕ) → All p → Done p) → HasVisited m digest layout Done old now →
+        next.seats ≡ now.seats → now.epochs.greatest ≤ next.epochs.greatest → VisitsSlots m digest layout All old next
+    visits_all Done All now next all so seats later = record {
       epochs = so.visits.epochs;
       from = so.visits.from;
       reached = (let reached = so.visits.reached in omega (arith, reached, later));
       ids = so.visits.ids;
       adds = subst (λ h. Adds (cell_pass old) h (free_entries (cell_pass old) so.visits.ids)) (sym history) so.visits.adds;
-      each = λ slot h. stays_visited slot (so.visits.each slot (omega (arith, h, past)));
+      each = λ slot h. stays_visited slot (so.visits.each slot (all slot h));
     }
       where
         history : next.seats.history ≡ now.seats.history

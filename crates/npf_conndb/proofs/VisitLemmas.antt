@@ -1,6 +1,6 @@
 -- A call enters, expires what is due slot by slot, and leaves.
-use Rattle.std.proofs.Common.{◌≡◌, ◌⊎◌, ℕ, ◌+◌, ◌<◌, Bool, true, false, eqb, List, [], refl, sym, ap, ◌∙◌, subst, ⊎_elim, inl, inr, arith}
-use Rattle.std.proofs.lemmas.Bool.Decides.{Decides-eqb, not_from_Decides}
+use Rattle.std.proofs.Common.{◌≡◌, ◌⊎◌, ℕ, ◌+◌, ◌≤◌, ◌<◌, Bool, true, false, eqb, List, [], refl, sym, ap, ◌∙◌, subst, ⊎_elim, inl, inr, arith}
+use Rattle.std.proofs.lemmas.Bool.{cases_lt, Decides.{Decides-eqb, not_from_Decides}}
 use Rattle.atomic_table.specs.Table.{Me}
 use Rattle.npf_core.specs.declared.{conn_id.ConnId.ConnId, entry.Entry.Entry, stage.Stage.{Stage, TheVariants.{Vacant, Building, Live, Dead}}}
 use Rattle.npf_core.{specs.{History.state_of, Machine.{stage_of, IsClaimed, IsLive}, Meaning.Meaning}, proofs.SlotLemmas.slot_exists}
@@ -50,16 +50,27 @@ module _ {S A R : Type 0} (m : Meaning S A R) (time slot count more : ℕ) (old 
     pin = then.pin ∙ first.pin;
   }
 
-  pub expires_next : ExpiresIn m time (λ s. s < slot) count (cell_pass old) (cell_pass mid) → ExpiresIn m time (λ s. s ≡ slot) more (cell_pass mid) (cell_pass now) →
-      ExpiresIn m time (λ s. s < slot + 1) (count + more) (cell_pass old) (cell_pass now)
-  expires_next below here = expires_fewer m time (cell_pass old) (cell_pass now) (λ s. (s < slot) ⊎ (s ≡ slot)) (λ s. s < slot + 1) (count + more) (below_next slot)
+  expires_then : (More Both : ℕ → Type 0) → ((s : ℕ) → Both s → (s < slot) ⊎ More s) →
+      ExpiresIn m time (λ s. s < slot) count (cell_pass old) (cell_pass mid) → ExpiresIn m time More more (cell_pass mid) (cell_pass now) →
+      ExpiresIn m time Both (count + more) (cell_pass old) (cell_pass now)
+  expires_then More Both either below here = expires_fewer m time (cell_pass old) (cell_pass now) (λ s. (s < slot) ⊎ More s) Both (count + more) either
       (expires_more m time (cell_pass old) (cell_pass mid) (cell_pass now) (ap (λ (p : Pass (Entry S A R)). p.number) first.goes.view)
-      (ap (λ (p : Pass (Entry S A R)). p.joined) first.goes.view) (λ s. s < slot) (λ s. s ≡ slot) count more then.legal
+      (ap (λ (p : Pass (Entry S A R)). p.joined) first.goes.view) (λ s. s < slot) More count more then.legal
       (ap (λ (p : Pass (Entry S A R)). p.slots) then.goes.view) below here
       (λ id there live. lives_or_idle m time (cell_pass old) (cell_pass mid) (cell_pass now) id (record {
         rest = below.adds.rest;
         goes_on = below.adds.goes_on;
       }) (record { rest = here.adds.rest; goes_on = here.adds.goes_on })))
+
+  pub expires_next : ExpiresIn m time (λ s. s < slot) count (cell_pass old) (cell_pass mid) → ExpiresIn m time (λ s. s ≡ slot) more (cell_pass mid) (cell_pass now) →
+      ExpiresIn m time (λ s. s < slot + 1) (count + more) (cell_pass old) (cell_pass now)
+  expires_next below here = expires_then (λ s. s ≡ slot) (λ s. s < slot + 1) (below_next slot) below here
+
+  -- more slots, of which none was expired
+  pub expires_past : (end : ℕ) → more ≡ 0 → ExpiresIn m time (λ s. s < slot) count (cell_pass old) (cell_pass mid) →
+      ExpiresIn m time (λ s. (slot ≤ s) × (s < end)) more (cell_pass mid) (cell_pass now) → ExpiresIn m time (λ s. s < end) count (cell_pass old) (cell_pass now)
+  expires_past end none below here = subst (λ n. ExpiresIn m time (λ s. s < end) n (cell_pass old) (cell_pass now)) (omega (arith, none))
+      (expires_then (λ s. (slot ≤ s) × (s < end)) (λ s. s < end) (λ s under. ⊎_elim (λ (in_first : s < slot). inl in_first) (λ (past : slot ≤ s). inr (past, under)) (cases_lt s slot)) below here)
 
 -- what is Live lies in a slot of the table
 live_claimed : {S : Type 0} (x : Stage S) → IsLive x → IsClaimed x

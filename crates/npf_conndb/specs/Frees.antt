@@ -1,5 +1,5 @@
 -- How slots are freed.
-use Rattle.std.specs.Prelude.{◌≡◌, ◌≢◌, ℕ, ◌+◌, ◌≤◌, ◌<◌, Option, Some, None, List, [], ◌∷◌, length}
+use Rattle.std.specs.Prelude.{◌≡◌, ◌≢◌, ℕ, ◌+◌, ◌≤◌, ◌<◌, ◌/◌, Bool, true, false, Option, Some, None, List, [], ◌∷◌, length, slice_index_or}
 use Rattle.atomic_table.specs.Table.{Me}
 use Rattle.npf_core.specs.declared.conn_id.ConnId.{ConnId}
 use Rattle.npf_core.specs.declared.stage.Stage.TheVariants.{Dead}
@@ -31,12 +31,17 @@ pub record CollectsSlot {S A R F : Type 0} (m : Meaning S A R) (slot : ℕ) (fre
   pub clean : length old.0.seats.readers ≡ all_places → ¬ IsWorn (cell_pass old.0) → old.0.pools.dated + 2 ≤ old.0.epochs.loaded → ((state_of m now.0.seats.history).slot slot).stage ≢ Dead
 
 -- with this epoch the pass freed these connections, which ends the history, if any; and where it owns all reader places and isn't worn, nothing
--- Dead is in the slots below this one
-pub record HasCollected {S A R F : Type 0} (m : Meaning S A R) (epoch i : ℕ) (old now : Me F (CellView S A R)) : Type 0 where
+-- Dead is in these slots
+pub record HasCollected {S A R F : Type 0} (m : Meaning S A R) (epoch : ℕ) (Done : ℕ → Type 0) (old now : Me F (CellView S A R)) : Type 0 where
   pub ids : List ConnId
   pub adds : AddsOwn (cell_pass old.0) now.0.seats.history (free_entries (cell_pass old.0) ids)
   pub stays : StaysBetween m old.0 now.0
   pub loaded : now.0.epochs.loaded ≡ epoch
   pub dated : now.0.pools.dated ≡ old.0.pools.dated
   pub later : length old.0.seats.readers ≡ all_places → ¬ IsWorn (cell_pass now.0) → old.0.pools.dated + 2 ≤ epoch
-  pub clean : length old.0.seats.readers ≡ all_places → ¬ IsWorn (cell_pass now.0) → (p : ℕ) → p < i → ((state_of m now.0.seats.history).slot p).stage ≢ Dead
+  pub clean : length old.0.seats.readers ≡ all_places → ¬ IsWorn (cell_pass now.0) → (p : ℕ) → Done p → ((state_of m now.0.seats.history).slot p).stage ≢ Dead
+
+-- the slot's claim bit is in a word that was noted as one without any, where a flag for each word says whether it had some
+pub record IsNotedVacant (slots : ℕ) (flags : List Bool) (slot : ℕ) : Type 0 where
+  pub exists : slot < slots
+  pub clear : slice_index_or flags (slot / 64) true ≡ false

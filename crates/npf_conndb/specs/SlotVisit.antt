@@ -1,6 +1,5 @@
 -- What a call that frees connections makes of each slot: it freed a connection there, or says why it left the slot.
-use Rattle.std.specs.Prelude.{◌≡◌, ℕ, ◌≤◌, ◌<◌, Option, None, List, Contains}
-use Rattle.atomic_table.specs.Table.{Me}
+use Rattle.std.specs.Prelude.{◌≡◌, ℕ, ◌≤◌, Option, None, List, Contains}
 use Rattle.npf_types.specs.declared.key.Key.{Key}
 use Rattle.npf_core.specs.declared.conn_id.ConnId.{ConnId}
 use Rattle.npf_core.specs.declared.stage.Stage.TheVariants.{Vacant}
@@ -12,7 +11,6 @@ use Rattle.npf_cells_words.specs.declared.layout.Layout.{Layout}
 use Rattle.npf_cells_words.specs.declared.layout.Pool.TheVariants.{Slots}
 use Rattle.npf_cells_words.specs.Layout.{notes_field, field_at}
 use Rattle.npf_cells_pins.specs.declared.pin.EpochSide.{EpochSide}
-use Rattle.npf_cells_lives.specs.Turns.{Running}
 use Rattle.npf_cells_rule.specs.declared.view.CellView.{CellView}
 use Rattle.npf_cells_rule.specs.Passes.{cell_pass}
 use Rattle.npf_cells_rule.specs.Stood.{StoodSo}
@@ -43,18 +41,18 @@ pub data IsVisited {S A R : Type 0} (m : Meaning S A R) (digest : Key → ℕ) (
   was_freed : (id : ConnId) → Contains ids id → id.slot ≡ slot → IsVisited m digest layout old now epochs ids slot
   was_left : (v : CellView S A R) → IsOnTheWay old now epochs v → WhyNotFreed m digest layout v slot → IsVisited m digest layout old now epochs ids slot
 
--- the call freed these connections by an epoch that it loaded, which is no earlier than those before it, and visited each slot below this one
-pub record VisitsSlots {S A R : Type 0} (m : Meaning S A R) (digest : Key → ℕ) (layout : Layout) (i : ℕ) (old now : CellView S A R) : Type 0 where
+-- the call freed these connections by an epoch that it loaded, which is no earlier than those before it, and visited each of these slots
+pub record VisitsSlots {S A R : Type 0} (m : Meaning S A R) (digest : Key → ℕ) (layout : Layout) (Done : ℕ → Type 0) (old now : CellView S A R) : Type 0 where
   pub epochs : EpochSide
   pub from : old.epochs.greatest ≤ epochs.loaded
   pub reached : epochs.loaded ≤ now.epochs.greatest
   pub ids : List ConnId
   pub adds : Adds (cell_pass old) now.seats.history (free_entries (cell_pass old) ids)
-  pub each : (slot : ℕ) → slot < i → IsVisited m digest layout old now epochs ids slot
+  pub each : (slot : ℕ) → Done slot → IsVisited m digest layout old now epochs ids slot
 
 -- and is still on its way
-pub record HasVisited {S A R : Type 0} (m : Meaning S A R) (digest : Key → ℕ) (layout : Layout) (i : ℕ) (old now : CellView S A R) : Type 0 where
-  pub visits : VisitsSlots m digest layout i old now
+pub record HasVisited {S A R : Type 0} (m : Meaning S A R) (digest : Key → ℕ) (layout : Layout) (Done : ℕ → Type 0) (old now : CellView S A R) : Type 0 where
+  pub visits : VisitsSlots m digest layout Done old now
   pub is : now ≡ having_freed old visits.epochs now
 
 -- the try of one slot: a connection there was freed, or the slot was left

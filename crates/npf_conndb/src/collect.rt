@@ -1,5 +1,5 @@
 // What is dead is freed, slot by slot, and nodes come back.
-ghost use Rattle.std.specs.Prelude.{◌≡◌, ◌≢◌, ◌<◌, ◌≤◌, ◌+◌, None, length};
+ghost use Rattle.std.specs.Prelude.{◌≡◌, ◌≢◌, ◌<◌, ◌≤◌, ◌+◌, ◌/◌, ◌%◌, true, false, None, length, slice_index_or};
 ghost use Rattle.npf_connections.specs.Worn.{last_epoch};
 ghost use Rattle.npf_cells_rule.specs.Views.{with_epochs};
 ghost use Rattle.npf_connections.specs.Collecting.{FreesAlone, IsClean};
@@ -8,10 +8,9 @@ ghost use Rattle.npf_cells.specs.Cells.{IsPassIn};
 ghost use Rattle.npf_cells_pins.specs.declared.pin.Pin.TheVariants.{Idle};
 ghost use Rattle.npf_cells_rule.specs.Passes.{cell_pass};
 ghost use Rattle.npf_conndb.specs.Between.{IsBetweenCalls, StaysBetween};
-ghost use Rattle.npf_conndb.specs.Frees.{CollectsSlot, HasCollected};
+ghost use Rattle.npf_conndb.specs.Frees.{CollectsSlot, HasCollected, IsNotedVacant};
 ghost use Rattle.npf_conndb.specs.SlotVisit.{HasVisited, TriesSlot, VisitsSlots};
 
-use crate::vacancy::vacant_slots;
 use npf_cells::{CellPass, Cells, Pool, READERS};
 use npf_core::{ConnId, Law};
 use npf_epoch::{enter, leave, try_advance};
@@ -25,8 +24,12 @@ const FIRST_NOTE: u32 = 18;
 /// A note of this and more has an epoch.
 const EPOCHS: u64 = 1 << 63;
 
+/// How many words have the bits of the slots, where these are as many as there may be.
+const MOST_WORDS: usize = 1024;
+
 /// Raises the epoch, twice where no other pass is left that could hinder it, and visits each slot: it frees the connection there that was let go two
-/// epochs before or more. A slot whose turn another pass has is left for the next time.
+/// epochs before or more. A slot whose turn another pass has is left for the next time. Where a word says that nobody has claimed any of 64 slots, none
+/// of them is looked at.
 pub(crate) fn collect<L: Law, H: KeyHash>(
     rt: &impl Wait,
     cells: &Cells<L, H>,
@@ -36,15 +39,23 @@ pub(crate) fn collect<L: Law, H: KeyHash>(
     requires legal { IsPass L.meaning (cell_pass pass.old.seat.me.0) }
     requires between { IsBetweenCalls L.meaning pass.old.seat.me.0 }
     requires out { pass.old.seat.me.0.epochs.pin ≡ Idle }
+    requires few { cells.now.table.shared.key.slots ≤ 65536 }
     ensures own { IsPassIn cells.now pass.new }
     ensures stays { StaysBetween L.meaning pass.old.seat.me.0 pass.new.seat.me.0 }
     ensures frees { FreesAlone (cell_pass pass.old.seat.me.0) pass.new.seat.me.0.seats.history }
     ensures clean { IsClean L.meaning (cell_pass pass.new.seat.me.0) }
-    ensures visits { VisitsSlots L.meaning H.digest cells.now.table.shared.key cells.now.table.shared.key.slots pass.old.seat.me.0 pass.new.seat.me.0 }
+    ensures visits { VisitsSlots L.meaning H.digest cells.now.table.shared.key (λ slot. slot < cells.now.table.shared.key.slots) pass.old.seat.me.0 pass.new.seat.me.0 }
 {
-    let (epoch, visited) = free_first(cells, pass);
-    for slot in visited..cells.layout().slots {
+    let (epoch, claimed) = claimed_words(cells, pass);
+    let slots = cells.layout().slots;
+    let mut slot = 0;
+    while slot < slots {
+        if begins_vacant(&claimed, slot) {
+            slot += 64;
+            continue;
+        }
         collect_slot(cells, pass, slot, epoch);
+        slot += 1;
     }
     regain_left(rt, cells, pass);
 }
@@ -65,7 +76,8 @@ fn regain_left<L: Law, H: KeyHash>(rt: &impl Wait, cells: &Cells<L, H>, pass: &m
     }
 }
 
-// Frees each node that was taken off two epochs before or more, and takes those off in which only such a one hung. It is in a stay for that.
+// Frees each node that was taken off two epochs before or more, and takes those off in which only such a one hung. It is in a stay for that. Where
+// a word of the pool says that nobody has any of 64 nodes, none is looked at.
 fn regain_nodes<L: Law, H: KeyHash>(
     rt: &impl Wait,
     cells: &Cells<L, H>,
@@ -82,11 +94,26 @@ fn regain_nodes<L: Law, H: KeyHash>(
 {
     enter(cells, pass);
     let epoch = cells.load_epoch(pass);
-    for node in 0..cells.layout().nodes {
+    let nodes = cells.layout().nodes;
+    let mut node = 0;
+    while node < nodes {
+        if begins_unowned(cells, pass, node) {
+            node = node.saturating_add(64);
+            continue;
+        }
         regain(rt, cells, pass, node, epoch);
+        node += 1;
     }
     leave(cells, pass);
     forget_left(pass, left, epoch);
+}
+
+// Whether the node is the first of 64 of which nobody has any, as a word of the pool says. A node that was let go is somebody's till it has come back.
+fn begins_unowned<L: Law, H: KeyHash>(cells: &Cells<L, H>, pass: &CellPass<L>, node: u32) -> bool
+    requires own { IsPassIn cells.now pass.now }
+    requires exists { node < cells.now.table.shared.key.nodes }
+{
+    node % 64 == 0 && cells.peek_pool(pass, Pool::Nodes, node / 64) == 0
 }
 
 // Forgets that nodes were let go, the last of them with this state, once the pass went over all of them at this epoch: those have come back, if no
@@ -101,32 +128,45 @@ fn forget_left<L: Law>(pass: &mut CellPass<L>, left: u64, epoch: u64)
     }
 }
 
-// Raises the epoch, and visits the slots that somebody has claimed, up to the first that it frees. Answers the epoch, and how many slots are done.
-// What is freed ends what the pass adds, so behind it the pass may see no more, and can't tell vacant slots.
-fn free_first<L: Law, H: KeyHash>(cells: &Cells<L, H>, pass: &mut CellPass<L>) -> (u64, u32)
+// Raises the epoch, and looks which words of the slots have a bit set: answers the epoch, and a flag for each word. What is freed ends what the
+// pass adds, so behind it the pass may see no more: it sees before which slots nobody has claimed.
+fn claimed_words<L: Law, H: KeyHash>(
+    cells: &Cells<L, H>,
+    pass: &mut CellPass<L>,
+) -> (u64, [bool; MOST_WORDS])
     requires own { IsPassIn cells.now pass.old }
     requires legal { IsPass L.meaning (cell_pass pass.old.seat.me.0) }
     requires between { IsBetweenCalls L.meaning pass.old.seat.me.0 }
     requires out { pass.old.seat.me.0.epochs.pin ≡ Idle }
+    requires few { cells.now.table.shared.key.slots ≤ 65536 }
     ensures own { IsPassIn cells.now pass.new }
-    ensures collected { HasCollected L.meaning result.0 result.1 pass.old.seat.me pass.new.seat.me }
-    ensures visited { HasVisited L.meaning H.digest cells.now.table.shared.key result.1 pass.old.seat.me.0 pass.new.seat.me.0 }
+    ensures collected { HasCollected L.meaning result.0 (IsNotedVacant cells.now.table.shared.key.slots result.1) pass.old.seat.me pass.new.seat.me }
+    ensures visited { HasVisited L.meaning H.digest cells.now.table.shared.key (IsNotedVacant cells.now.table.shared.key.slots result.1)
+        pass.old.seat.me.0 pass.new.seat.me.0 }
 {
     let epoch = raise_epoch(cells, pass);
-    let slots = cells.layout().slots;
-    let mut slot = 0;
-    while slot < slots {
-        let vacant = vacant_slots(cells, pass, slot);
-        if vacant > 0 {
-            slot += vacant;
-            continue;
-        }
-        if collect_slot(cells, pass, slot, epoch).is_some() {
-            return (epoch, slot + 1);
-        }
-        slot += 1;
+    let mut claimed = [true; MOST_WORDS];
+    for word in 0..cells.layout().pool_words(Pool::Slots) {
+        let bits = cells.load_pool(pass, Pool::Slots, word);
+        claimed[word as usize] = has_some(bits);
     }
-    (epoch, slots)
+    (epoch, claimed)
+}
+
+// Whether the slot is the first of 64 of which the flags say that nobody had claimed any.
+fn begins_vacant(claimed: &[bool; MOST_WORDS], slot: u32) -> bool
+    requires { slot < 65536 }
+    ensures first { result ≡ true → slot % 64 ≡ 0 }
+    ensures clear { result ≡ true → slice_index_or claimed.now (slot / 64) true ≡ false }
+{
+    slot % 64 == 0 && !claimed[slot as usize / 64]
+}
+
+// Whether some bit of the word is set.
+fn has_some(bits: u64) -> bool
+    ensures { result ≡ false → bits ≡ 0 }
+{
+    bits != 0
 }
 
 // Raises the epoch, twice where no other pass is left, and answers the one that it then is.

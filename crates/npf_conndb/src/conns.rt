@@ -1,5 +1,5 @@
 // The table of connections without locks, as the calls that any table has.
-ghost use Rattle.std.specs.Prelude.{◌≤◌};
+ghost use Rattle.std.specs.Prelude.{◌≤◌, ◌<◌};
 
 use crate::begin::begin;
 use crate::collect::collect;
@@ -21,6 +21,7 @@ use std::sync::Wait;
 #[derive(Drop)]
 pub struct Conns<L: Law, H: KeyHash> {
     cells: Cells<L, H>,
+    ghost few: { cells.table.shared.key.slots ≤ 65536 },
     ghost roomy: { 16 ≤ cells.table.shared.key.nodes },
 }
 
@@ -174,7 +175,7 @@ where
         ensures adds { FreesAlone (shown pass.old) (shown pass.new).history }
         ensures clean { IsClean L.meaning (shown pass.new) }
         ensures view { GoesOn (shown pass.old) (shown pass.new) }
-        ensures visits { VisitsSlots L.meaning H.digest self.now.cells.table.shared.key self.now.cells.table.shared.key.slots pass.old.cells.seat.me.0 pass.new.cells.seat.me.0 }
+        ensures visits { VisitsSlots L.meaning H.digest self.now.cells.table.shared.key (λ slot. slot < self.now.cells.table.shared.key.slots) pass.old.cells.seat.me.0 pass.new.cells.seat.me.0 }
     {
         collect(rt, &self.cells, &mut pass.cells);
     }

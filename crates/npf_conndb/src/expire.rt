@@ -7,7 +7,7 @@ ghost use Rattle.npf_conndb.specs.Between.{IsBetweenCalls, StaysBetween};
 ghost use Rattle.npf_conndb.specs.Expiries.{ExpiresIn};
 
 use crate::endings::end_killed;
-use crate::vacancy::is_vacant;
+use crate::vacancy::vacant_slots;
 use npf_cells::{CellPass, Cells};
 use npf_core::Law;
 use npf_paths::KeyHash;
@@ -31,38 +31,21 @@ pub(crate) fn expire_all<L: Law, H: KeyHash>(
 {
     let slots = cells.layout().slots;
     let mut count = 0;
-    for slot in 0..slots {
+    let mut slot = 0;
+    while slot < slots {
+        let vacant = vacant_slots(cells, pass, slot);
+        if vacant > 0 {
+            slot += vacant;
+            continue;
+        }
         count += expire_slot(rt, cells, pass, slot, now);
+        slot += 1;
     }
     count
 }
 
-// The same for one slot: it kills one or none. Of a slot that nobody has claimed it gets no turn.
+// The same for one slot under its turn: it kills one or none.
 fn expire_slot<L: Law, H: KeyHash>(
-    rt: &impl Wait,
-    cells: &Cells<L, H>,
-    pass: &mut CellPass<L>,
-    slot: u32,
-    now: u64,
-) -> u64
-    requires own { IsPassIn cells.now pass.old }
-    requires legal { IsPass L.meaning (cell_pass pass.old.seat.me.0) }
-    requires between { IsBetweenCalls L.meaning pass.old.seat.me.0 }
-    requires protected { IsProtected pass.old.seat.me.0.epochs.pin }
-    requires exists { slot < cells.now.table.shared.key.slots }
-    ensures own { IsPassIn cells.now pass.new }
-    ensures few { result ≤ 1 }
-    ensures stays { StaysBetween L.meaning pass.old.seat.me.0 pass.new.seat.me.0 }
-    ensures expires { ExpiresIn L.meaning now (λ s. s ≡ slot) result (cell_pass pass.old.seat.me.0) (cell_pass pass.new.seat.me.0) }
-{
-    if is_vacant(cells, pass, slot) {
-        return 0;
-    }
-    expire_claimed(rt, cells, pass, slot, now)
-}
-
-// The same for a slot under its turn.
-fn expire_claimed<L: Law, H: KeyHash>(
     rt: &impl Wait,
     cells: &Cells<L, H>,
     pass: &mut CellPass<L>,

@@ -1,5 +1,5 @@
 // Slots that nobody holds.
-ghost use Rattle.std.specs.Prelude.{◌≡◌, ◌≤◌, ◌<◌, ◌+◌, ℕ, true};
+ghost use Rattle.std.specs.Prelude.{◌≡◌, ◌≤◌, ◌<◌, ◌+◌, ℕ};
 ghost use Rattle.std.specs.Int.{bit_at};
 ghost use Rattle.npf_core.specs.declared.stage.Stage.TheVariants.{Vacant};
 ghost use Rattle.npf_core.specs.History.{state_of};
@@ -9,21 +9,6 @@ ghost use Rattle.npf_pool.specs.Takes.{HasSeenMore};
 use npf_cells::{CellPass, Cells, Pool};
 use npf_core::Law;
 use npf_paths::KeyHash;
-
-/// Whether nobody has claimed the slot. The pass then has seen all of the history.
-pub(crate) fn is_vacant<L: Law, H: KeyHash>(
-    cells: &Cells<L, H>,
-    pass: &mut CellPass<L>,
-    slot: u32,
-) -> bool
-    requires own { IsPassIn cells.now pass.old }
-    requires exists { slot < cells.now.table.shared.key.slots }
-    ensures own { IsPassIn cells.now pass.new }
-    ensures sees { HasSeenMore L.meaning pass.old.seat.me pass.new.seat.me }
-    ensures vacant { result ≡ true → ((state_of L.meaning pass.new.seat.me.0.seats.history).slot slot).stage ≡ Vacant }
-{
-    vacant_slots(cells, pass, slot) > 0
-}
 
 /// How many slots from this one on nobody has claimed, up to the last whose bit is in the same word. The pass then has seen all of the history.
 pub(crate) fn vacant_slots<L: Law, H: KeyHash>(

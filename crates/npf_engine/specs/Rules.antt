@@ -11,34 +11,22 @@ use Rattle.npf_model.specs.declared.map.Algo.{Algo}
 use Rattle.npf_model.specs.declared.map.Algo.TheVariants as Algos
 use Rattle.npf_model.specs.declared.map.Map.{Map}
 use Rattle.npf_model.specs.declared.model.Model.{Model}
-use Rattle.npf_model.specs.declared.procedure.Procedure.{Procedure}
 use Rattle.npf_model.specs.declared.rule.Rule.{Rule}
 use Rattle.npf_model.specs.declared.rule.StateOpt.{StateOpt}
 use Rattle.npf_model.specs.declared.rule.StateOpt.TheVariants.{Not, OnInterface, Everywhere}
 use Rattle.npf_model.specs.declared.settings.Settings.{Settings}
 use Rattle.npf_model.specs.Configuration.{Configuration, verdict_of, map_place_of}
+use Rattle.npf_model.specs.Settings.{drawn_ports}
+use Rattle.npf_model.specs.Verdict.{rule_at}
 use Rattle.npf_nat.specs.declared.map_plan.MapPlan.{MapPlan}
 use Rattle.npf_nat.specs.declared.map_plan.MapPlan.TheVariants.{Fixed, Draw}
 use Rattle.npf_nat.specs.MapPlan.{plan}
-use Rattle.npf_proc.specs.Action.{procedure_action}
+use Rattle.npf_proc.specs.Action.{action_of}
 use Rattle.npf_engine_opening.specs.declared.attempt.Attempt.{Attempt}
-use Rattle.npf_ruleset.specs.RuleAt.{rule_at}
 use Rattle.npf_engine.specs.declared.rules.Mapping.{Mapping}
 use Rattle.npf_engine.specs.declared.rules.Mapping.TheVariants.{Unmapped, Static, Dynamic}
 use Rattle.npf_engine.specs.declared.rules.Ruling.{Ruling}
 use Rattle.npf_engine.specs.Arrival.{Arrival, any_interface, arg_of}
-
--- no procedure: nothing is normalised or logged
-abbrev pub no_action : Action
-no_action = record { min_ttl = None; max_mss = None; no_df = false; log = None }
-
-abbrev pub action_by : Option Procedure → Action
-action_by None = no_action
-action_by (Some procedure) = procedure_action procedure
-
--- a rule's action is that of its procedure, and empty without one
-abbrev pub action_of : Model → Rule → Action
-action_of model rule = action_by (option_and_then (slice_get model.procedures) rule.procedure)
 
 abbrev pub ruling : Model → ℕ → Rule → Ruling
 ruling model place rule = record {
@@ -66,13 +54,15 @@ abbrev pub mapping_by : Algo → Option MapPlan → Mapping
 mapping_by algo None = Unmapped
 mapping_by algo (Some made) = mapping algo made
 
-abbrev pub mapping_under : Facts → Dir → Option Map → Mapping
-mapping_under facts dir None = Unmapped
-mapping_under facts dir (Some map) = mapping_by map.algo (plan map facts dir)
+-- under these settings: their ports are drawn from where the map has none
+abbrev pub mapping_under : Settings → Facts → Dir → Option Map → Mapping
+mapping_under settings facts dir None = Unmapped
+mapping_under settings facts dir (Some map) = mapping_by map.algo (plan (drawn_ports settings) map facts dir)
 
 -- the map that translates the packet, if one does
 abbrev pub mapping_of : Configuration → Facts → IfId → Dir → Mapping
-mapping_of config facts ifid dir = mapping_under facts dir (option_and_then (slice_get config.model.maps) (map_place_of config facts ifid dir))
+mapping_of config facts ifid dir =
+    mapping_under config.model.settings facts dir (option_and_then (slice_get config.model.maps) (map_place_of config facts ifid dir))
 
 -- a change that names nothing
 abbrev pub unchanged : Change

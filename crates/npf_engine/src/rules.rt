@@ -3,12 +3,13 @@ ghost use Rattle.std.specs.Prelude.{◌≡◌, ◌↔◌, IsTrue, Some};
 ghost use Rattle.npf_packet.specs.declared.decoded.Decoded.TheVariants.{Ip};
 ghost use Rattle.npf_packet.specs.Decoder.{Decodes};
 ghost use Rattle.npf_ruleset.specs.Configuration.{configuration};
-ghost use Rattle.npf_engine.specs.Rules.{OpensOne, action_of, bound_interface, static_change, key_interface, mapping, mapping_of, no_action, plan_of, ruling_of, unchanged};
+ghost use Rattle.npf_engine.specs.Rules.{OpensOne, bound_interface, static_change, key_interface, mapping, mapping_of, plan_of, ruling_of, unchanged};
 
 use crate::crossing::Crossing;
-use npf_model::{Algo, Model, Rule, Settings, StateOpt};
+use npf_model::{Algo, Settings, StateOpt};
 use npf_nat::{MapPlan, plan};
 use npf_packet::decoded_is_packet;
+use npf_proc::rule_action;
 use npf_ruleset::{Config, map_for, walk};
 use npf_types::{Action, Change, Decision, IfId};
 
@@ -30,14 +31,6 @@ pub enum Mapping {
     Static { there: Change, back: Change },
     Dynamic(MapPlan),
 }
-
-/// No procedure: nothing is normalised or logged.
-const NO_ACTION: Action = Action {
-    min_ttl: None,
-    max_mss: None,
-    no_df: false,
-    log: None,
-};
 
 /// A change that names nothing.
 pub(crate) const UNCHANGED: Change = Change {
@@ -63,22 +56,8 @@ pub(crate) fn ruling_of(config: &Config, crossing: &Crossing) -> Option<Ruling>
         decision: rule.decision,
         state: rule.state,
         settings: config.model().settings,
-        action: action_of(config.model(), rule),
+        action: rule_action(config.model(), rule),
     })
-}
-
-/// The action of a rule: that of its procedure, and empty without one.
-#[inline(always)]
-fn action_of(model: &Model, rule: &Rule) -> Action
-    ensures { result ≡ action_of model.now rule.now }
-{
-    let Some(place) = rule.procedure else {
-        return NO_ACTION;
-    };
-    match model.procedures.as_slice().get(place as usize) {
-        Some(procedure) => npf_proc::action_of(procedure),
-        None => NO_ACTION,
-    }
 }
 
 /// The map that translates the packet, if one does.
@@ -92,7 +71,8 @@ pub(crate) fn mapping_of(config: &Config, crossing: &Crossing) -> Mapping
         return Mapping::Unmapped;
     };
     let map = config.map(place);
-    match plan(map, crossing.facts, crossing.dir) {
+    let unsaid = config.model().settings.drawn_ports();
+    match plan(unsaid, map, crossing.facts, crossing.dir) {
         Some(made) => mapping_by_algo(map.algo, made),
         None => Mapping::Unmapped,
     }

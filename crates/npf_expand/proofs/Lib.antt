@@ -3,3 +3,4 @@ pub mod ElementLemmas
 pub mod FirstAtom
 pub mod ReadLemmas
 pub mod StepLemmas
+pub mod SettingsLemmas

@@ -24,7 +24,8 @@ use Rattle.npf_model.specs.declared.map.Arrow.{Arrow}
 use Rattle.npf_model.specs.declared.map.Map.{Map}
 use Rattle.npf_model.specs.declared.map.Side.{Side}
 use Rattle.npf_expand_values.specs.declared.role.Role.TheVariants.{AsAddress, AsPort}
-use Rattle.npf_expand_values.specs.Atom.{Atom, BlockAtom, AddressesAtom, Env}
+use Rattle.npf_expand_values.specs.Atom.{Atom, BlockAtom, Env}
+use Rattle.npf_expand_values.specs.Host.{hosts_of}
 use Rattle.npf_expand_values.specs.Iface.{iface_faults, on_iface}
 use Rattle.npf_expand_values.specs.Port.{atom_ports}
 use Rattle.npf_expand_values.specs.Protocol.{one_protocol, one_protocol_faults}
@@ -49,19 +50,18 @@ arrow_of_sign (ArrowIs.Both span) = Arrow.Both
 abbrev pub every_v4 : Prefix
 every_v4 = block (V4 0) 0
 
--- the block of a side: of a function's addresses the first
+-- the block of a side: of the addresses of an interface or a function the first
 abbrev pub first_host : List Addr → Prefix
 first_host [] = every_v4
 first_host (addr ∷ _) = block addr (width addr)
 
-abbrev pub side_block : Atom → Prefix
-side_block (BlockAtom addr len) = block addr (unwrap_or len (width addr))
-side_block (AddressesAtom addrs) = first_host addrs
-side_block _ = every_v4
+abbrev pub side_block : List Iface → Atom → Prefix
+side_block ifaces (BlockAtom addr len) = block addr (unwrap_or len (width addr))
+side_block ifaces atom = first_host (hosts_of ifaces atom)
 
-abbrev pub first_block : List Atom → Prefix
-first_block [] = every_v4
-first_block (atom ∷ _) = side_block atom
+abbrev pub first_block : List Iface → List Atom → Prefix
+first_block ifaces [] = every_v4
+first_block ifaces (atom ∷ _) = side_block ifaces atom
 
 abbrev pub first_port : List Atom → Option (ℕ × ℕ)
 first_port [] = None
@@ -84,7 +84,7 @@ module _ (ifaces : List Iface) (env : Env) where
   side_port (Some value) = first_port (atoms_of (binding_of ifaces env value))
 
   abbrev pub side_of : WrittenSide → Side
-  side_of side = record { net = first_block (atoms_of (binding_of ifaces env side.value)); ports = side_port side.port }
+  side_of side = record { net = first_block ifaces (atoms_of (binding_of ifaces env side.value)); ports = side_port side.port }
 
   -- a map's faults but for the number of its filter's elements
   abbrev pub map_faults : WrittenIface → Option One → WrittenSide → WrittenSide → Option Filter → List ConfFault

@@ -5,7 +5,7 @@ use Rattle.npf_syntax.specs.declared.stmt.Stmt.{Stmt}
 use Rattle.npf_model.specs.declared.iface.Iface.{Iface}
 use Rattle.npf_expand_values.specs.Atom.{Env}
 use Rattle.npf_expand_values.specs.Declarations.{Declared}
-use Rattle.npf_expand_values.specs.Scope.{env_in}
+use Rattle.npf_expand_values.specs.Scope.{env_in, ifaces_in}
 use Rattle.npf_expand_values.specs.Variable.{defined}
 use Rattle.npf_expand.specs.declared.elaborate.State.{State}
 use Rattle.npf_expand.specs.Elaborates.{default_group, gathered, maps_of, named_group, stmt_elements, stmt_faults}
@@ -25,6 +25,7 @@ module _ (ifaces : List Iface) where
       pub maps : new.maps.items ≡ old.maps.items ++ maps_of ifaces declared env stmt
 
     pub record IsStmtRead (old new : State) (stmt : Stmt) : Type 0 where
+      pub run : ifaces_in new.variables ≡ ifaces_in old.variables
       pub env : (text : List ℕ) → env_in new.variables text ≡ env_behind (env_in old.variables) stmt text
       pub met : Meets old.met new.met (stmt_faults ifaces declared (env_in old.variables) old.met.elements stmt)
           (stmt_elements ifaces declared (env_in old.variables) stmt)

@@ -7,7 +7,7 @@ ghost use Rattle.std.specs.List.{flat_map};
 ghost use Rattle.npf_types.specs.declared.span.Span.{Span};
 ghost use Rattle.npf_syntax.specs.declared.stmt.Stmt.{Stmt};
 ghost use Rattle.npf_faults.specs.First.{first_fault};
-ghost use Rattle.npf_expand_values.specs.Scope.{env_in};
+ghost use Rattle.npf_expand_values.specs.Scope.{env_in, ifaces_in};
 ghost use Rattle.npf_expand_values.specs.Source.{declared_by};
 ghost use Rattle.npf_expand.specs.Elaborates.{Elaborates, RefusesTree, procedures_of, stmts_faults};
 ghost use Rattle.npf_expand.specs.Settings.{asks_icmp, settings_of};
@@ -54,42 +54,43 @@ fn expand_for<'a>(
     Ok(state.into_model(alloc, stmts)?)
 }
 
-fn read_stmts<'a>(
+fn read_stmts<'a, 'i>(
     alloc: Global,
-    interfaces: &'a Interfaces<'_>,
+    interfaces: &'a Interfaces<'i>,
     declarations: &Declarations<'a>,
     stmts: &'a [Stmt],
-) -> Result<State<'a>, NoMemory>
+) -> Result<State<'a, 'i>, NoMemory>
     ensures first { IfOk result (λ state. state.met.first
         ≡ first_fault (stmts_faults interfaces.now.list.now (declared_by declarations.now.source) [] 0 stmts.now)) }
     ensures adding { IfOk result (λ state. state.met.first ≡ None
         → Adding interfaces.now.list.now (declared_by declarations.now.source) state stmts.now) }
 {
-    let mut state = State::new(alloc);
+    let mut state = State::new(alloc, interfaces);
     for stmt in stmts {
-        state.step(alloc, interfaces, declarations, stmt)?;
+        state.step(alloc, declarations, stmt)?;
     }
     Ok(state)
 }
 
 /// What was read of a configuration so far.
 #[derive(Drop)]
-pub(crate) struct State<'a> {
-    pub(crate) variables: Variables<'a>,
+pub(crate) struct State<'a, 'i> {
+    pub(crate) variables: Variables<'a, 'i>,
     pub(crate) met: NodeTally,
     pub(crate) groups: Vec<Group>,
     pub(crate) defaults: Vec<Group>,
     pub(crate) maps: Vec<Map>,
 }
 
-impl<'a> State<'a> {
-    fn new(alloc: Global) -> State<'a>
+impl<'a, 'i> State<'a, 'i> {
+    fn new(alloc: Global, interfaces: &'a Interfaces<'i>) -> State<'a, 'i>
         ensures none { (text : List ℕ) → env_in result.variables text ≡ None }
+        ensures run { ifaces_in result.variables ≡ interfaces.now.list.now }
         ensures met { (result.met.first ≡ None) × (result.met.elements ≡ 0) }
         ensures empty { (result.groups.items ≡ []) × (result.defaults.items ≡ []) × (result.maps.items ≡ []) }
     {
         State {
-            variables: Variables::new(alloc),
+            variables: Variables::new(alloc, interfaces),
             met: NodeTally::none(),
             groups: Vec::new(alloc),
             defaults: Vec::new(alloc),
@@ -100,20 +101,13 @@ impl<'a> State<'a> {
     fn step(
         &mut self,
         alloc: Global,
-        interfaces: &'a Interfaces<'_>,
         declarations: &Declarations<'a>,
         stmt: &'a Stmt,
     ) -> Result<(), NoMemory>
-        ensures { OnOk result (IsStmtRead interfaces.now.list.now (declared_by declarations.now.source) self.old self.new stmt.now) }
+        ensures { OnOk result (IsStmtRead (ifaces_in self.old.variables) (declared_by declarations.now.source) self.old self.new stmt.now) }
     {
         match stmt {
-            Stmt::Define { var, values, .. } => self.define(
-                alloc,
-                interfaces,
-                declarations,
-                var,
-                values,
-            ),
+            Stmt::Define { var, values, .. } => self.define(alloc, declarations, var, values),
             Stmt::Map {
                 iface,
                 kind,
@@ -133,10 +127,10 @@ impl<'a> State<'a> {
                     right: right.get(),
                     pass,
                 };
-                self.add_map(alloc, interfaces, declarations, &line, *span)
+                self.add_map(alloc, declarations, &line, *span)
             }
             Stmt::Group { head, items, .. } => {
-                self.add_group(alloc, interfaces, declarations, head, items.as_slice())
+                self.add_group(alloc, declarations, head, items.as_slice())
             }
             Stmt::Set { .. } => Ok(()),
             Stmt::Alg { .. } => Ok(()),
@@ -149,16 +143,14 @@ impl<'a> State<'a> {
     fn define(
         &mut self,
         alloc: Global,
-        interfaces: &'a Interfaces<'_>,
         declarations: &Declarations<'a>,
         var: &'a Var,
         values: &'a Values,
     ) -> Result<(), NoMemory>
-        ensures { OnOk result ((span : Span) → IsStmtRead interfaces.now.list.now (declared_by declarations.now.source) self.old self.new (Stmt.Define var.now values.now span)) }
+        ensures { OnOk result ((span : Span) → IsStmtRead (ifaces_in self.old.variables) (declared_by declarations.now.source) self.old self.new (Stmt.Define var.now values.now span)) }
     {
         let scope = Scope {
             variables: &self.variables,
-            interfaces,
             declarations,
         };
         let fault = scope.definition_fault(values);
@@ -171,17 +163,15 @@ impl<'a> State<'a> {
     fn add_map(
         &mut self,
         alloc: Global,
-        interfaces: &'a Interfaces<'_>,
         declarations: &Declarations<'a>,
         line: &MapLine<'a>,
         span: Span,
     ) -> Result<(), NoMemory>
-        ensures { OnOk result (IsStmtRead interfaces.now.list.now (declared_by declarations.now.source) self.old self.new
+        ensures { OnOk result (IsStmtRead (ifaces_in self.old.variables) (declared_by declarations.now.source) self.old self.new
             (Stmt.Map line.now.iface.now line.now.kind.now line.now.proto.now line.now.left.now line.now.arrow line.now.right.now line.now.pass.now span)) }
     {
         let scope = Scope {
             variables: &self.variables,
-            interfaces,
             declarations,
         };
         let more = pass_count(&scope, alloc, line.pass)?;
@@ -196,16 +186,14 @@ impl<'a> State<'a> {
     fn add_group(
         &mut self,
         alloc: Global,
-        interfaces: &'a Interfaces<'_>,
         declarations: &Declarations<'a>,
         head: &'a GroupHead,
         items: &'a [ItemTree],
     ) -> Result<(), NoMemory>
-        ensures { OnOk result ((span : Span) → IsStmtRead interfaces.now.list.now (declared_by declarations.now.source) self.old self.new (Stmt.Group head.now items.now span)) }
+        ensures { OnOk result ((span : Span) → IsStmtRead (ifaces_in self.old.variables) (declared_by declarations.now.source) self.old self.new (Stmt.Group head.now items.now span)) }
     {
         let scope = Scope {
             variables: &self.variables,
-            interfaces,
             declarations,
         };
         let group = read_group(&scope, alloc, &mut self.met, head, items)?;

@@ -123,7 +123,7 @@ fn addresses_count<'a>(
     ensures { IfOk result (λ count. count ≡ counted (addresses_count (ifaces_of_scope scope.now) (env_of_scope scope.now) addresses.now)) }
 {
     match listed_addresses(addresses) {
-        Some(values) => scope.count(alloc, values),
+        Some(values) => scope.count_hosts(alloc, values),
         None => Ok(0),
     }
 }
@@ -205,7 +205,12 @@ fn address_items<'a>(
     match listed_addresses(addresses) {
         Some(values) => {
             let atoms = scope.atoms(alloc, values)?;
-            let items = items_of_each(alloc, scope.declarations, atoms.as_slice())?;
+            let items = items_of_each(
+                alloc,
+                scope.interfaces(),
+                scope.declarations,
+                atoms.as_slice(),
+            )?;
             Ok(Some(List::of_vec(items)))
         }
         None => Ok(None),

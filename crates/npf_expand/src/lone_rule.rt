@@ -15,7 +15,7 @@ use std::alloc::Global;
 /// What a rule means by itself for a run with these interfaces: no variable is defined, and its tables and procedures are
 /// the model's. A name that is none of theirs has the number 4,294,967,295. Refused with the fault that stands first in the
 /// rule, of two at one place the one with the smaller number, or for want of memory. Its lists have as many elements as are
-/// written there, a function as many as it gives addresses; whether they are too many isn't looked at.
+/// written there, an interface or a function as many as it gives addresses; whether they are too many isn't looked at.
 pub fn expand_rule(
     alloc: Global,
     tree: &RuleTree,
@@ -41,10 +41,9 @@ fn read_rule<'a>(
     ensures elements { IfOk result (λ rule. elements_of rule ≡ elements_alone tree.now interfaces.now.list.now) }
 {
     let declarations = Declarations::of_model(alloc, model)?;
-    let variables = Variables::new(alloc);
+    let variables = Variables::new(alloc, interfaces);
     let scope = Scope {
         variables: &variables,
-        interfaces,
         declarations: &declarations,
     };
     if let Some(fault) = rule_fault(&scope, tree) {

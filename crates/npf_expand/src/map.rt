@@ -173,10 +173,10 @@ fn side_port<'a>(scope: &Scope<'_, 'a, '_>, port: &'a Option<Value>) -> Option<(
 
 #[tactic(auto, using(crate::proofs::FirstAtom::first_block_is))]
 fn side_net<'a>(scope: &Scope<'_, 'a, '_>, value: &'a Value) -> Prefix
-    ensures { result ≡ first_block (atoms_of (binding_of (ifaces_of_scope scope.now) (env_of_scope scope.now) value.now)) }
+    ensures { result ≡ first_block (ifaces_of_scope scope.now) (atoms_of (binding_of (ifaces_of_scope scope.now) (env_of_scope scope.now) value.now)) }
 {
     match scope.first_of_value(value) {
-        Some(atom) => side_block(&atom),
+        Some(atom) => side_block(scope, &atom),
         None => every_v4(),
     }
 }
@@ -196,14 +196,13 @@ fn every_v4() -> Prefix
     block_of(Addr::V4(0), Some(0))
 }
 
-// The block of a side; of a function's addresses the first.
-fn side_block(atom: &Atom) -> Prefix
-    ensures { result ≡ side_block (kept_atom atom.now) }
+// The block of a side; of the addresses of an interface or a function the first.
+fn side_block<'a>(scope: &Scope<'_, 'a, '_>, atom: &Atom<'a>) -> Prefix
+    ensures { result ≡ side_block (ifaces_of_scope scope.now) (kept_atom atom.now) }
 {
     match atom {
         Atom::Block(addr, len) => block_of(*addr, *len),
-        Atom::Addresses(addrs) => first_host(addrs),
-        _ => every_v4(),
+        _ => first_host(scope.interfaces().hosts(atom)),
     }
 }
 

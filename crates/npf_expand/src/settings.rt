@@ -3,9 +3,9 @@ ghost use Rattle.std.specs.Prelude.{◌≡◌, codes};
 ghost use Rattle.std.specs.List.{list_any};
 ghost use Rattle.std.specs.Str.{bytes_eq};
 ghost use Rattle.npf_model.specs.Settings.{with_settings};
-ghost use Rattle.npf_expand.specs.Settings.{algs_in, asks_icmp, settings_in, settings_of, value_set};
+ghost use Rattle.npf_expand.specs.Settings.{algs_in, asks_icmp, choice_of, settings_in, settings_of};
 
-use npf_model::{Parameter, Settings, switch_number, switch_word};
+use npf_model::{Choice, Settings};
 use npf_syntax::{Setting, Stmt};
 
 /// The settings of these statements; of those that set one parameter the last counts.
@@ -25,18 +25,18 @@ fn settings_behind(settings: Settings, stmt: &Stmt) -> Settings
     let Stmt::Set { name, value, .. } = stmt else {
         return settings;
     };
-    match (Parameter::named(name.text.as_slice()), value_set(value)) {
-        (Some(parameter), Some(value)) => settings.with(parameter, value),
-        _ => settings,
+    match choice_of(name.text.as_slice(), value) {
+        Some(choice) => settings.with(choice),
+        None => settings,
     }
 }
 
-fn value_set(value: &Setting) -> Option<bool>
-    ensures { result ≡ value_set value.now }
+fn choice_of(name: &[u8], value: &Setting) -> Option<Choice>
+    ensures { result ≡ choice_of name.now value.now }
 {
     match value {
-        Setting::Word { word, .. } => switch_word(word.text.as_slice()),
-        Setting::Number { number, .. } => switch_number(number.value),
+        Setting::Word { word, .. } => Choice::by_word(name, word.text.as_slice()),
+        Setting::Number { number, .. } => Choice::by_number(name, number.value),
     }
 }
 

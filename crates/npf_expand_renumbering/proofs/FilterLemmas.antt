@@ -1,16 +1,17 @@
 -- Filters without faults are the same with a longer list of interfaces. The places where values stand have no name outside of
 -- npf_expand, so `search` finds which one it is.
-use Rattle.std.{proofs.Common.{◌≡◌, ℕ, ◌+◌, Bool, false, Option, Some, None, List, [], ◌++◌, refl, ap, ◌∙◌}, specs.List.{flat_map, filter_map}}
+use Rattle.std.{proofs.Common.{◌≡◌, ℕ, ◌+◌, Bool, false, Option, Some, None, List, [], ◌∷◌, ◌++◌, refl, ap, ◌∙◌}, specs.List.{flat_map, filter_map}}
 use Rattle.npf_faults.specs.declared.fault.ConfFault.{ConfFault}
-use Rattle.npf_syntax.specs.declared.{filter.{Addresses.Addresses, EndsTree.EndsTree as WrittenEnds, Filter.Filter}, value.Values.Values}
+use Rattle.npf_syntax.specs.declared.{filter.{Addresses.Addresses, EndsTree.EndsTree as WrittenEnds, Filter.Filter}, value.{Value.Value, Values.Values}}
 use Rattle.npf_syntax.specs.declared.filter.Addresses.TheVariants as Written
 use Rattle.npf_syntax.specs.declared.filter.EndsTree.TheVariants as EndsAre
 use Rattle.npf_model.specs.declared.{ends.{AddrItem.AddrItem, Ends.Ends}, iface.Iface.Iface}
 use Rattle.npf_expand_values.specs.{Address.{addresses_count, addresses_faults, address_items, is_excluded, items_of}, Atom.{Binding, Env}}
 use Rattle.npf_expand_values.specs.{Port.{atom_ports, ports_count, ports_faults, ports_of}, Use.{atoms_of, element_count}}
-use Rattle.npf_expand_values.specs.Variable.{binding_of, listed_values, spliced}
+use Rattle.npf_expand_values.specs.{Host.host_count, Variable.{binding_of, each_value_faults, empty_list_at, empty_list_faults, listed_values, spliced}}
+use Rattle.npf_expand_values.specs.declared.role.Role.TheVariants.{AsAddress}
 use Rattle.npf_expand.specs.Rule.{destination_ends, ends_count, ends_faults, ends_of_written, filter_count, filter_faults, filter_rule, part_count, part_faults, source_ends}
-use Rattle.npf_expand_renumbering.proofs.{CleanLemmas.{back, both, front}, IfaceLemmas.KeepsAddresses}
+use Rattle.npf_expand_renumbering.proofs.{CleanLemmas.{back, both, front}, HostLemmas.{all_items_same, counts_same, values_there}, IfaceLemmas.KeepsAddresses}
 use Rattle.npf_expand_renumbering.proofs.ValueLemmas.{each_value_none, each_value_same, listed_none, listed_same}
 
 module _ (ifaces longer : List Iface) where
@@ -42,30 +43,39 @@ module _ (ifaces longer : List Iface) (keeps : KeepsAddresses ifaces longer) (en
       }
 
   module _ (tables : List (List ℕ)) where
+    abbrev each : List Value → List ConfFault
+    each values = flat_map (each_value_faults ifaces env AsAddress) values
+
     addresses_same : (addresses : Addresses) → addresses_faults ifaces env addresses ≡ []
         → IsSame ifaces longer (λ list. addresses_faults list env addresses) (λ list. addresses_count list env addresses)
         (λ list. address_items list env tables addresses) as_it_is
     addresses_same (Written.Any span) none = record { none = refl; counts = refl; means = refl }
     addresses_same (Written.Excluded values span) none =
         let same : spliced longer env (listed_values values) ≡ spliced ifaces env (listed_values values) = search (listed_same ifaces longer keeps env, none) in
+        let there = values_there ifaces longer keeps env (listed_values values) (back (empty_list_faults values) (each (listed_values values)) none) in
         record {
           none = search (listed_none ifaces longer keeps env, none);
-          counts = ap element_count same;
-          means = ap (λ atoms. Some (flat_map (items_of tables) atoms)) same;
+          counts = ap (host_count longer) same ∙ counts_same ifaces longer keeps (spliced ifaces env (listed_values values)) there;
+          means = ap (λ atoms. Some (flat_map (items_of longer tables) atoms)) same
+              ∙ ap (λ (items : List AddrItem). Some items) (all_items_same ifaces longer keeps tables (spliced ifaces env (listed_values values)) there);
         }
     addresses_same (Written.One value span) none =
         let same : binding_of longer env value ≡ binding_of ifaces env value = search (each_value_same ifaces longer keeps env, none) in
+        let there = values_there ifaces longer keeps env (value ∷ []) (both (each_value_faults ifaces env AsAddress value) [] none refl) in
         record {
           none = search (each_value_none ifaces longer keeps env, none);
-          counts = ap (λ (binding : Option Binding). element_count (atoms_of binding ++ [])) same;
-          means = ap (λ (binding : Option Binding). Some (flat_map (items_of tables) (atoms_of binding ++ []))) same;
+          counts = ap (λ (binding : Option Binding). host_count longer (atoms_of binding ++ [])) same ∙ counts_same ifaces longer keeps (spliced ifaces env (value ∷ [])) there;
+          means = ap (λ (binding : Option Binding). Some (flat_map (items_of longer tables) (atoms_of binding ++ []))) same
+              ∙ ap (λ (items : List AddrItem). Some items) (all_items_same ifaces longer keeps tables (spliced ifaces env (value ∷ [])) there);
         }
     addresses_same (Written.List list span) none =
         let same : spliced longer env list.values ≡ spliced ifaces env list.values = search (listed_same ifaces longer keeps env, none) in
+        let there = values_there ifaces longer keeps env list.values (back (empty_list_at list.span list.values) (each list.values) none) in
         record {
           none = search (listed_none ifaces longer keeps env, none);
-          counts = ap element_count same;
-          means = ap (λ atoms. Some (flat_map (items_of tables) atoms)) same;
+          counts = ap (host_count longer) same ∙ counts_same ifaces longer keeps (spliced ifaces env list.values) there;
+          means = ap (λ atoms. Some (flat_map (items_of longer tables) atoms)) same
+              ∙ ap (λ (items : List AddrItem). Some items) (all_items_same ifaces longer keeps tables (spliced ifaces env list.values) there);
         }
 
     ends_same : (ends : Option WrittenEnds) → ends_faults ifaces env ends ≡ []

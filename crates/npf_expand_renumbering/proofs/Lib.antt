@@ -1,6 +1,7 @@
 pub mod CleanLemmas
 pub mod FilterLemmas
 pub mod GroupLemmas
+pub mod HostLemmas
 pub mod IfaceLemmas
 pub mod RuleLemmas
 pub mod StmtLemmas

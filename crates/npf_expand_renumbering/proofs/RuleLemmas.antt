@@ -6,11 +6,11 @@ use Rattle.npf_model.specs.declared.{iface.Iface.Iface, map.{Map.Map, Side.Side}
 use Rattle.npf_model.specs.Numbering.{numbered_map, numbered_on, numbered_rule}
 use Rattle.npf_types.specs.declared.prefix.Prefix.{Prefix}
 use Rattle.npf_expand_values.specs.{Atom.{Binding, Env}, Declarations.Declared, Iface.{iface_faults, on_iface}, Protocol.{one_protocol, one_protocol_faults}}
-use Rattle.npf_expand_values.specs.{Use.atoms_of, Variable.binding_of}
+use Rattle.npf_expand_values.specs.{declared.role.Role.TheVariants.AsAddress, Use.atoms_of, Variable.{binding_of, bound_faults, own_faults}}
 use Rattle.npf_expand.specs.Elaborates.{filter_elements}
 use Rattle.npf_expand.specs.Map.{algo_of, arrow_of_sign, first_block, first_port, map_faults, map_filter_faults, map_of_tree, side_faults, side_of, side_port, side_port_faults}
 use Rattle.npf_expand.specs.Rule.{filter_count, filter_faults, filter_rule, on_faults, rule_faults, rule_of_tree}
-use Rattle.npf_expand_renumbering.proofs.{CleanLemmas.{back, both, front}, IfaceLemmas.KeepsAddresses, ValueLemmas.{single_none, single_same}}
+use Rattle.npf_expand_renumbering.proofs.{CleanLemmas.{back, both, front}, HostLemmas.{bound_there, first_block_same}, IfaceLemmas.KeepsAddresses, ValueLemmas.{single_none, single_same}}
 use Rattle.npf_expand_renumbering.proofs.{WholeLemmas.{IsWhole, on_same}, FilterLemmas.{IsSame, as_it_is, filter_same, no_count}}
 
 abbrev side_with : Prefix → Option (ℕ × ℕ) → Side
@@ -57,12 +57,15 @@ module _ (ifaces longer : List Iface) (keeps : KeepsAddresses ifaces longer) (en
       let rest = side_port_faults ifaces env side.port in
       let alone = front _ rest none in
       let same : binding_of longer env side.value ≡ binding_of ifaces env side.value = search (single_same ifaces longer keeps env, alone) in
+      let there = bound_there ifaces longer keeps side.value (binding_of ifaces env side.value)
+      (back (own_faults ifaces env side.value) (bound_faults ifaces AsAddress side.value (binding_of ifaces env side.value)) alone) in
       let port = port_same side.port (back _ rest none) in
       record {
         none = both _ (side_port_faults longer env side.port) (search (single_none ifaces longer keeps env, alone)) port.none;
         counts = refl;
-        means = ap (λ (binding : Option Binding). side_with (first_block (atoms_of binding)) (side_port longer env side.port)) same
-            ∙ ap (λ (ports : Option (ℕ × ℕ)). side_with (first_block (atoms_of (binding_of ifaces env side.value))) ports) port.means;
+        means = ap (λ (binding : Option Binding). side_with (first_block longer (atoms_of binding)) (side_port longer env side.port)) same
+            ∙ ap (λ (net : Prefix). side_with net (side_port longer env side.port)) (first_block_same ifaces longer keeps (atoms_of (binding_of ifaces env side.value)) there)
+            ∙ ap (λ (ports : Option (ℕ × ℕ)). side_with (first_block ifaces (atoms_of (binding_of ifaces env side.value))) ports) port.means;
       }
 
   pass_same : (tables : List (List ℕ)) (declared : Declared) (pass : Option Filter) → map_filter_faults ifaces env pass ≡ []

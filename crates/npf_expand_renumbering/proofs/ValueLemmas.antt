@@ -6,8 +6,8 @@ use Rattle.npf_model.specs.declared.iface.Iface.{Iface}
 use Rattle.npf_expand_values.specs.{Atom.{Atom, AddressesAtom, Binding, Env}, Iface.{address_faults, iface_faults, iface_name}}
 use Rattle.npf_expand_values.specs.Variable.{bound_faults, single_value_faults, alone_binding, binding_of, defined, definition_faults, each_value_faults, empty_list_faults}
 use Rattle.npf_expand_values.specs.Variable.{is_bound_to_list, is_list, listed_values, own_faults, spliced, unless_refused, value_span}
-use Rattle.npf_expand_values.specs.Use.{atoms_of, use_faults}
-use Rattle.npf_expand_renumbering.proofs.{CleanLemmas.{back, both, each_none, each_same, front}, IfaceLemmas.{KeepsAddresses, still_there}}
+use Rattle.npf_expand_values.specs.{Host.place_faults, Use.atoms_of}
+use Rattle.npf_expand_renumbering.proofs.{CleanLemmas.{back, both, each_none, each_same, front}, HostLemmas.{bound_none, place_none}, IfaceLemmas.{KeepsAddresses, still_there}}
 
 abbrev pub bound : Bool → List Atom → Binding
 bound many atoms = record { many = many; atoms = atoms }
@@ -40,7 +40,7 @@ module _ (ifaces longer : List Iface) (keeps : KeepsAddresses ifaces longer) (en
   pub binding_same : (value : Value) → own_faults ifaces env value ≡ [] → binding_of longer env value ≡ binding_of ifaces env value
   binding_same (Value.Function function iface span) none =
       let name = iface_name env iface in
-      ap (λ addrs. alone_binding (AddressesAtom addrs))
+      ap (λ addrs. alone_binding (AddressesAtom name addrs))
       (keeps function name span (back (iface_faults env iface) (address_faults ifaces function name span) none))
   binding_same (Value.Var var span) none = refl
   binding_same (Value.Number first last span) none = refl
@@ -77,14 +77,16 @@ module _ (ifaces longer : List Iface) (keeps : KeepsAddresses ifaces longer) (en
   module _ (role : _) where
     pub each_value_none : (value : Value) → each_value_faults ifaces env role value ≡ [] → each_value_faults longer env role value ≡ []
     each_value_none value none =
-        let fits = λ (binding : Option Binding). use_faults role (value_span value) (atoms_of binding) in
-        let own = front (own_faults ifaces env value) (fits (binding_of ifaces env value)) none in
-        both (own_faults longer env value) (fits (binding_of longer env value)) (own_none value own)
-        (ap fits (binding_same value own) ∙ back (own_faults ifaces env value) (fits (binding_of ifaces env value)) none)
+        let fits = λ (list : List Iface) (binding : Option Binding). place_faults list role (value_span value) (atoms_of binding) in
+        let bound = binding_of ifaces env value in
+        let own = front (own_faults ifaces env value) (fits ifaces bound) none in
+        both (own_faults longer env value) (fits longer (binding_of longer env value)) (own_none value own)
+        (ap (fits longer) (binding_same value own)
+        ∙ place_none ifaces longer keeps role (value_span value) (atoms_of bound) (back (own_faults ifaces env value) (fits ifaces bound) none))
 
     pub each_value_same : (value : Value) → each_value_faults ifaces env role value ≡ [] → binding_of longer env value ≡ binding_of ifaces env value
     each_value_same value none =
-        binding_same value (front (own_faults ifaces env value) (use_faults role (value_span value) (atoms_of (binding_of ifaces env value))) none)
+        binding_same value (front (own_faults ifaces env value) (place_faults ifaces role (value_span value) (atoms_of (binding_of ifaces env value))) none)
 
     pub listed_none : (empty : List ConfFault) (values : List Value) → empty ++ flat_map (each_value_faults ifaces env role) values ≡ []
         → empty ++ flat_map (each_value_faults longer env role) values ≡ []
@@ -101,10 +103,11 @@ module _ (ifaces longer : List Iface) (keeps : KeepsAddresses ifaces longer) (en
 
     pub single_none : (value : Value) → single_value_faults ifaces env role value ≡ [] → single_value_faults longer env role value ≡ []
     single_none value none =
-        let own = front (own_faults ifaces env value) (bound_faults role value (binding_of ifaces env value)) none in
-        both (own_faults longer env value) (bound_faults role value (binding_of longer env value)) (own_none value own)
-        (ap (bound_faults role value) (binding_same value own)
-        ∙ back (own_faults ifaces env value) (bound_faults role value (binding_of ifaces env value)) none)
+        let bound = binding_of ifaces env value in
+        let own = front (own_faults ifaces env value) (bound_faults ifaces role value bound) none in
+        both (own_faults longer env value) (bound_faults longer role value (binding_of longer env value)) (own_none value own)
+        (ap (bound_faults longer role value) (binding_same value own)
+        ∙ bound_none ifaces longer keeps role value bound (back (own_faults ifaces env value) (bound_faults ifaces role value bound) none))
 
     pub single_same : (value : Value) → single_value_faults ifaces env role value ≡ [] → binding_of longer env value ≡ binding_of ifaces env value
-    single_same value none = binding_same value (front (own_faults ifaces env value) (bound_faults role value (binding_of ifaces env value)) none)
+    single_same value none = binding_same value (front (own_faults ifaces env value) (bound_faults ifaces role value (binding_of ifaces env value)) none)

@@ -1,15 +1,18 @@
 -- Where no definition has a fault each name that is bound has values, and one where it isn't bound to a list. So an interface
 -- that has no fault has a name.
 use Rattle.std.proofs.Common.{◌≡◌, ℕ, Bool, true, false, not, ◌||◌, Option, Some, None, List, [], ◌∷◌, ◌++◌, refl, sym, ap, ◌∙◌, append-nil, if◌then◌else◌}
-use Rattle.std.{proofs.Math.Path.fun_ext, specs.{List.flat_map, Str.bytes_eq}}
+use Rattle.std.{proofs.Math.Path.fun_ext, specs.{List.{flat_map, list_any}, Str.bytes_eq}, proofs.lemmas.Bool.or_parts}
 use Rattle.npf_types.specs.{declared.span.Span.Span, NameText.is_name}
-use Rattle.npf_faults.specs.{declared.fault.{ConfFault.ConfFault, Fault.TheVariants.Expected}, First.fault_if}
+use Rattle.npf_faults.specs.{declared.fault.{ConfFault.ConfFault, Fault.TheVariants.Expected}, First.{fault_at, fault_if}}
 use Rattle.npf_syntax.specs.declared.{value.{IfaceTree.IfaceTree as WrittenIface, Value.Value, Values.Values}, word.Var.Var}
 use Rattle.npf_syntax.specs.declared.value.IfaceTree.TheVariants as IfaceIs
 use Rattle.npf_model.specs.{declared.iface.Iface.Iface, Numbering.numbered_on}
 use Rattle.npf_expand_values.specs.Atom.{Atom, NumberAtom, RangeAtom, WordAtom, StringAtom, BlockAtom, TableAtom, AddressesAtom, Binding, Env}
-use Rattle.npf_expand_values.specs.{Iface.{bound_name, iface_faults, iface_name, name_text, on_iface, on_text}, Use.{atoms_of, undefined_faults}}
+use Rattle.npf_expand_values.specs.{Leader.{is_alike, name_text, shared_name}, Iface.{bound_name, iface_faults, iface_name, on_iface, on_text}}
+use Rattle.npf_expand_values.specs.{Use.{atoms_of, is_unfit, undefined_faults, use_faults, word_faults}}
 use Rattle.npf_expand_values.specs.Variable.{Definition, binding_of, defined, definition_faults, empty_list_at, env_of, is_bound_to_list, is_list, listed_values, own_faults, spliced}
+use Rattle.npf_expand_values.specs.declared.role.Role.TheVariants.{AsInterface}
+use Rattle.npf_expand.proofs.ElementLemmas.{untold}
 use Rattle.npf_expand_renumbering.proofs.{CleanLemmas.front, IfaceLemmas.KeepsAddresses, ValueLemmas.{bound, defined_is, defined_same}}
 
 -- there are values, and more than one only where a list is
@@ -115,12 +118,26 @@ module _ (var : Var) (span : Span) where
   atom_name (RangeAtom _ _) none = cc
   atom_name (BlockAtom _ _) none = cc
   atom_name (TableAtom _) none = cc
-  atom_name (AddressesAtom _) none = cc
+  atom_name (AddressesAtom (Some text) addrs) none = (text, refl)
+  atom_name (AddressesAtom None addrs) none = cc
+
+  -- of values that are used the first can be
+  first_none : (atom : Atom) (atoms : List Atom) → use_faults AsInterface span (atom ∷ atoms) ≡ [] → bound_faults (Some (bound false (atom ∷ []))) ≡ []
+  first_none atom atoms none =
+      let fits = untold (list_any (is_unfit AsInterface) (atom ∷ atoms)) span Expected (front _ (flat_map (word_faults AsInterface) (atom ∷ atoms)) none) in
+      ap (λ unfit. fault_if (unfit || false) span Expected ++ []) (or_parts (is_unfit AsInterface atom) (list_any (is_unfit AsInterface) atoms) fits).0
+
+  shared : (atom : Atom) (atoms : List Atom) (alike : Bool) → is_alike (atom ∷ atoms) ≡ alike
+      → (if not alike then fault_at span Expected else use_faults AsInterface span (atom ∷ atoms)) ≡ [] → (text : List ℕ) × (shared_name (atom ∷ atoms) ≡ Some text)
+  shared atom atoms true is none =
+      let named = atom_name atom (first_none atom atoms none) in
+      (named.0, ap (λ alike. if alike then name_text atom else None) is ∙ named.1)
+  shared atom atoms false is none = cc
 
   single_name : (many : Bool) (atoms : List Atom) → bound_faults (Some (bound many atoms)) ≡ [] → is_full many atoms ≡ true
       → (text : List ℕ) × (bound_name (Some (bound many atoms)) ≡ Some text)
   single_name many [] none full = cc
-  single_name true (atom ∷ atoms) none full = cc
+  single_name true (atom ∷ atoms) none full = shared atom atoms (is_alike (atom ∷ atoms)) refl none
   single_name false (atom ∷ _ ∷ _) none full = cc
   single_name false (atom ∷ []) none full = atom_name atom none
 

@@ -7,12 +7,14 @@ use Rattle.std.proofs.lemmas.List.{length-reverse, length_push, map-append, reve
 use Rattle.std.proofs.lemmas.{List.Elements.{All-append, All-weaker, All-head, All-push, All-tail}, Option.{slice_get_within, slice_get-get_or}}
 use Rattle.std.proofs.Math.Seq.{get_or-append_seam}
 use Rattle.npf_shelf.proofs.OptionLemmas.{Some-injective}
-use Rattle.npf_expand_values.specs.declared.{atom.Atom.Atom as Kept, summary.Summary.Summary, variable.{Bound.Bound, Def.Def, Part.Part}}
+use Rattle.npf_expand_values.specs.declared.{atom.Atom.Atom as Kept, leader.Leader.Leader, summary.Summary.Summary, variable.{Bound.Bound, Def.Def, Part.Part}}
 use Rattle.npf_expand_values.specs.declared.variable.{Part.TheVariants.{Single, Defined}, Spliced.Spliced, Variables.Variables}
 use Rattle.npf_expand_values.specs.Atom.{Atom, Binding, kept_atom}
-use Rattle.npf_expand_values.specs.Kept.{AreDefs, AreKeptBy, AreKeptIn, AreSpliced, IsBound, IsDefBehind, IsOfFirst, bindings_of}
-use Rattle.npf_expand_values.specs.{Kept.{def_binding, first_atom, kept_parts, part_atoms, parts_atoms}, Scope.{at_place, env_in, known}}
-use Rattle.npf_expand_values.{specs.{Summary.{joined_summary, summary_of}, Use.atoms_of}, proofs.SummaryLemmas.summary_of-append}
+use Rattle.npf_expand_values.specs.Kept.{AreDefs, AreKeptBy, AreKeptIn, AreSpliced, IsBound, IsBoundWhere, IsDefBehind, KnownNames, IsOfFirst, bindings_of}
+use Rattle.npf_expand_values.specs.{Kept.{def_binding, first_atom, kept_parts, part_atoms, parts_atoms}, Scope.{at_place, env_in, ifaces_in, known}}
+use Rattle.npf_model.specs.declared.iface.Iface.{Iface}
+use Rattle.npf_expand_values.specs.{Leader.{is_alike, joined_leader}, Summary.{joined_summary, summary_of}, Use.atoms_of}
+use Rattle.npf_expand_values.proofs.{LeaderLemmas.{joined_alike, joined_first}, SummaryLemmas.summary_of-append}
 
 pub slice_get-kept : {X : Type 0} (xs : List X) (x : X) (i : ℕ) → i < length xs → slice_get (xs ++ x ∷ []) i ≡ slice_get xs i
 slice_get-kept xs x i within =
@@ -41,30 +43,30 @@ of_first_more n m (Single atom) within older = tt
 of_first_more n m (Defined place) within older = omega (arith, within, older)
 
 -- the definition at a place, where those before it and behind it bind their names so
-pub record IsDefAt (bindings : List Binding) (place : ℕ) (def : Def) : Type 0 where
+pub record IsDefAt (ifaces : List Iface) (bindings : List Binding) (place : ℕ) (def : Def) : Type 0 where
   pub binding : slice_get bindings place ≡ Some (def_binding bindings def)
-  pub behind : IsDefBehind bindings def
+  pub behind : IsDefBehind ifaces bindings def
   pub older : All (IsOfFirst place) (kept_parts def.values)
 
 def_same : (bindings : List Binding) (more : Binding) (def : Def) → All (IsOfFirst (length bindings)) (kept_parts def.values)
     → def_binding (bindings ++ more ∷ []) def ≡ def_binding bindings def
 def_same bindings more def older = ap (λ (atoms : List Atom). record { many = def.many; atoms = atoms }) (parts_same bindings more (kept_parts def.values) older)
 
-def_behind_more : (bindings : List Binding) (more : Binding) (def : Def) → IsDefBehind bindings def → IsDefBehind (bindings ++ more ∷ []) def
-def_behind_more bindings more def is =
+def_behind_more : (ifaces : List Iface) (bindings : List Binding) (more : Binding) (def : Def) → IsDefBehind ifaces bindings def → IsDefBehind ifaces (bindings ++ more ∷ []) def
+def_behind_more ifaces bindings more def is =
     let same = sym (parts_same bindings more (kept_parts def.values) is.older) in
     record {
       older = All-weaker (IsOfFirst (length bindings)) (IsOfFirst (length (bindings ++ more ∷ [])))
           (λ part. of_first_more (length bindings) (length (bindings ++ more ∷ [])) part (let longer = length_push bindings more in omega (arith, longer)))
           (kept_parts def.values) is.older;
-      kept = subst (AreKeptIn def.values) same is.kept;
+      kept = subst (AreKeptIn ifaces def.values) same is.kept;
       alone = λ one. subst (λ (atoms : List Atom). length atoms ≤ 1) same (is.alone one);
     }
 
-def_at-more : (bindings : List Binding) (more : Binding) (place : ℕ) (def : Def) → IsDefAt bindings place def → IsDefAt (bindings ++ more ∷ []) place def
-def_at-more bindings more place def is = record {
+def_at-more : (ifaces : List Iface) (bindings : List Binding) (more : Binding) (place : ℕ) (def : Def) → IsDefAt ifaces bindings place def → IsDefAt ifaces (bindings ++ more ∷ []) place def
+def_at-more ifaces bindings more place def is = record {
   binding = slice_get-kept bindings more place (slice_get_within bindings place _ is.binding) ∙ is.binding ∙ ap Some (sym (def_same bindings more def is.behind.older));
-  behind = def_behind_more bindings more def is.behind;
+  behind = def_behind_more ifaces bindings more def is.behind;
   older = is.older;
 }
 
@@ -72,42 +74,42 @@ pub length-bindings_of : (defs : List Def) → length (bindings_of defs) ≡ len
 length-bindings_of [] = refl
 length-bindings_of (newest ∷ older) = length_push (bindings_of older) (def_binding (bindings_of older) newest) ∙ ap (λ n. n + 1) (length-bindings_of older) ∙ omega arith
 
-def_at_last : (older : List Def) (newest : Def) → IsDefBehind (bindings_of older) newest → IsDefAt (bindings_of (newest ∷ older)) (length older) newest
-def_at_last older newest is =
+def_at_last : (ifaces : List Iface) (older : List Def) (newest : Def) → IsDefBehind ifaces (bindings_of older) newest → IsDefAt ifaces (bindings_of (newest ∷ older)) (length older) newest
+def_at_last ifaces older newest is =
     let bindings = bindings_of older in
     let more = def_binding bindings newest in
     let count = length-bindings_of older in
     record {
       binding = subst (λ n. slice_get (bindings ++ more ∷ []) n ≡ Some more) count (slice_get-pushed bindings more) ∙ ap Some (sym (def_same bindings more newest is.older));
-      behind = def_behind_more bindings more newest is;
+      behind = def_behind_more ifaces bindings more newest is;
       older = subst (λ n. All (IsOfFirst n) (kept_parts newest.values)) count is.older;
     }
 
 below_or : (n m : ℕ) → n < m + 1 → (n < m) ⊎ (n ≡ m)
 below_or n m below = grind arith
 
-def_at_or : (older : List Def) (newest : Def) (place : ℕ) (def : Def) → IsDefBehind (bindings_of older) newest → slice_get (reverse older ++ newest ∷ []) place ≡ Some def
-    → ((slice_get (reverse older) place ≡ Some def) → IsDefAt (bindings_of older) place def) → (place < length older) ⊎ (place ≡ length older)
-    → IsDefAt (bindings_of (newest ∷ older)) place def
-def_at_or older newest place def behind there earlier (inl below) = def_at-more (bindings_of older) _ place def (earlier
+def_at_or : (ifaces : List Iface) (older : List Def) (newest : Def) (place : ℕ) (def : Def) → IsDefBehind ifaces (bindings_of older) newest → slice_get (reverse older ++ newest ∷ []) place ≡ Some def
+    → ((slice_get (reverse older) place ≡ Some def) → IsDefAt ifaces (bindings_of older) place def) → (place < length older) ⊎ (place ≡ length older)
+    → IsDefAt ifaces (bindings_of (newest ∷ older)) place def
+def_at_or ifaces older newest place def behind there earlier (inl below) = def_at-more ifaces (bindings_of older) _ place def (earlier
     (sym (slice_get-kept (reverse older) newest place (subst (λ n. place < n) (sym (length-reverse older)) below)) ∙ there))
-def_at_or older newest place def behind there earlier (inr last) =
+def_at_or ifaces older newest place def behind there earlier (inr last) =
     let same : newest ≡ def = Some-injective newest def (sym (slice_get-pushed (reverse older) newest)
     ∙ ap (slice_get (reverse older ++ newest ∷ [])) (length-reverse older ∙ sym last) ∙ there) in
-    subst (IsDefAt (bindings_of (newest ∷ older)) place) same
-    (subst (λ n. IsDefAt (bindings_of (newest ∷ older)) n newest) (sym last) (def_at_last older newest behind))
+    subst (IsDefAt ifaces (bindings_of (newest ∷ older)) place) same
+    (subst (λ n. IsDefAt ifaces (bindings_of (newest ∷ older)) n newest) (sym last) (def_at_last ifaces older newest behind))
 
-pub def_at : (defs : List Def) (place : ℕ) (def : Def) → AreDefs defs → slice_get (reverse defs) place ≡ Some def → IsDefAt (bindings_of defs) place def
-def_at [] place def are there = absurd (let none : None ≡ Some def = there in cc)
-def_at (newest ∷ older) place def are there =
+pub def_at : (ifaces : List Iface) (defs : List Def) (place : ℕ) (def : Def) → AreDefs ifaces defs → slice_get (reverse defs) place ≡ Some def → IsDefAt ifaces (bindings_of defs) place def
+def_at ifaces [] place def are there = absurd (let none : None ≡ Some def = there in cc)
+def_at ifaces (newest ∷ older) place def are there =
     let at : slice_get (reverse older ++ newest ∷ []) place ≡ Some def = subst (λ (defs : List Def). slice_get defs place ≡ Some def) (reverse-append (newest ∷ []) older) there in
     let below : place < length older + 1 = subst (λ n. place < n) (length_push (reverse older) newest ∙ ap (λ n. n + 1) (length-reverse older)) (slice_get_within _ place def at) in
-    def_at_or older newest place def are.0 at (def_at older place def are.1) (below_or place (length older) below)
+    def_at_or ifaces older newest place def are.0 at (def_at ifaces older place def are.1) (below_or place (length older) below)
 
 -- the same, of variables
-pub known_at : (variables : Variables) (place : ℕ) (def : Def) → slice_get variables.defs.items place ≡ Some def → IsDefAt (known variables) place def
+pub known_at : (variables : Variables) (place : ℕ) (def : Def) → slice_get variables.defs.items place ≡ Some def → IsDefAt (ifaces_in variables) (known variables) place def
 known_at variables place def there =
-    def_at (reverse variables.defs.items) place def variables.behind
+    def_at (ifaces_in variables) (reverse variables.defs.items) place def variables.behind
     (subst (λ (defs : List Def). slice_get defs place ≡ Some def) (sym (reverse-reverse variables.defs.items)) there)
 
 pub length-known : (variables : Variables) → length (known variables) ≡ length variables.defs.items
@@ -120,34 +122,27 @@ only_part bindings parts part one = sym (ap (parts_atoms bindings) one ∙ appen
 pub only_older : (count : ℕ) (parts : List Part) (part : Part) → parts ≡ part ∷ [] → All (IsOfFirst count) parts → IsOfFirst count part
 only_older count parts part one older = All-head (IsOfFirst count) part [] (subst (All (IsOfFirst count)) one older)
 
-first_atom-append : (xs ys : List Atom) → first_atom (xs ++ ys) ≡ option_or (first_atom xs) (first_atom ys)
-first_atom-append [] ys = refl
-first_atom-append (x ∷ xs) ys = refl
-
-option_map-or : {X Y : Type 0} (f : X → Y) (a b : Option X) → option_map f (option_or a b) ≡ option_or (option_map f a) (option_map f b)
-option_map-or f None b = refl
-option_map-or f (Some a) b = refl
-
 -- values behind others
-pub kept_both : (a b : Option Kept) (s t : Summary) (xs ys : List Atom) → AreKeptBy a s xs → AreKeptBy b t ys
-    → AreKeptBy (option_or a b) (joined_summary s t) (xs ++ ys)
-kept_both a b s t xs ys one other = record {
-  first = option_map-or kept_atom a b ∙ ap (λ f. option_or f (option_map kept_atom b)) one.first ∙ ap (option_or (first_atom xs)) other.first ∙ sym (first_atom-append xs ys);
-  summed = ap (λ u. joined_summary u t) one.summed ∙ ap (joined_summary (summary_of xs)) other.summed ∙ sym (summary_of-append xs ys);
+pub kept_both : (ifaces : List Iface) (a b : Leader) (s t : Summary) (xs ys : List Atom) → AreKeptBy ifaces a s xs → AreKeptBy ifaces b t ys
+    → AreKeptBy ifaces (joined_leader a b) (joined_summary s t) (xs ++ ys)
+kept_both ifaces a b s t xs ys one other = record {
+  first = joined_first a b xs ys one.first other.first;
+  alike = joined_alike a b xs ys one.first other.first one.alike other.alike;
+  summed = ap (λ u. joined_summary u t) one.summed ∙ ap (joined_summary (summary_of ifaces xs)) other.summed ∙ sym (summary_of-append ifaces xs ys);
 }
 
 -- the values of a part behind others
-pub spliced_more : (bindings : List Binding) (values next : Spliced) (atoms : List Atom) (bound : Bound) (binding : Binding)
-    → AreSpliced bindings values atoms → IsBound bindings bound binding → next.parts.items ≡ values.parts.items ++ bound.part ∷ []
-    → next.first ≡ option_or values.first bound.first → next.summary ≡ joined_summary values.summary bound.summary → AreSpliced bindings next (atoms ++ binding.atoms)
-spliced_more bindings values next atoms bound binding are is pushed first summed = record {
+pub spliced_more : (ifaces : List Iface) (bindings : List Binding) (values next : Spliced) (atoms : List Atom) (bound : Bound) (binding : Binding)
+    → AreSpliced ifaces bindings values atoms → IsBound (record { ifaces = ifaces; bindings = bindings }) bound binding → next.parts.items ≡ values.parts.items ++ bound.part ∷ []
+    → next.leader ≡ joined_leader values.leader bound.leader → next.summary ≡ joined_summary values.summary bound.summary → AreSpliced ifaces bindings next (atoms ++ binding.atoms)
+spliced_more ifaces bindings values next atoms bound binding are is pushed first summed = record {
   means = ap (parts_atoms bindings) pushed ∙ flat_map-append (part_atoms bindings) values.parts.items (bound.part ∷ [])
       ∙ ap (λ (front : List Atom). front ++ parts_atoms bindings (bound.part ∷ [])) are.means
       ∙ ap (λ (rest : List Atom). atoms ++ rest) (append-nil (part_atoms bindings bound.part) ∙ is.means);
   older = subst (All (IsOfFirst (length bindings))) (sym pushed) (All-push (IsOfFirst (length bindings)) values.parts.items bound.part are.older is.older);
-  kept = subst (λ (f : Option Kept). AreKeptBy f next.summary (atoms ++ binding.atoms)) (sym first)
-      (subst (λ (s : Summary). AreKeptBy (option_or values.first bound.first) s (atoms ++ binding.atoms)) (sym summed)
-      (kept_both values.first bound.first values.summary bound.summary atoms binding.atoms are.kept is.kept));
+  kept = subst (λ (f : Leader). AreKeptBy ifaces f next.summary (atoms ++ binding.atoms)) (sym first)
+      (subst (λ (s : Summary). AreKeptBy ifaces (joined_leader values.leader bound.leader) s (atoms ++ binding.atoms)) (sym summed)
+      (kept_both ifaces values.leader bound.leader values.summary bound.summary atoms binding.atoms are.kept is.kept));
 }
 
 known-put : (defs : List Def) (def : Def) → bindings_of (reverse (defs ++ def ∷ [])) ≡ bindings_of (reverse defs) ++ def_binding (bindings_of (reverse defs)) def ∷ []
@@ -160,8 +155,8 @@ at_place-kept bindings more (Some k) within = slice_get-kept bindings more k (wi
 
 -- one definition more
 module _ (variables : Variables) (def : Def) (defs : List Def) (pushed : defs ≡ variables.defs.items ++ def ∷ []) where
-  pub pushed_behind : IsDefBehind (known variables) def → AreDefs (reverse defs)
-  pushed_behind behind = subst AreDefs (sym (ap (λ (l : List Def). reverse l) pushed ∙ reverse-append variables.defs.items (def ∷ []))) (behind, variables.behind)
+  pub pushed_behind : IsDefBehind (ifaces_in variables) (known variables) def → AreDefs (ifaces_in variables) (reverse defs)
+  pushed_behind behind = subst (AreDefs (ifaces_in variables)) (sym (ap (λ (l : List Def). reverse l) pushed ∙ reverse-append variables.defs.items (def ∷ []))) (behind, variables.behind)
 
   pub pushed_within : (k : ℕ) → k < length variables.defs.items + 1 → k < length defs
   pushed_within k below = subst (λ n. k < n) (sym (ap length pushed ∙ length_push variables.defs.items def)) below
@@ -201,14 +196,15 @@ pub front_of_first : (count : ℕ) (front : List Part) (last : Part) → All (Is
 front_of_first count front last older = λ k d within.
     subst (IsOfFirst count) (get_or_append_left front (last ∷ []) d k within) (older k d (let more = length_push front last in omega (arith, within, more)))
 
-pub replaced_older : (bindings : List Binding) (front : List Part) (place : ℕ) (def : Def) → IsDefAt bindings place def → All (IsOfFirst (length bindings)) (front ++ Defined place ∷ [])
+pub replaced_older : (ifaces : List Iface) (bindings : List Binding) (front : List Part) (place : ℕ) (def : Def) → IsDefAt ifaces bindings place def
+    → All (IsOfFirst (length bindings)) (front ++ Defined place ∷ [])
     → All (IsOfFirst (length bindings)) (front ++ kept_parts def.values)
-replaced_older bindings front place def is older =
+replaced_older ifaces bindings front place def is older =
     All-append (IsOfFirst (length bindings)) front (kept_parts def.values) (front_of_first (length bindings) front (Defined place) older) is.behind.older
 
-pub replaced_means : (bindings : List Binding) (front : List Part) (place : ℕ) (def : Def) → IsDefAt bindings place def
+pub replaced_means : (ifaces : List Iface) (bindings : List Binding) (front : List Part) (place : ℕ) (def : Def) → IsDefAt ifaces bindings place def
     → parts_atoms bindings (front ++ Defined place ∷ []) ≡ parts_atoms bindings (front ++ kept_parts def.values)
-replaced_means bindings front place def is =
+replaced_means ifaces bindings front place def is =
     flat_map-append (part_atoms bindings) front (Defined place ∷ [])
     ∙ ap (λ (rest : List Atom). parts_atoms bindings front ++ rest) (append-nil (part_atoms bindings (Defined place)) ∙ ap atoms_of is.binding)
     ∙ sym (flat_map-append (part_atoms bindings) front (kept_parts def.values))
@@ -224,14 +220,20 @@ flat_map-more f xs i x d within is =
     ap (flat_map f) (take_more xs i d within) ∙ flat_map-append f (take i xs) (get_or xs i d ∷ [])
     ∙ ap (λ rest. flat_map f (take i xs) ++ rest) (append-nil (f (get_or xs i d)) ∙ ap f (sym is))
 
+-- what follows of a binding follows where one is known
+pub bound_where : (P : Option Binding → Type 0) (known : KnownNames) (bound : Bound) (o : Option Binding) → IsBoundWhere known (Some bound) o
+    → ((binding : Binding) → IsBound known bound binding → P (Some binding)) → P o
+bound_where P known bound None is follows = absurd is
+bound_where P known bound (Some binding) is follows = follows binding is
+
 -- a definition of values that were spliced
-pub spliced_behind : (bindings : List Binding) (def : Def) (values : Spliced) (atoms : List Atom) → kept_parts def.values ≡ values.parts.items
-    → AreKeptIn def.values atoms → AreSpliced bindings values atoms → (def.many ≡ false → length atoms ≤ 1) → IsDefBehind bindings def
-spliced_behind bindings def values atoms same kept are alone =
+pub spliced_behind : (ifaces : List Iface) (bindings : List Binding) (def : Def) (values : Spliced) (atoms : List Atom) → kept_parts def.values ≡ values.parts.items
+    → AreKeptIn ifaces def.values atoms → AreSpliced ifaces bindings values atoms → (def.many ≡ false → length atoms ≤ 1) → IsDefBehind ifaces bindings def
+spliced_behind ifaces bindings def values atoms same kept are alone =
     let means : parts_atoms bindings (kept_parts def.values) ≡ atoms = ap (parts_atoms bindings) same ∙ are.means in
     record {
       older = subst (All (IsOfFirst (length bindings))) (sym same) are.older;
-      kept = subst (AreKeptIn def.values) (sym means) kept;
+      kept = subst (AreKeptIn ifaces def.values) (sym means) kept;
       alone = λ one. subst (λ (l : List Atom). length l ≤ 1) (sym means) (alone one);
     }
 

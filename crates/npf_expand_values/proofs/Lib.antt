@@ -1,6 +1,7 @@
 pub mod FaultLemmas
 pub mod IfaceLemmas
 pub mod KeptLemmas
+pub mod LeaderLemmas
 pub mod MessageLemmas
 pub mod NameLemmas
 pub mod PartSize

@@ -1,4 +1,4 @@
--- The addresses of a rule: blocks, tables, and functions, of which every address counts.
+-- The addresses of a rule: blocks, tables, and interfaces and functions, of which every address counts.
 use Rattle.std.specs.Prelude.{ℕ, Bool, true, false, unwrap_or, Option, Some, None, List, [], ◌∷◌, ◌++◌, map}
 use Rattle.std.specs.List.{flat_map}
 use Rattle.std.specs.Option.{option_map}
@@ -13,9 +13,9 @@ use Rattle.npf_model.specs.declared.ends.AddrItem.{AddrItem}
 use Rattle.npf_model.specs.declared.ends.AddrItem.TheVariants.{Net, InTable}
 use Rattle.npf_model.specs.declared.iface.Iface.{Iface}
 use Rattle.npf_expand_values.specs.declared.role.Role.TheVariants.{AsAddress}
-use Rattle.npf_expand_values.specs.Atom.{Atom, BlockAtom, TableAtom, AddressesAtom, Env}
+use Rattle.npf_expand_values.specs.Atom.{Atom, BlockAtom, TableAtom, Env}
 use Rattle.npf_expand_values.specs.Declarations.{table_number}
-use Rattle.npf_expand_values.specs.Use.{element_count}
+use Rattle.npf_expand_values.specs.Host.{host_count, hosts_of}
 use Rattle.npf_expand_values.specs.Variable.{each_value_faults, empty_list_at, empty_list_faults, listed_values, spliced}
 
 -- one address as a block
@@ -23,11 +23,10 @@ abbrev pub host_item : Addr → AddrItem
 host_item addr = Net (block addr (width addr))
 
 -- what a value is among the addresses of a rule; `tables` are the names of the configuration's tables
-abbrev pub items_of : List (List ℕ) → Atom → List AddrItem
-items_of tables (BlockAtom addr len) = Net (block addr (unwrap_or len (width addr))) ∷ []
-items_of tables (TableAtom name) = InTable (table_number tables name) ∷ []
-items_of tables (AddressesAtom addrs) = map host_item addrs
-items_of tables _ = []
+abbrev pub items_of : List Iface → List (List ℕ) → Atom → List AddrItem
+items_of ifaces tables (BlockAtom addr len) = Net (block addr (unwrap_or len (width addr))) ∷ []
+items_of ifaces tables (TableAtom name) = InTable (table_number tables name) ∷ []
+items_of ifaces tables atom = map host_item (hosts_of ifaces atom)
 
 -- whether the values that are listed are those that an address must not have
 abbrev pub is_excluded : Addresses → Bool
@@ -50,8 +49,8 @@ module _ (ifaces : List Iface) (env : Env) where
 
   -- how many elements are listed
   abbrev pub addresses_count : Addresses → ℕ
-  addresses_count addresses = element_count (spliced ifaces env (unwrap_or (listed_addresses addresses) []))
+  addresses_count addresses = host_count ifaces (spliced ifaces env (unwrap_or (listed_addresses addresses) []))
 
   -- none where any address is asked for
   abbrev pub address_items : List (List ℕ) → Addresses → Option (List AddrItem)
-  address_items tables addresses = option_map (λ values. flat_map (items_of tables) (spliced ifaces env values)) (listed_addresses addresses)
+  address_items tables addresses = option_map (λ values. flat_map (items_of ifaces tables) (spliced ifaces env values)) (listed_addresses addresses)

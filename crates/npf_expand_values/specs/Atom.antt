@@ -1,6 +1,7 @@
 -- What a variable stands for: values in which no variable is left. A function is the addresses that it gives where it is
 -- written, so an atom means the same wherever its variable is used.
 use Rattle.std.specs.Prelude.{ℕ, Bool, Option, List}
+use Rattle.std.specs.Option.{option_map}
 use Rattle.npf_types.specs.declared.address.Addr.{Addr}
 use Rattle.npf_types.specs.declared.span.Span.{Span}
 use Rattle.npf_expand_values.specs.declared.atom.Atom.{Atom as Kept}
@@ -13,7 +14,8 @@ pub data Atom : Type 0 where
   StringAtom : (text : List ℕ) → Atom
   BlockAtom : (addr : Addr) (len : Option ℕ) → Atom
   TableAtom : (name : List ℕ) → Atom
-  AddressesAtom : (addrs : List Addr) → Atom
+  -- the interface's name is kept: where an interface is asked for, its addresses stand for it
+  AddressesAtom : (iface : Option (List ℕ)) (addrs : List Addr) → Atom
   deriving IsSet as Atom-set
 
 -- what a name is bound to: its values, and whether they are a list. Only a name whose definition is refused is bound to none.
@@ -33,4 +35,4 @@ kept_atom (Kept.Word word) = WordAtom word.now.text word.now.span
 kept_atom (Kept.Str string) = StringAtom string.now.text
 kept_atom (Kept.Block addr len) = BlockAtom addr len
 kept_atom (Kept.Table name) = TableAtom name.now.text
-kept_atom (Kept.Addresses addrs) = AddressesAtom addrs.now
+kept_atom (Kept.Addresses iface addrs) = AddressesAtom (option_map (λ name. name.now) iface) addrs.now

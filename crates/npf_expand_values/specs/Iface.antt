@@ -7,7 +7,6 @@ use Rattle.npf_types.specs.declared.address.Addr.TheVariants.{V4, V6}
 use Rattle.npf_types.specs.declared.span.Span.{Span}
 use Rattle.npf_types.specs.Name.{name_bytes}
 use Rattle.npf_types.specs.Named.{named}
-use Rattle.npf_types.specs.NameText.{is_name}
 use Rattle.npf_faults.specs.declared.fault.ConfFault.{ConfFault}
 use Rattle.npf_faults.specs.declared.fault.Fault.TheVariants.{UnknownInterface}
 use Rattle.npf_syntax.specs.declared.value.Function.{Function}
@@ -18,7 +17,8 @@ use Rattle.npf_model.specs.declared.rule.OnIf.{OnIf}
 use Rattle.npf_model.specs.Numbering.{number_of_name}
 use Rattle.npf_faults.specs.First.{fault_if}
 use Rattle.npf_expand_values.specs.declared.role.Role.TheVariants.{AsInterface}
-use Rattle.npf_expand_values.specs.Atom.{Atom, WordAtom, StringAtom, Binding, Env}
+use Rattle.npf_expand_values.specs.Atom.{WordAtom, StringAtom, Binding, Env}
+use Rattle.npf_expand_values.specs.Leader.{shared_name}
 use Rattle.npf_expand_values.specs.Use.{one_use_faults}
 
 -- what an interface is written as: a word, a string or a variable
@@ -35,20 +35,10 @@ iface_span (IfaceIs.Var var span) = span
 abbrev pub iface_faults : Env → WrittenIface → List ConfFault
 iface_faults env iface = one_use_faults AsInterface (iface_span iface) (iface_binding env iface)
 
--- the name that a word or a string is, where it is one
-abbrev pub name_text : Atom → Option (List ℕ)
-name_text (WordAtom text span) = if is_name text then Some text else None
-name_text (StringAtom text) = if is_name text then Some text else None
-name_text _ = None
-
--- the name that stands there: of one value, and none of a list
-abbrev pub only_name : List Atom → Option (List ℕ)
-only_name (atom ∷ []) = name_text atom
-only_name _ = None
-
+-- the interface that a variable stands for where one is asked for
 abbrev pub bound_name : Option Binding → Option (List ℕ)
 bound_name None = None
-bound_name (Some binding) = if binding.many then None else only_name binding.atoms
+bound_name (Some binding) = shared_name binding.atoms
 
 abbrev pub iface_name : Env → WrittenIface → Option (List ℕ)
 iface_name env iface = bound_name (iface_binding env iface)

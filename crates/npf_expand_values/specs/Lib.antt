@@ -1,8 +1,10 @@
 pub mod Address
 pub mod Atom
 pub mod Declarations
+pub mod Host
 pub mod Iface
 pub mod Kept
+pub mod Leader
 pub mod Message
 pub mod Parted
 pub mod Place

@@ -12,7 +12,7 @@ use Rattle.npf_syntax.specs.declared.value.One.{One}
 use Rattle.npf_expand_values.specs.declared.role.Role.TheVariants.{AsProtocol}
 use Rattle.npf_expand_values.specs.Atom.{Atom, NumberAtom, WordAtom, Binding, Env}
 use Rattle.npf_expand_values.specs.Protocol.{is_protocol, one_binding, one_span}
-use Rattle.npf_expand_values.specs.Use.{atoms_of, element_count, is_unfit}
+use Rattle.npf_expand_values.specs.Use.{atoms_of, is_several, is_unfit}
 
 -- whose names the messages of some protocols have: ICMP's where each is 1, ICMPv6's where each is 58
 abbrev pub icmp_names : List Atom → IcmpNames
@@ -37,7 +37,7 @@ first_name_faults names (atom ∷ _) = name_faults names atom
 abbrev pub message_use_faults : Names → Span → Option Binding → List ConfFault
 message_use_faults names span None = fault_at span UnknownVariable
 message_use_faults names span (Some binding) =
-    if binding.many && nat_lt 1 (element_count binding.atoms) then fault_at span Expected
+    if binding.many && is_several AsProtocol binding.atoms then fault_at span Expected
     else fault_if (list_any (is_unfit AsProtocol) binding.atoms) span Expected ++ first_name_faults names binding.atoms
 
 abbrev pub message_faults : Names → Env → One → List ConfFault

@@ -7,7 +7,7 @@ use Rattle.npf_expand_values.specs.declared.scope.Scope.{Scope}
 use Rattle.npf_expand_values.specs.declared.variable.Variables.{Variables}
 use Rattle.npf_expand_values.specs.Atom.{Binding, Env}
 use Rattle.npf_expand_values.specs.Declarations.{Declared}
-use Rattle.npf_expand_values.specs.Kept.{bindings_of}
+use Rattle.npf_expand_values.specs.Kept.{KnownNames, bindings_of}
 use Rattle.npf_expand_values.specs.Source.{declared_by}
 
 -- what the definitions so far bind
@@ -23,8 +23,11 @@ abbrev pub env_in : Variables → Env
 env_in variables text = at_place (known variables) (get_by (λ name. bytes_eq text name.now) variables.latest)
 
 -- the interfaces of the run
+abbrev pub ifaces_in : Variables → List Iface
+ifaces_in variables = variables.interfaces.now.list.now
+
 abbrev pub ifaces_of_scope : Scope → List Iface
-ifaces_of_scope scope = scope.interfaces.now.list.now
+ifaces_of_scope scope = ifaces_in scope.variables.now
 
 -- what names are bound to
 abbrev pub env_of_scope : Scope → Env
@@ -33,6 +36,13 @@ env_of_scope scope = env_in scope.variables.now
 -- what the definitions so far bind
 abbrev pub known_of_scope : Scope → List Binding
 known_of_scope scope = known scope.variables.now
+
+-- what is known where a value stands
+abbrev pub known_in : Variables → KnownNames
+known_in variables = record { ifaces = ifaces_in variables; bindings = known variables }
+
+abbrev pub all_known : Scope → KnownNames
+all_known scope = known_in scope.variables.now
 
 -- the names that are declared
 abbrev pub declared_of_scope : Scope → Declared

@@ -1,14 +1,17 @@
 -- What the code keeps, and no part of what the language means: of values, so that they need not be looked at where they are used, how
--- many elements they are, up to one more than all lists may have, and what becomes of them in each place.
+-- many elements they are, up to one more than all lists may have, and what becomes of them in each place. Among addresses an interface that is
+-- named is as many elements as it has addresses.
 use Rattle.std.specs.Prelude.{ℕ, ◌+◌, ◌&&◌, ◌||◌, min, List}
 use Rattle.std.specs.List.{flat_map, list_all, list_any}
 use Rattle.npf_faults.specs.First.{earlier, first_fault}
 use Rattle.npf_types.specs.declared.limits.TheConstants.{MAX_LIST_ELEMENTS}
+use Rattle.npf_model.specs.declared.iface.Iface.{Iface}
 use Rattle.npf_expand_values.specs.declared.role.Role.{Role}
 use Rattle.npf_expand_values.specs.declared.role.Role.TheVariants.{AsPort, AsAddress, AsProtocol, AsInterface}
 use Rattle.npf_expand_values.specs.declared.summary.Fate.{Fate}
 use Rattle.npf_expand_values.specs.declared.summary.Summary.{Summary}
 use Rattle.npf_expand_values.specs.Atom.{Atom}
+use Rattle.npf_expand_values.specs.Host.{host_count, is_missing}
 use Rattle.npf_expand_values.specs.Protocol.{is_protocol}
 use Rattle.npf_expand_values.specs.Use.{element_count, is_unfit, word_faults}
 
@@ -19,9 +22,11 @@ counted number = min number (MAX_LIST_ELEMENTS + 1)
 abbrev pub fate_of : Role → List Atom → Fate
 fate_of role atoms = record { unfit = list_any (is_unfit role) atoms; word = first_fault (flat_map (word_faults role) atoms) }
 
-abbrev pub summary_of : List Atom → Summary
-summary_of atoms = record {
+abbrev pub summary_of : List Iface → List Atom → Summary
+summary_of ifaces atoms = record {
   count = counted (element_count atoms);
+  hosts = counted (host_count ifaces atoms);
+  missing = list_any (is_missing ifaces) atoms;
   port = fate_of AsPort atoms;
   address = fate_of AsAddress atoms;
   protocol = fate_of AsProtocol atoms;
@@ -36,6 +41,8 @@ joined_fate one other = record { unfit = one.unfit || other.unfit; word = earlie
 abbrev pub joined_summary : Summary → Summary → Summary
 joined_summary one other = record {
   count = counted (one.count + other.count);
+  hosts = counted (one.hosts + other.hosts);
+  missing = one.missing || other.missing;
   port = joined_fate one.port other.port;
   address = joined_fate one.address other.address;
   protocol = joined_fate one.protocol other.protocol;

@@ -13,7 +13,9 @@ use Rattle.npf_names.specs.Protocol.{protocols}
 use Rattle.npf_names.specs.Service.{services}
 use Rattle.npf_expand_values.specs.declared.role.Role.{Role}
 use Rattle.npf_expand_values.specs.declared.role.Role.TheVariants.{AsPort, AsAddress, AsProtocol, AsInterface}
+use Rattle.npf_syntax.specs.Reserved.{is_iface_word}
 use Rattle.npf_expand_values.specs.Atom.{Atom, NumberAtom, RangeAtom, WordAtom, StringAtom, BlockAtom, TableAtom, AddressesAtom, Binding}
+use Rattle.npf_expand_values.specs.Leader.{is_alike}
 
 -- the value can't stand in this place
 abbrev pub is_unfit : Role → Atom → Bool
@@ -23,13 +25,16 @@ is_unfit AsPort (WordAtom _ _) = false
 is_unfit AsPort _ = true
 is_unfit AsAddress (BlockAtom _ _) = false
 is_unfit AsAddress (TableAtom _) = false
-is_unfit AsAddress (AddressesAtom _) = false
+is_unfit AsAddress (AddressesAtom _ _) = false
+is_unfit AsAddress (WordAtom text _) = not (is_iface_word text)
+is_unfit AsAddress (StringAtom text) = not (is_name text)
 is_unfit AsAddress _ = true
 is_unfit AsProtocol (NumberAtom number) = nat_lt 255 number
 is_unfit AsProtocol (WordAtom _ _) = false
 is_unfit AsProtocol _ = true
 is_unfit AsInterface (WordAtom text _) = not (is_name text)
 is_unfit AsInterface (StringAtom text) = not (is_name text)
+is_unfit AsInterface (AddressesAtom iface _) = not (is_some iface)
 is_unfit AsInterface _ = true
 
 -- a word that names nothing in this place
@@ -38,26 +43,27 @@ word_faults AsPort (WordAtom text span) = fault_if (not (is_some (number_named s
 word_faults AsProtocol (WordAtom text span) = fault_if (not (is_some (number_named protocols text))) span UnknownService
 word_faults _ _ = []
 
--- the faults of values that are used at this place, one or many
+-- the faults of values that are used at this place, one or many, but for interfaces that have no address
 abbrev pub use_faults : Role → Span → List Atom → List ConfFault
 use_faults role span atoms = fault_if (list_any (is_unfit role) atoms) span Expected ++ flat_map (word_faults role) atoms
 
 -- how many elements values are, fit or not: a function is as many as it gives addresses
 abbrev pub count_of : Atom → ℕ
-count_of (AddressesAtom addrs) = length addrs
+count_of (AddressesAtom _ addrs) = length addrs
 count_of _ = 1
 
 abbrev pub element_count : List Atom → ℕ
 element_count atoms = sum_by count_of atoms
 
-abbrev pub is_empty : List Atom → Bool
-is_empty [] = true
-is_empty (_ ∷ _) = false
+-- the values are more than one: as interfaces, if not all are one
+abbrev pub is_several : Role → List Atom → Bool
+is_several AsInterface atoms = not (is_alike atoms)
+is_several _ atoms = nat_lt 1 (element_count atoms)
 
--- the faults of what is used where one value stands: a list can't, whatever is in it
+-- the faults of what is used where one value stands, but for addresses: a list of several can't, whatever is in it
 abbrev pub single_faults : Role → Span → Binding → List ConfFault
 single_faults role span binding =
-    if binding.many && not (is_empty binding.atoms) then fault_at span Expected else use_faults role span binding.atoms
+    if binding.many && is_several role binding.atoms then fault_at span Expected else use_faults role span binding.atoms
 
 -- a name that isn't defined before its use is told at the use, and makes no further fault
 abbrev pub undefined_faults : Span → Option Binding → List ConfFault

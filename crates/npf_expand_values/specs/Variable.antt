@@ -14,7 +14,8 @@ use Rattle.npf_faults.specs.First.{fault_at}
 use Rattle.npf_expand_values.specs.declared.role.Role.{Role}
 use Rattle.npf_expand_values.specs.Atom.{Atom, NumberAtom, RangeAtom, WordAtom, StringAtom, BlockAtom, TableAtom, AddressesAtom, Binding, Env}
 use Rattle.npf_expand_values.specs.Iface.{addresses_of, function_faults, iface_name}
-use Rattle.npf_expand_values.specs.Use.{atoms_of, single_faults, undefined_faults, use_faults}
+use Rattle.npf_expand_values.specs.Host.{one_place_faults, place_faults}
+use Rattle.npf_expand_values.specs.Use.{atoms_of, undefined_faults}
 
 abbrev pub value_span : Value → Span
 value_span (Value.Number _ _ span) = span
@@ -50,17 +51,17 @@ abbrev pub empty_list_faults : Values → List ConfFault
 empty_list_faults (Values.One value span) = []
 empty_list_faults (Values.List list span) = empty_list_at list.span list.values
 
--- the faults of one value in its place; a name that isn't defined has none there
-abbrev pub bound_faults : Role → Value → Option Binding → List ConfFault
-bound_faults role value None = []
-bound_faults role value (Some binding) = single_faults role (value_span value) binding
-
 -- a definition as it is written
 pub record Definition : Type 0 where
   pub name : List ℕ
   pub values : Values
 
 module _ (ifaces : List Iface) where
+  -- the faults of one value in its place; a name that isn't defined has none there
+  abbrev pub bound_faults : Role → Value → Option Binding → List ConfFault
+  bound_faults role value None = []
+  bound_faults role value (Some binding) = one_place_faults ifaces role (value_span value) binding
+
   -- what a value is bound to where these names mean what they do
   abbrev pub binding_of : Env → Value → Option Binding
   binding_of env (Value.Var var span) = env var.name
@@ -70,7 +71,7 @@ module _ (ifaces : List Iface) where
   binding_of env (Value.Address address len span) = alone_binding (BlockAtom address.addr (length_of_block len))
   binding_of env (Value.Table name span) = alone_binding (TableAtom name.text)
   binding_of env (Value.Function function iface span) =
-      alone_binding (AddressesAtom (addresses_of ifaces function (iface_name env iface)))
+      alone_binding (AddressesAtom (iface_name env iface) (addresses_of ifaces function (iface_name env iface)))
 
   -- the faults of a value by itself, wherever it stands
   abbrev pub own_faults : Env → Value → List ConfFault
@@ -80,7 +81,7 @@ module _ (ifaces : List Iface) where
 
   -- the faults of a value that is used in this place, one or many
   abbrev pub each_value_faults : Env → Role → Value → List ConfFault
-  each_value_faults env role value = own_faults env value ++ use_faults role (value_span value) (atoms_of (binding_of env value))
+  each_value_faults env role value = own_faults env value ++ place_faults ifaces role (value_span value) (atoms_of (binding_of env value))
 
   -- the faults of one value by itself and in its place
   abbrev pub single_value_faults : Env → Role → Value → List ConfFault

@@ -9,32 +9,35 @@ ghost use Rattle.npf_expand_values.specs.Source.{declared_by};
 
 use crate::atom::Atom;
 use crate::declarations::Declarations;
+use crate::iface::Interfaces;
 use npf_model::AddrItem;
 use npf_types::{Addr, NoMemory, Prefix};
 use std::alloc::Global;
 
 /// What values are among the addresses of a rule.
-pub fn items_of_each(
+pub fn items_of_each<'a>(
     alloc: Global,
+    interfaces: &'a Interfaces<'_>,
     declarations: &Declarations,
-    atoms: &[Atom],
+    atoms: &[Atom<'a>],
 ) -> Result<Vec<AddrItem>, NoMemory>
     ensures { IfOk result (λ items. items.items
-        ≡ flat_map (λ atom. items_of (declared_by declarations.now.source).tables (kept_atom atom)) atoms.now) }
+        ≡ flat_map (λ atom. items_of interfaces.now.list.now (declared_by declarations.now.source).tables (kept_atom atom)) atoms.now) }
 {
     let mut items = Vec::new(alloc);
     for atom in atoms {
-        add_items(&mut items, declarations, atom)?;
+        add_items(&mut items, interfaces, declarations, atom)?;
     }
     Ok(items)
 }
 
-fn add_items(
+fn add_items<'a>(
     items: &mut Vec<AddrItem>,
+    interfaces: &'a Interfaces<'_>,
     declarations: &Declarations,
-    atom: &Atom,
+    atom: &Atom<'a>,
 ) -> Result<(), NoMemory>
-    ensures { OnOk result (items.new.items ≡ items.old.items ++ items_of (declared_by declarations.now.source).tables (kept_atom atom.now)) }
+    ensures { OnOk result (items.new.items ≡ items.old.items ++ items_of interfaces.now.list.now (declared_by declarations.now.source).tables (kept_atom atom.now)) }
 {
     match atom {
         Atom::Block(addr, len) => {
@@ -45,8 +48,7 @@ fn add_items(
             items.push(AddrItem::InTable(declarations.table(name.text.as_slice())))?;
             Ok(())
         }
-        Atom::Addresses(addrs) => add_hosts(items, addrs),
-        _ => Ok(()),
+        _ => add_hosts(items, interfaces.hosts(atom)),
     }
 }
 

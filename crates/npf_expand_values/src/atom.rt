@@ -1,9 +1,10 @@
 // Values in which no variable is left.
 ghost use Rattle.std.specs.Prelude.{◌≡◌, None, Some, if◌then◌else◌, nat_lt};
 ghost use Rattle.std.specs.Option.{option_map};
+ghost use Rattle.npf_types.specs.NameText.{is_name};
 ghost use Rattle.npf_faults.specs.First.{first_fault};
 ghost use Rattle.npf_expand_values.specs.Atom.{kept_atom};
-ghost use Rattle.npf_expand_values.specs.Iface.{name_text};
+ghost use Rattle.npf_expand_values.specs.Leader.{host_name, name_text};
 ghost use Rattle.npf_expand_values.specs.Port.{atom_ports};
 ghost use Rattle.npf_expand_values.specs.Message.{name_faults, number_among};
 ghost use Rattle.npf_expand_values.specs.Protocol.{is_protocol, protocol_of};
@@ -13,7 +14,7 @@ ghost use Rattle.npf_expand_values.specs.Use.{count_of, is_unfit, word_faults};
 use crate::role::Role;
 use npf_faults::{ConfFault, Fault, fault_if};
 use npf_names::{IcmpTable, protocol_number, service_port};
-use npf_syntax::{Str, Word};
+use npf_syntax::{Str, Word, is_iface_word};
 use npf_types::{Addr, Name};
 
 /// What a value stands for: its texts stand in the tree, and the addresses of a function in the list of the run's interfaces.
@@ -25,7 +26,8 @@ pub enum Atom<'a> {
     Str(&'a Str),
     Block(Addr, Option<u32>),
     Table(&'a Word),
-    Addresses(&'a [Addr]),
+    /// Those of this interface, where one is named.
+    Addresses(Option<&'a [u8]>, &'a [Addr]),
 }
 
 fn octet(number: u32) -> Option<u8>
@@ -37,20 +39,44 @@ fn octet(number: u32) -> Option<u8>
     Some(number as u8)
 }
 
+fn name_in(text: &[u8]) -> Option<&[u8]>
+    ensures { option_map (λ name. name.now) result ≡ (if is_name text.now then Some text.now else None) }
+{
+    if Name::of(text).is_none() {
+        return None;
+    }
+    Some(text)
+}
+
 impl<'a> Atom<'a> {
-    /// The name of an interface that it is, where it is one.
+    /// The name of the interface that it stands for, where it does for one.
     pub(crate) fn name_text(&self) -> Option<&'a [u8]>
         ensures { option_map (λ name. name.now) result ≡ name_text (kept_atom self.now) }
     {
-        let text = match self {
-            Atom::Word(word) => word.text.as_slice(),
-            Atom::Str(string) => string.text.as_slice(),
-            _ => return None,
-        };
-        if Name::of(text).is_none() {
-            return None;
+        match self {
+            Atom::Word(word) => name_in(word.text.as_slice()),
+            Atom::Str(string) => name_in(string.text.as_slice()),
+            Atom::Addresses(iface, _) => *iface,
+            _ => None,
         }
-        Some(text)
+    }
+
+    /// The name of the interface whose addresses it stands for, where it names one there.
+    pub(crate) fn host_name(&self) -> Option<&'a [u8]>
+        ensures { option_map (λ name. name.now) result ≡ host_name (kept_atom self.now) }
+    {
+        match self {
+            Atom::Word(word) => {
+                let text = word.text.as_slice();
+                if is_iface_word(text) {
+                    Some(text)
+                } else {
+                    None
+                }
+            }
+            Atom::Str(string) => name_in(string.text.as_slice()),
+            _ => None,
+        }
     }
 
     /// Whether it can't stand in this place.
@@ -65,7 +91,9 @@ impl<'a> Atom<'a> {
                 _ => true,
             },
             Role::AsAddress => match self {
-                Atom::Block(_, _) | Atom::Table(_) | Atom::Addresses(_) => false,
+                Atom::Block(_, _) | Atom::Table(_) | Atom::Addresses(_, _) => false,
+                Atom::Word(word) => !is_iface_word(word.text.as_slice()),
+                Atom::Str(string) => Name::of(string.text.as_slice()).is_none(),
                 _ => true,
             },
             Role::AsProtocol => match self {
@@ -76,6 +104,7 @@ impl<'a> Atom<'a> {
             Role::AsInterface => match self {
                 Atom::Word(word) => Name::of(word.text.as_slice()).is_none(),
                 Atom::Str(string) => Name::of(string.text.as_slice()).is_none(),
+                Atom::Addresses(iface, _) => iface.is_none(),
                 _ => true,
             },
         }
@@ -102,12 +131,12 @@ impl<'a> Atom<'a> {
         }
     }
 
-    /// How many elements it is in a list.
+    /// How many elements it is in a list, but among addresses.
     pub(crate) fn count(&self) -> usize
         ensures { result ≡ count_of (kept_atom self.now) }
     {
         match self {
-            Atom::Addresses(addrs) => addrs.len(),
+            Atom::Addresses(_, addrs) => addrs.len(),
             _ => 1,
         }
     }

@@ -4,7 +4,7 @@ ghost use Rattle.std.specs.List.{filter};
 ghost use Rattle.npf_types.specs.declared.address.Addr.{Addr};
 ghost use Rattle.npf_model.specs.declared.iface.Iface.{Iface};
 ghost use Rattle.npf_model.specs.Numbering.{number_of_name};
-ghost use Rattle.npf_expand_values.specs.Iface.{addresses_of, is_of};
+ghost use Rattle.npf_expand_values.specs.Iface.{addresses_of, addresses_of_first, is_of};
 ghost use Rattle.npf_expand_values.specs.Parted.{AreParted, iface_texts, is_v4, is_v6};
 ghost use Rattle.npf_expand_values.specs.Place.{ArePlaces};
 
@@ -64,6 +64,23 @@ impl<'a> Interfaces<'a> {
             Some(place) => self.addresses_at(function, place),
             None => &[],
         }
+    }
+
+    /// All addresses of the interface of this name; of one that isn't there none.
+    pub(crate) fn all_addresses(&self, name: &[u8]) -> &[Addr]
+        ensures { result.now ≡ addresses_of_first self.now.list.now name.now }
+    {
+        match self.places.place(name) {
+            Some(place) => self.all_at(place),
+            None => &[],
+        }
+    }
+
+    fn all_at(&self, place: usize) -> &[Addr]
+        requires { place < length self.now.list.now }
+        ensures { (d : Iface) → result.now ≡ (get_or self.now.list.now place d).addrs }
+    {
+        self.list[place].addrs.as_slice()
     }
 
     fn addresses_at(&self, function: Function, place: usize) -> &[Addr]

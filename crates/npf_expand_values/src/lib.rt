@@ -2,7 +2,7 @@
 // what they stand for, its lists spliced, its functions replaced by the addresses of interfaces and its words by numbers.
 //
 // A `Scope` is what names mean where a statement stands: the definitions before it (specs/Variable), the interfaces of the run
-// (specs/Iface), and the tables and procedures that the configuration declares (specs/Declarations). The contract: for each
+// (specs/Iface, Host), and the tables and procedures that the configuration declares (specs/Declarations). The contract: for each
 // value that is written there it answers what it is (specs/Atom, Address, Port, Protocol), how many elements that makes, and the
 // first fault that it has by itself or in its place (specs/Use). `Variables` keeps for a variable in a list the place of its
 // definition, so that nothing is spliced before it is used (specs/Kept).
@@ -11,7 +11,9 @@
 mod address;
 mod atom;
 mod declarations;
+mod host;
 mod iface;
+mod leader;
 mod message;
 mod name;
 mod place;

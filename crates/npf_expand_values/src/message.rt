@@ -1,18 +1,19 @@
 // Types and codes of ICMP's messages where they are used. One value stands there; a list of several is one fault, whatever is in it.
-ghost use Rattle.std.specs.Prelude.{◌≡◌, ◌&&◌, ◌++◌, List, Some, nat_lt};
+ghost use Rattle.std.specs.Prelude.{◌≡◌, ◌++◌, List, Some};
 ghost use Rattle.std.specs.List.{flat_map, list_any};
 ghost use Rattle.npf_faults.specs.First.{fault_if, first_fault};
 ghost use Rattle.npf_faults.specs.declared.fault.Fault.TheVariants.{Expected};
 ghost use Rattle.npf_names.specs.Icmp.{names_in};
 ghost use Rattle.npf_expand_values.specs.Atom.{Binding};
-ghost use Rattle.npf_expand_values.specs.Kept.{IsBound};
+ghost use Rattle.npf_expand_values.specs.Kept.{IsBound, KnownNames};
 ghost use Rattle.npf_expand_values.specs.Message.{first_name_faults, icmp_names, message_faults, message_number, message_use_faults};
 ghost use Rattle.npf_expand_values.specs.Protocol.{one_binding};
-ghost use Rattle.npf_expand_values.specs.Scope.{env_of_scope};
+ghost use Rattle.npf_expand_values.specs.Scope.{env_of_scope, ifaces_of_scope};
 ghost use Rattle.npf_expand_values.specs.Summary.{summary_of};
-ghost use Rattle.npf_expand_values.specs.Use.{atoms_of, element_count, is_unfit};
+ghost use Rattle.npf_expand_values.specs.Use.{atoms_of, is_unfit};
 ghost use Rattle.npf_expand_values.specs.declared.role.Role.TheVariants.{AsProtocol};
 
+use crate::role::Role;
 use crate::scope::{Scope, one_span, undefined};
 use crate::summary::Summary;
 use crate::variable::Bound;
@@ -23,26 +24,18 @@ use npf_types::Span;
 
 impl Bound<'_> {
     fn name_fault(&self, table: IcmpTable) -> Option<ConfFault>
-        ensures { (bindings : List Binding) → (binding : Binding) → IsBound bindings self.now binding
+        ensures { (known : KnownNames) → (binding : Binding) → IsBound known self.now binding
             → result ≡ first_fault (first_name_faults (names_in table) binding.atoms) }
     {
-        match self.first {
+        match self.leader.first {
             Some(atom) => atom.name_fault(table),
             None => None,
         }
     }
 
-    #[tactic(auto, using(crate::proofs::MessageLemmas::several_counted))]
-    fn is_several(&self) -> bool
-        ensures { (bindings : List Binding) → (binding : Binding) → IsBound bindings self.now binding
-            → result ≡ (binding.many && nat_lt 1 (element_count binding.atoms)) }
-    {
-        self.many && self.summary.count > 1
-    }
-
     #[tactic(auto, using(crate::proofs::FaultLemmas::both_faults))]
     fn single_message_fault(&self, table: IcmpTable, span: Span) -> Option<ConfFault>
-        ensures { (bindings : List Binding) → (binding : Binding) → IsBound bindings self.now binding
+        ensures { (known : KnownNames) → (binding : Binding) → IsBound known self.now binding
             → result ≡ first_fault (fault_if (list_any (is_unfit AsProtocol) binding.atoms) span Expected ++ first_name_faults (names_in table) binding.atoms) }
     {
         earlier(
@@ -52,10 +45,10 @@ impl Bound<'_> {
     }
 
     fn message_fault(&self, table: IcmpTable, span: Span) -> Option<ConfFault>
-        ensures { (bindings : List Binding) → (binding : Binding) → IsBound bindings self.now binding
+        ensures { (known : KnownNames) → (binding : Binding) → IsBound known self.now binding
             → result ≡ first_fault (message_use_faults (names_in table) span (Some binding)) }
     {
-        if self.is_several() {
+        if self.many && self.is_several(Role::AsProtocol) {
             return fault_if(true, span, Fault::Expected);
         }
         self.single_message_fault(table, span)
@@ -84,7 +77,7 @@ impl<'a> Scope<'_, 'a, '_> {
     }
 
     fn summary_of_one(&self, one: &'a One) -> Summary
-        ensures { result ≡ summary_of (atoms_of (one_binding (env_of_scope self.now) one.now)) }
+        ensures { result ≡ summary_of (ifaces_of_scope self.now) (atoms_of (one_binding (env_of_scope self.now) one.now)) }
     {
         match self.one_binding(one) {
             Some(bound) => bound.summary,

@@ -3,13 +3,13 @@ ghost use Rattle.std.specs.Prelude.{◌≡◌, IfOk, Some};
 ghost use Rattle.std.specs.List.{flat_map};
 ghost use Rattle.std.specs.Option.{option_map};
 ghost use Rattle.npf_faults.specs.First.{first_fault};
-ghost use Rattle.npf_expand_values.specs.Atom.{kept_atom};
+ghost use Rattle.npf_expand_values.specs.Atom.{AddressesAtom, kept_atom};
 ghost use Rattle.npf_expand_values.specs.Iface.{address_faults, addresses_of, function_faults, iface_binding, iface_faults, iface_name, iface_span, on_iface};
 ghost use Rattle.npf_expand_values.specs.Kept.{AreSpliced, IsBoundWhere};
 ghost use Rattle.npf_expand_values.specs.Protocol.{one_binding, one_span};
-ghost use Rattle.npf_expand_values.specs.Scope.{env_of_scope, ifaces_of_scope, known_of_scope};
+ghost use Rattle.npf_expand_values.specs.Scope.{all_known, env_of_scope, ifaces_of_scope, known_of_scope};
 ghost use Rattle.npf_expand_values.specs.Use.{atoms_of};
-ghost use Rattle.npf_expand_values.specs.Variable.{binding_of, length_of_block, number_atom, own_faults, spliced, value_span};
+ghost use Rattle.npf_expand_values.specs.Variable.{alone_binding, binding_of, length_of_block, number_atom, own_faults, spliced, value_span};
 
 use crate::atom::Atom;
 use crate::declarations::Declarations;
@@ -20,64 +20,80 @@ use crate::variable::{Bound, Spliced, Variables};
 use npf_faults::{ConfFault, Fault, earlier, fault_if};
 use npf_model::OnIf;
 use npf_syntax::{Function, IfaceTree, Number, One, Value};
-use npf_types::{Addr, IfId, NoMemory, Span};
+use npf_types::{IfId, NoMemory, Span};
 use std::alloc::Global;
 
-/// What names and interfaces are known where a statement stands.
+/// What names are known where a statement stands.
 #[derive(Clone, Copy)]
 pub struct Scope<'s, 'a, 'i> {
-    pub variables: &'s Variables<'a>,
-    pub interfaces: &'a Interfaces<'i>,
+    pub variables: &'s Variables<'a, 'i>,
     pub declarations: &'s Declarations<'a>,
 }
 
-impl<'a> Scope<'_, 'a, '_> {
+impl<'a, 'i> Scope<'_, 'a, 'i> {
+    /// The interfaces of the run.
+    pub fn interfaces(&self) -> &'a Interfaces<'i>
+        ensures { result.now.list.now ≡ ifaces_of_scope self.now }
+    {
+        self.variables.interfaces
+    }
+
+    fn alone(&self, atom: Atom<'a>) -> Bound<'a>
+        ensures { IsBoundWhere (all_known self.now) (Some result) (alone_binding (kept_atom atom.entry)) }
+    {
+        Bound::alone(self.variables.interfaces, atom)
+    }
+
     pub(crate) fn value_binding(&self, value: &'a Value) -> Option<Bound<'a>>
-        ensures { IsBoundWhere (known_of_scope self.now) result (binding_of (ifaces_of_scope self.now) (env_of_scope self.now) value.now) }
+        ensures { IsBoundWhere (all_known self.now) result (binding_of (ifaces_of_scope self.now) (env_of_scope self.now) value.now) }
     {
         match value {
             Value::Var { var, .. } => self.variables.find(var.name.as_slice()),
-            Value::Number { first, last, .. } => Some(Bound::alone(number_atom(first, last))),
-            Value::Word { word, .. } => Some(Bound::alone(Atom::Word(word))),
-            Value::Str { string, .. } => Some(Bound::alone(Atom::Str(string))),
+            Value::Number { first, last, .. } => Some(self.alone(number_atom(first, last))),
+            Value::Word { word, .. } => Some(self.alone(Atom::Word(word))),
+            Value::Str { string, .. } => Some(self.alone(Atom::Str(string))),
             Value::Address { address, len, .. } => {
-                Some(Bound::alone(Atom::Block(address.get().addr, length_of_block(len))))
+                Some(self.alone(Atom::Block(address.get().addr, length_of_block(len))))
             }
-            Value::Table { name, .. } => Some(Bound::alone(Atom::Table(name))),
+            Value::Table { name, .. } => Some(self.alone(Atom::Table(name))),
             Value::Function {
                 function,
                 iface,
                 ..
-            } => { Some(Bound::alone(Atom::Addresses(self.addresses(*function, iface.get())))) }
+            } => { Some(self.alone(self.addresses(*function, iface.get()))) }
         }
     }
 
-    fn addresses(&self, function: Function, iface: &'a IfaceTree) -> &'a [Addr]
-        ensures { result.now ≡ addresses_of (ifaces_of_scope self.now) function (iface_name (env_of_scope self.now) iface.now) }
+    fn addresses(&self, function: Function, iface: &'a IfaceTree) -> Atom<'a>
+        ensures { kept_atom result ≡ AddressesAtom (iface_name (env_of_scope self.now) iface.now)
+            (addresses_of (ifaces_of_scope self.now) function (iface_name (env_of_scope self.now) iface.now)) }
     {
         match self.iface_name(iface) {
-            Some(name) => self.interfaces.addresses(function, name),
-            None => &[],
+            Some(name) => {
+                let addrs = self.variables.interfaces.addresses(function, name);
+                Atom::Addresses(Some(name), addrs)
+            }
+            None => Atom::Addresses(None, &[]),
         }
     }
 
     pub(crate) fn one_binding(&self, one: &'a One) -> Option<Bound<'a>>
-        ensures { IsBoundWhere (known_of_scope self.now) result (one_binding (env_of_scope self.now) one.now) }
+        ensures { IsBoundWhere (all_known self.now) result (one_binding (env_of_scope self.now) one.now) }
     {
         match one {
             One::Var { var, .. } => self.variables.find(var.name.as_slice()),
-            One::Word { word, .. } => Some(Bound::alone(Atom::Word(word))),
-            One::Number { number, .. } => Some(Bound::alone(Atom::Number(number.value))),
+            One::Word { word, .. } => Some(self.alone(Atom::Word(word))),
+            One::Number { number, .. } => Some(self.alone(Atom::Number(number.value))),
         }
     }
 
     pub(crate) fn iface_binding(&self, iface: &'a IfaceTree) -> Option<Bound<'a>>
-        ensures { IsBoundWhere (known_of_scope self.now) result (iface_binding (env_of_scope self.now) iface.now) }
+        ensures { IsBoundWhere (all_known self.now) result (iface_binding (env_of_scope self.now) iface.now) }
     {
         match iface {
             IfaceTree::Var { var, .. } => self.variables.find(var.name.as_slice()),
-            IfaceTree::Word { word, .. } => Some(Bound::alone(Atom::Word(word))),
-            IfaceTree::Str { string, .. } => Some(Bound::alone(Atom::Str(string))),
+            IfaceTree::Word { word, .. } => Some(self.alone(Atom::Word(word))),
+            IfaceTree::Str { string, .. } => Some(self.alone(Atom::Str(string))),
         }
     }
 
@@ -110,7 +126,7 @@ impl<'a> Scope<'_, 'a, '_> {
                 let name = name_of(text);
                 OnIf {
                     name,
-                    id: self.interfaces.number(&name),
+                    id: self.variables.interfaces.number(&name),
                 }
             }
             None => OnIf {
@@ -163,8 +179,8 @@ impl<'a> Scope<'_, 'a, '_> {
     {
         match self.iface_name(iface) {
             Some(name) => {
-                let missing = self.interfaces.addresses(function, name).is_empty();
-                fault_if(missing, span, Fault::UnknownInterface)
+                let addrs = self.variables.interfaces.addresses(function, name);
+                fault_if(addrs.is_empty(), span, Fault::UnknownInterface)
             }
             None => None,
         }
@@ -172,7 +188,7 @@ impl<'a> Scope<'_, 'a, '_> {
 
     /// What values of a list are, one behind the other.
     pub(crate) fn splice(&self, alloc: Global, values: &'a [Value]) -> Result<Spliced<'a>, NoMemory>
-        ensures { IfOk result (λ all. AreSpliced (known_of_scope self.now) all (spliced (ifaces_of_scope self.now) (env_of_scope self.now) values.now)) }
+        ensures { IfOk result (λ all. AreSpliced (ifaces_of_scope self.now) (known_of_scope self.now) all (spliced (ifaces_of_scope self.now) (env_of_scope self.now) values.now)) }
     {
         let mut all = Spliced::new(alloc, values.len())?;
         for value in values {
@@ -189,7 +205,7 @@ impl<'a> Scope<'_, 'a, '_> {
         alloc: Global,
         ones: &'a [One],
     ) -> Result<Spliced<'a>, NoMemory>
-        ensures { IfOk result (λ all. AreSpliced (known_of_scope self.now) all (flat_map (λ one. atoms_of (one_binding (env_of_scope self.now) one)) ones.now)) }
+        ensures { IfOk result (λ all. AreSpliced (ifaces_of_scope self.now) (known_of_scope self.now) all (flat_map (λ one. atoms_of (one_binding (env_of_scope self.now) one)) ones.now)) }
     {
         let mut all = Spliced::new(alloc, ones.len())?;
         for one in ones {

@@ -1,11 +1,14 @@
 // What becomes of values in each place.
 ghost use Rattle.std.specs.Prelude.{◌≡◌, ◌+◌, ◌∷◌, [], List, false};
 ghost use Rattle.npf_faults.specs.First.{first_fault};
+ghost use Rattle.npf_model.specs.declared.iface.Iface.{Iface};
 ghost use Rattle.npf_expand_values.specs.Atom.{Atom as Plain, kept_atom};
 ghost use Rattle.npf_expand_values.specs.Summary.{counted, fate_in, fate_of, joined_summary, joined_fate, summary_of};
+ghost use Rattle.npf_expand_values.specs.Host.{missing_faults, place_faults};
 ghost use Rattle.npf_expand_values.specs.Use.{use_faults};
 
 use crate::atom::Atom;
+use crate::iface::Interfaces;
 use crate::role::Role;
 use npf_faults::{ConfFault, Fault, earlier, fault_if};
 use npf_types::Span;
@@ -59,6 +62,10 @@ impl Fate {
 #[derive(Clone, Copy)]
 pub(crate) struct Summary {
     pub(crate) count: usize,
+    /// As many as they are among addresses.
+    pub(crate) hosts: usize,
+    /// Whether one names an interface that has no address.
+    pub(crate) missing: bool,
     pub(crate) port: Fate,
     pub(crate) address: Fate,
     pub(crate) protocol: Fate,
@@ -86,10 +93,12 @@ pub fn counted_both(one: usize, other: usize) -> usize
 impl Summary {
     /// That of no values.
     pub(crate) fn none() -> Summary
-        ensures { result ≡ summary_of [] }
+        ensures { result ≡ summary_of [] [] }
     {
         Summary {
             count: 0,
+            hosts: 0,
+            missing: false,
             port: Fate::none(),
             address: Fate::none(),
             protocol: Fate::none(),
@@ -99,11 +108,13 @@ impl Summary {
         }
     }
 
-    pub(crate) fn of(atom: &Atom) -> Summary
-        ensures { result ≡ summary_of (kept_atom atom.now ∷ []) }
+    pub(crate) fn of(interfaces: &Interfaces, atom: &Atom) -> Summary
+        ensures { result ≡ summary_of interfaces.now.list.now (kept_atom atom.now ∷ []) }
     {
         Summary {
             count: counted(atom.count()),
+            hosts: counted(interfaces.host_count(atom)),
+            missing: interfaces.is_missing(atom),
             port: Fate::of(atom, Role::AsPort),
             address: Fate::of(atom, Role::AsAddress),
             protocol: Fate::of(atom, Role::AsProtocol),
@@ -119,6 +130,8 @@ impl Summary {
     {
         Summary {
             count: counted_both(self.count, other.count),
+            hosts: counted_both(self.hosts, other.hosts),
+            missing: self.missing || other.missing,
             port: self.port.join(other.port),
             address: self.address.join(other.address),
             protocol: self.protocol.join(other.protocol),
@@ -139,11 +152,30 @@ impl Summary {
         }
     }
 
-    /// The first fault of the values where they are used in this place.
+    /// The first fault of the values where they are used in this place, but for interfaces that have no address.
     pub(crate) fn fault(&self, role: Role, span: Span) -> Option<ConfFault>
-        ensures { (atoms : List Plain) → self.now ≡ summary_of atoms
+        ensures { (ifaces : List Iface) → (atoms : List Plain) → self.now ≡ summary_of ifaces atoms
             → result ≡ first_fault (use_faults role span atoms) }
     {
         self.fate(role).fault(span)
+    }
+
+    fn missing_fault(&self, role: Role, span: Span) -> Option<ConfFault>
+        ensures { (ifaces : List Iface) → (atoms : List Plain) → self.now ≡ summary_of ifaces atoms
+            → result ≡ first_fault (missing_faults ifaces role span atoms) }
+    {
+        match role {
+            Role::AsAddress => fault_if(self.missing, span, Fault::UnknownInterface),
+            _ => None,
+        }
+    }
+
+    /// The first fault of the values where they are used in this place.
+    #[tactic(auto, using(crate::proofs::FaultLemmas::both_faults))]
+    pub(crate) fn place_fault(&self, role: Role, span: Span) -> Option<ConfFault>
+        ensures { (ifaces : List Iface) → (atoms : List Plain) → self.now ≡ summary_of ifaces atoms
+            → result ≡ first_fault (place_faults ifaces role span atoms) }
+    {
+        earlier(self.fault(role, span), self.missing_fault(role, span))
     }
 }

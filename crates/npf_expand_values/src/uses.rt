@@ -5,11 +5,12 @@ ghost use Rattle.std.specs.List.{flat_map};
 ghost use Rattle.std.specs.Option.{option_map};
 ghost use Rattle.npf_faults.specs.First.{first_fault};
 ghost use Rattle.npf_expand_values.specs.Atom.{kept_atom};
+ghost use Rattle.npf_expand_values.specs.Host.{host_count, place_faults};
 ghost use Rattle.npf_expand_values.specs.Kept.{IsDefBehind, def_binding, first_atom};
 ghost use Rattle.npf_expand_values.specs.Protocol.{one_binding, one_protocol_faults, protocol_faults};
 ghost use Rattle.npf_expand_values.specs.Scope.{env_of_scope, ifaces_of_scope, known_of_scope};
 ghost use Rattle.npf_expand_values.specs.Summary.{counted};
-ghost use Rattle.npf_expand_values.specs.Use.{atoms_of, element_count, use_faults};
+ghost use Rattle.npf_expand_values.specs.Use.{atoms_of, element_count};
 ghost use Rattle.npf_expand_values.specs.Variable.{binding_of, bound_faults, defined, definition_faults, each_value_faults, empty_list_at, empty_list_faults, is_list, listed_values, own_faults, single_value_faults, spliced, value_span};
 
 use crate::atom::Atom;
@@ -22,11 +23,11 @@ use npf_types::{NoMemory, Span};
 use std::alloc::Global;
 
 impl<'a> Scope<'_, 'a, '_> {
-    fn use_fault(&self, role: Role, value: &'a Value) -> Option<ConfFault>
-        ensures { result ≡ first_fault (use_faults role (value_span value.now) (atoms_of (binding_of (ifaces_of_scope self.now) (env_of_scope self.now) value.now))) }
+    fn place_fault(&self, role: Role, value: &'a Value) -> Option<ConfFault>
+        ensures { result ≡ first_fault (place_faults (ifaces_of_scope self.now) role (value_span value.now) (atoms_of (binding_of (ifaces_of_scope self.now) (env_of_scope self.now) value.now))) }
     {
         match self.value_binding(value) {
-            Some(bound) => bound.each_fault(role, value_span(value)),
+            Some(bound) => bound.summary.place_fault(role, value_span(value)),
             None => None,
         }
     }
@@ -36,7 +37,7 @@ impl<'a> Scope<'_, 'a, '_> {
     pub fn each_value_fault(&self, role: Role, value: &'a Value) -> Option<ConfFault>
         ensures { result ≡ first_fault (each_value_faults (ifaces_of_scope self.now) (env_of_scope self.now) role value.now) }
     {
-        earlier(self.own_fault(value), self.use_fault(role, value))
+        earlier(self.own_fault(value), self.place_fault(role, value))
     }
 
     /// The first fault of the values of a list that is used in this place.
@@ -84,10 +85,10 @@ impl<'a> Scope<'_, 'a, '_> {
     }
 
     fn bound_fault(&self, role: Role, value: &'a Value) -> Option<ConfFault>
-        ensures { result ≡ first_fault (bound_faults role value.now (binding_of (ifaces_of_scope self.now) (env_of_scope self.now) value.now)) }
+        ensures { result ≡ first_fault (bound_faults (ifaces_of_scope self.now) role value.now (binding_of (ifaces_of_scope self.now) (env_of_scope self.now) value.now)) }
     {
         match self.value_binding(value) {
-            Some(bound) => bound.single_fault(role, value_span(value)),
+            Some(bound) => bound.one_place_fault(role, value_span(value)),
             None => None,
         }
     }
@@ -129,7 +130,7 @@ impl<'a> Scope<'_, 'a, '_> {
         fault: &Option<ConfFault>,
     ) -> Result<Def<'a>, NoMemory>
         requires { fault.now ≡ first_fault (definition_faults (ifaces_of_scope self.now) (env_of_scope self.now) values.now) }
-        ensures behind { IfOk result (λ def. IsDefBehind (known_of_scope self.now) def) }
+        ensures behind { IfOk result (λ def. IsDefBehind (ifaces_of_scope self.now) (known_of_scope self.now) def) }
         ensures binding { IfOk result (λ def. def_binding (known_of_scope self.now) def
             ≡ defined (ifaces_of_scope self.now) (env_of_scope self.now) values.now) }
     {
@@ -170,7 +171,14 @@ impl<'a> Scope<'_, 'a, '_> {
         self.variables.gather(alloc, all.parts.as_slice())
     }
 
-    /// How many elements a list has.
+    /// How many elements a list of addresses has.
+    pub fn count_hosts(&self, alloc: Global, values: &'a [Value]) -> Result<usize, NoMemory>
+        ensures { IfOk result (λ count. count ≡ counted (host_count (ifaces_of_scope self.now) (spliced (ifaces_of_scope self.now) (env_of_scope self.now) values.now))) }
+    {
+        Ok(self.splice(alloc, values)?.summary.hosts)
+    }
+
+    /// How many elements a list has, but of addresses.
     pub fn count(&self, alloc: Global, values: &'a [Value]) -> Result<usize, NoMemory>
         ensures { IfOk result (λ count. count ≡ counted (element_count (spliced (ifaces_of_scope self.now) (env_of_scope self.now) values.now))) }
     {
@@ -189,7 +197,7 @@ impl<'a> Scope<'_, 'a, '_> {
         ensures { option_map kept_atom result ≡ first_atom (atoms_of (binding_of (ifaces_of_scope self.now) (env_of_scope self.now) value.now)) }
     {
         match self.value_binding(value) {
-            Some(bound) => bound.first,
+            Some(bound) => bound.leader.first,
             None => None,
         }
     }
@@ -199,7 +207,7 @@ impl<'a> Scope<'_, 'a, '_> {
         ensures { option_map kept_atom result ≡ first_atom (atoms_of (one_binding (env_of_scope self.now) one.now)) }
     {
         match self.one_binding(one) {
-            Some(bound) => bound.first,
+            Some(bound) => bound.leader.first,
             None => None,
         }
     }

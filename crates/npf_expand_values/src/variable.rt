@@ -5,12 +5,16 @@ ghost use Rattle.std.specs.HashMap.{get_by};
 ghost use Rattle.std.specs.Option.{option_map};
 ghost use Rattle.std.specs.Str.{bytes_eq};
 ghost use Rattle.npf_faults.specs.First.{first_fault};
+ghost use Rattle.npf_model.specs.declared.iface.Iface.{Iface};
 ghost use Rattle.npf_expand_values.specs.Atom.{Atom as Plain, Binding, kept_atom};
-ghost use Rattle.npf_expand_values.specs.Kept.{AreDefs, AreDefs-prop, AreKeptBy, AreKeptIn, AreSpliced, IsBound, IsBoundWhere, IsDefBehind, IsOfFirst, def_binding, kept_parts, part_atoms, parts_atoms};
+ghost use Rattle.npf_expand_values.specs.Kept.{AreDefs, AreDefs-prop, AreKeptBy, AreKeptIn, AreSpliced, IsBound, IsBoundWhere, KnownNames, IsDefBehind, IsOfFirst, def_binding, kept_parts, part_atoms, parts_atoms};
+ghost use Rattle.npf_expand_values.specs.Host.{are_several, one_place_faults};
 ghost use Rattle.npf_expand_values.specs.Iface.{bound_name};
-ghost use Rattle.npf_expand_values.specs.Use.{atoms_of, single_faults, use_faults};
+ghost use Rattle.npf_expand_values.specs.Use.{atoms_of, is_several, single_faults, use_faults};
 
 use crate::atom::Atom;
+use crate::iface::Interfaces;
+use crate::leader::Leader;
 use crate::role::Role;
 use crate::summary::Summary;
 use npf_faults::{ConfFault, Fault, fault_if};
@@ -29,7 +33,7 @@ pub(crate) enum Part<'a> {
 /// Values, one behind the other.
 #[derive(Drop)]
 pub(crate) struct Spliced<'a> {
-    pub(crate) first: Option<Atom<'a>>,
+    pub(crate) leader: Leader<'a>,
     pub(crate) parts: Vec<Part<'a>>,
     pub(crate) summary: Summary,
 }
@@ -38,7 +42,7 @@ pub(crate) struct Spliced<'a> {
 #[derive(Clone, Copy)]
 pub(crate) struct Bound<'a> {
     pub(crate) many: bool,
-    pub(crate) first: Option<Atom<'a>>,
+    pub(crate) leader: Leader<'a>,
     pub(crate) part: Part<'a>,
     pub(crate) summary: Summary,
 }
@@ -59,58 +63,89 @@ pub struct Def<'a> {
     values: DefValues<'a>,
 }
 
-/// The definitions so far, each behind those that it names, and the place of the latest of each name.
+/// The definitions so far for a run with these interfaces, each behind those that it names, and the place of the latest of each name.
 #[derive(Drop)]
-pub struct Variables<'a> {
+pub struct Variables<'a, 'i> {
+    pub(crate) interfaces: &'a Interfaces<'i>,
     defs: Vec<Def<'a>>,
     latest: HashMap<&'a [u8], usize>,
-    ghost behind: { AreDefs (reverse defs.items) } by { AreDefs-prop (reverse defs.items) },
+    ghost behind: { AreDefs interfaces.now.list.now (reverse defs.items) } by { AreDefs-prop interfaces.now.list.now (reverse defs.items) },
     ghost within: { (text : List ℕ) → (place : ℕ) → get_by (λ name. bytes_eq text name.now) latest ≡ Some place
         → place < length defs.items },
 }
 
 impl<'a> Bound<'a> {
     /// One value, which is no list.
-    pub(crate) fn alone(atom: Atom<'a>) -> Bound<'a>
+    pub(crate) fn alone(interfaces: &Interfaces, atom: Atom<'a>) -> Bound<'a>
         ensures { (bindings : List Binding)
-            → IsBound bindings result (record { many = false; atoms = kept_atom atom.entry ∷ [] }) }
+            → IsBound (record { ifaces = interfaces.now.list.now; bindings = bindings }) result (record { many = false; atoms = kept_atom atom.entry ∷ [] }) }
     {
         Bound {
             many: false,
-            first: Some(atom),
+            leader: Leader::of(atom),
             part: Part::Single(atom),
-            summary: Summary::of(&atom),
+            summary: Summary::of(interfaces, &atom),
         }
     }
 
-    /// The name of an interface that stands there: of one value, and none of a list.
+    /// The name of the interface that stands there, where it is one.
     pub(crate) fn name(&self) -> Option<&'a [u8]>
-        ensures { (bindings : List Binding) → (binding : Binding) → IsBound bindings self.now binding
+        ensures { (known : KnownNames) → (binding : Binding) → IsBound known self.now binding
             → option_map (λ name. name.now) result ≡ bound_name (Some binding) }
     {
-        if self.many {
-            return None;
-        }
-        match self.first {
-            Some(atom) => atom.name_text(),
-            None => None,
-        }
+        self.leader.name()
     }
 
-    /// The first fault of the values where they are used at this place, one or many.
+    /// The first fault of the values where they are used at this place, one or many, but for addresses.
     pub(crate) fn each_fault(&self, role: Role, span: Span) -> Option<ConfFault>
-        ensures { (bindings : List Binding) → (binding : Binding) → IsBound bindings self.now binding
+        ensures { (known : KnownNames) → (binding : Binding) → IsBound known self.now binding
             → result ≡ first_fault (use_faults role span binding.atoms) }
     {
         self.summary.fault(role, span)
     }
 
+    /// Whether the values are more than one, but as addresses.
+    #[tactic(auto, using(crate::proofs::MessageLemmas::several_counted))]
+    pub(crate) fn is_several(&self, role: Role) -> bool
+        ensures { (known : KnownNames) → (binding : Binding) → IsBound known self.now binding
+            → result ≡ is_several role binding.atoms }
+    {
+        match role {
+            Role::AsInterface => !self.leader.alike,
+            _ => self.summary.count > 1,
+        }
+    }
+
+    #[tactic(auto, using(crate::proofs::MessageLemmas::several_counted))]
+    fn are_several(&self, role: Role) -> bool
+        ensures { (known : KnownNames) → (binding : Binding) → IsBound known self.now binding
+            → result ≡ are_several known.ifaces role binding.atoms }
+    {
+        match role {
+            Role::AsAddress => self.summary.hosts > 1,
+            Role::AsPort => self.is_several(Role::AsPort),
+            Role::AsProtocol => self.is_several(Role::AsProtocol),
+            Role::AsInterface => self.is_several(Role::AsInterface),
+        }
+    }
+
     /// The first fault of the values where they are used at this place, where one value stands.
+    pub(crate) fn one_place_fault(&self, role: Role, span: Span) -> Option<ConfFault>
+        ensures { (known : KnownNames) → (binding : Binding) → IsBound known self.now binding
+            → result ≡ first_fault (one_place_faults known.ifaces role span binding) }
+    {
+        if self.many && self.are_several(role) {
+            return fault_if(true, span, Fault::Expected);
+        }
+        self.summary.place_fault(role, span)
+    }
+
+    /// The first fault of the values where they are used at this place, where one value stands that is no address.
     pub(crate) fn single_fault(&self, role: Role, span: Span) -> Option<ConfFault>
-        ensures { (bindings : List Binding) → (binding : Binding) → IsBound bindings self.now binding
+        ensures { (known : KnownNames) → (binding : Binding) → IsBound known self.now binding
             → result ≡ first_fault (single_faults role span binding) }
     {
-        if self.many && self.first.is_some() {
+        if self.many && self.is_several(role) {
             return fault_if(true, span, Fault::Expected);
         }
         self.summary.fault(role, span)
@@ -120,10 +155,10 @@ impl<'a> Bound<'a> {
 impl<'a> Spliced<'a> {
     /// None yet, with room for so many.
     pub(crate) fn new(alloc: Global, room: usize) -> Result<Spliced<'a>, NoMemory>
-        ensures { IfOk result (λ values. (bindings : List Binding) → AreSpliced bindings values []) }
+        ensures { IfOk result (λ values. (ifaces : List Iface) → (bindings : List Binding) → AreSpliced ifaces bindings values []) }
     {
         Ok(Spliced {
-            first: None,
+            leader: Leader::none(),
             parts: Vec::with_capacity(alloc, room)?,
             summary: Summary::none(),
         })
@@ -131,21 +166,21 @@ impl<'a> Spliced<'a> {
 
     /// Puts the values that these are bound to behind the others.
     pub(crate) fn add(&mut self, bound: &Bound<'a>) -> Result<(), NoMemory>
-        ensures { OnOk result ((bindings : List Binding) → (atoms : List Plain) → (binding : Binding)
-            → AreSpliced bindings self.old atoms → IsBound bindings bound.now binding
-            → AreSpliced bindings self.new (atoms ++ binding.atoms)) }
+        ensures { OnOk result ((ifaces : List Iface) → (bindings : List Binding) → (atoms : List Plain) → (binding : Binding)
+            → AreSpliced ifaces bindings self.old atoms → IsBound (record { ifaces = ifaces; bindings = bindings }) bound.now binding
+            → AreSpliced ifaces bindings self.new (atoms ++ binding.atoms)) }
     {
         self.parts.push(bound.part)?;
         self.summary = self.summary.join(&bound.summary);
-        self.first = self.first.or(bound.first);
+        self.leader = self.leader.join(&bound.leader);
         Ok(())
     }
 
     /// The same, where a name may not be defined.
     pub(crate) fn add_where(&mut self, bound: Option<Bound<'a>>) -> Result<(), NoMemory>
-        ensures { OnOk result ((bindings : List Binding) → (atoms : List Plain) → (binding : Option Binding)
-            → AreSpliced bindings self.old atoms → IsBoundWhere bindings bound.entry binding
-            → AreSpliced bindings self.new (atoms ++ atoms_of binding)) }
+        ensures { OnOk result ((ifaces : List Iface) → (bindings : List Binding) → (atoms : List Plain) → (binding : Option Binding)
+            → AreSpliced ifaces bindings self.old atoms → IsBoundWhere (record { ifaces = ifaces; bindings = bindings }) bound.entry binding
+            → AreSpliced ifaces bindings self.new (atoms ++ atoms_of binding)) }
     {
         match bound {
             Some(bound) => self.add(&bound),
@@ -168,8 +203,8 @@ impl<'a> DefValues<'a> {
     // Those of a definition that was not refused.
     fn of(alloc: Global, values: Spliced<'a>) -> Result<DefValues<'a>, NoMemory>
         ensures parts { IfOk result (λ kept. kept_parts kept ≡ values.entry.parts.items) }
-        ensures kept { IfOk result (λ kept. (bindings : List Binding) → (atoms : List Plain)
-            → AreSpliced bindings values.entry atoms → AreKeptIn kept atoms) }
+        ensures kept { IfOk result (λ kept. (ifaces : List Iface) → (bindings : List Binding) → (atoms : List Plain)
+            → AreSpliced ifaces bindings values.entry atoms → AreKeptIn ifaces kept atoms) }
     {
         match values.only() {
             Some(Part::Single(atom)) => Ok(DefValues::One(atom)),
@@ -178,13 +213,14 @@ impl<'a> DefValues<'a> {
     }
 
     // The first of them, and what becomes of them.
-    fn kept(&self) -> (Option<Atom<'a>>, Summary)
-        ensures { (atoms : List Plain) → AreKeptIn self.now atoms → AreKeptBy result.0 result.1 atoms }
+    fn kept(&self, interfaces: &Interfaces) -> (Leader<'a>, Summary)
+        ensures { (atoms : List Plain) → AreKeptIn interfaces.now.list.now self.now atoms
+            → AreKeptBy interfaces.now.list.now result.0 result.1 atoms }
     {
         match self {
-            DefValues::Nothing => (None, Summary::none()),
-            DefValues::One(atom) => (Some(*atom), Summary::of(atom)),
-            DefValues::Many(values) => (values.get().first, values.get().summary),
+            DefValues::Nothing => (Leader::none(), Summary::none()),
+            DefValues::One(atom) => (Leader::of(*atom), Summary::of(interfaces, atom)),
+            DefValues::Many(values) => (values.get().leader, values.get().summary),
         }
     }
 
@@ -215,7 +251,7 @@ impl<'a> DefValues<'a> {
 impl<'a> Def<'a> {
     /// One that is refused: it binds its name to nothing.
     pub(crate) fn refused(many: bool) -> Def<'a>
-        ensures behind { (bindings : List Binding) → IsDefBehind bindings result }
+        ensures behind { (ifaces : List Iface) → (bindings : List Binding) → IsDefBehind ifaces bindings result }
         ensures binding { (bindings : List Binding) → def_binding bindings result ≡ record { many = many; atoms = [] } }
     {
         Def {
@@ -226,9 +262,9 @@ impl<'a> Def<'a> {
 
     /// One of these values.
     pub(crate) fn of(alloc: Global, many: bool, values: Spliced<'a>) -> Result<Def<'a>, NoMemory>
-        ensures behind { IfOk result (λ def. (bindings : List Binding) → (atoms : List Plain) → AreSpliced bindings values.entry atoms
-            → (many ≡ false → length atoms ≤ 1) → IsDefBehind bindings def) }
-        ensures binding { IfOk result (λ def. (bindings : List Binding) → (atoms : List Plain) → AreSpliced bindings values.entry atoms
+        ensures behind { IfOk result (λ def. (ifaces : List Iface) → (bindings : List Binding) → (atoms : List Plain) → AreSpliced ifaces bindings values.entry atoms
+            → (many ≡ false → length atoms ≤ 1) → IsDefBehind ifaces bindings def) }
+        ensures binding { IfOk result (λ def. (ifaces : List Iface) → (bindings : List Binding) → (atoms : List Plain) → AreSpliced ifaces bindings values.entry atoms
             → def_binding bindings def ≡ record { many = many; atoms = atoms }) }
     {
         Ok(Def {
@@ -238,14 +274,16 @@ impl<'a> Def<'a> {
     }
 }
 
-impl<'a> Variables<'a> {
-    ghost use Rattle.npf_expand_values.specs.Scope.{env_in, known};
+impl<'a, 'i> Variables<'a, 'i> {
+    ghost use Rattle.npf_expand_values.specs.Scope.{env_in, ifaces_in, known, known_in};
 
-    /// No definitions.
-    pub fn new(alloc: Global) -> Variables<'a>
-        ensures { (text : List ℕ) → env_in result text ≡ None }
+    /// No definitions yet, for a run with these interfaces.
+    pub fn new(alloc: Global, interfaces: &'a Interfaces<'i>) -> Variables<'a, 'i>
+        ensures none { (text : List ℕ) → env_in result text ≡ None }
+        ensures run { ifaces_in result ≡ interfaces.now.list.now }
     {
         Variables {
+            interfaces,
             defs: Vec::new(alloc),
             latest: HashMap::new(alloc),
         }
@@ -253,7 +291,7 @@ impl<'a> Variables<'a> {
 
     /// What a name is bound to.
     pub(crate) fn find(&self, name: &[u8]) -> Option<Bound<'a>>
-        ensures { IsBoundWhere (known self.now) result (env_in self.now name.now) }
+        ensures { IsBoundWhere (known_in self.now) result (env_in self.now name.now) }
     {
         match self.latest.get(&name) {
             Some(place) => Some(self.bound(*place)),
@@ -263,13 +301,13 @@ impl<'a> Variables<'a> {
 
     fn bound(&self, place: usize) -> Bound<'a>
         requires { place < length self.now.defs.items }
-        ensures { IsBoundWhere (known self.now) (Some result) (slice_get (known self.now) place) }
+        ensures { IsBoundWhere (known_in self.now) (Some result) (slice_get (known self.now) place) }
     {
         let def = &self.defs[place];
-        let (first, summary) = def.values.kept();
+        let (leader, summary) = def.values.kept(self.interfaces);
         Bound {
             many: def.many,
-            first,
+            leader,
             part: self.part(place),
             summary,
         }
@@ -289,8 +327,9 @@ impl<'a> Variables<'a> {
 
     /// Binds a name to what its definition says.
     pub fn put(&mut self, name: &'a [u8], def: Def<'a>) -> Result<(), NoMemory>
-        requires { IsDefBehind (known self.old) def }
-        ensures { OnOk result ((text : List ℕ) → env_in self.new text
+        requires { IsDefBehind (ifaces_in self.old) (known self.old) def }
+        ensures run { ifaces_in self.new ≡ ifaces_in self.old }
+        ensures bound { OnOk result ((text : List ℕ) → env_in self.new text
             ≡ (if bytes_eq name.now text then Some (def_binding (known self.old) def.entry) else env_in self.old text)) }
     {
         let place = self.defs.len();

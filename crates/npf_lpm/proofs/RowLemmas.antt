@@ -1,6 +1,6 @@
 -- The rows as a list of blocks, and the search for a place in them.
 use Rattle.std.proofs.Common.{◌≡◌, ◌≢◌, ◌↔◌, ℕ, List, [], ◌∷◌, ◌+◌, ◌-◌, ◌*◌, ◌<◌, ◌≤◌, suc, zero, Contains, length, get_or, map, refl, sym, ap, ◌∙◌, arith, subst, ⊎_elim}
-use Rattle.std.{proofs.lemmas.{Bool.cases_lt, List.{get_or_default, length-map}}, specs.List.{All, AllPairs, insert, remove}}
+use Rattle.std.{proofs.lemmas.{Bool.cases_lt, List.{get_or_default, length-map}}, specs.List.{All, AllPairs, insert, remove, zip}}
 use Rattle.npf_lpm.specs.{declared.aligned.Aligned.Aligned, Agree.IsAligned, Blocks.{IsAt, IsTakenOut}, Cut.IsCut}
 use Rattle.std.proofs.lemmas.List.{Edits.{length-insert, length-remove}, Quantifiers.all_pairs_remove}
 use Rattle.npf_lpm.{proofs.ChangeLemmas.{All-insert, All-remove, AllPairs-insert, taken_gone}, specs.Rows.{AreOrdered, IsGap, aligned_blocks, rank}}
@@ -11,6 +11,12 @@ get_or-blocks (f ∷ fs) (l ∷ ls) zero d same lt = refl
 get_or-blocks (f ∷ fs) (l ∷ ls) (suc k) d same lt = get_or-blocks fs ls k d (omega arith) (omega arith)
 get_or-blocks [] ls k d same lt = absurd (omega arith)
 get_or-blocks (f ∷ fs) [] k d same lt = absurd (omega arith)
+
+-- the blocks are the pairs of both rows
+pub blocks_of_pairs : (fs ls : List ℕ) → aligned_blocks fs ls ≡ map (λ (p : ℕ × ℕ). record { first = p.0; len = p.1 }) (zip fs ls)
+blocks_of_pairs [] ls = refl
+blocks_of_pairs (f ∷ fs) [] = refl
+blocks_of_pairs (f ∷ fs) (l ∷ ls) = ap (λ bs. record { first = f; len = l } ∷ bs) (blocks_of_pairs fs ls)
 
 pub length-blocks : (fs ls : List ℕ) → length ls ≡ length fs → length (aligned_blocks fs ls) ≡ length fs
 length-blocks [] ls same = refl

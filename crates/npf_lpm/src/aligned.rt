@@ -1,8 +1,8 @@
 // Address blocks of either family as numbers of 128 bits.
-ghost use Rattle.std.specs.Prelude.{◌≡◌, ◌≤◌, ◌*◌, ◌^◌, ◌↔◌, IsTrue};
+ghost use Rattle.std.specs.Prelude.{◌≡◌, ◌≤◌, ◌*◌, ◌^◌, ◌↔◌, IsTrue, true, false};
 ghost use Rattle.npf_types.specs.Address.{first_bits};
 ghost use Rattle.npf_lpm.specs.Agree.{AgreesIn, IsAligned};
-ghost use Rattle.npf_lpm.specs.Families.{aligned_block, number};
+ghost use Rattle.npf_lpm.specs.Families.{aligned_block, number, prefix_of};
 
 use npf_types::{Addr, Prefix};
 
@@ -22,6 +22,21 @@ pub(crate) fn aligned_of(prefix: Prefix) -> Aligned
         first: number_of(prefix.addr),
         len: prefix.len,
     }
+}
+
+/// The prefix of IPv4 that a block is.
+pub(crate) fn narrow_prefix(block: Aligned) -> Prefix
+    ensures { result ≡ prefix_of true block }
+{
+    let addr = Addr::V4((block.first >> 96) as u32);
+    Prefix::of(addr, block.len.min(32)).unwrap()
+}
+
+/// The prefix of IPv6 that a block is.
+pub(crate) fn wide_prefix(block: Aligned) -> Prefix
+    ensures { result ≡ prefix_of false block }
+{
+    Prefix::of(Addr::V6(block.first), block.len.min(128)).unwrap()
 }
 
 /// The address standing left in 128 bits.

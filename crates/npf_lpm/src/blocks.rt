@@ -9,7 +9,7 @@ ghost use Rattle.npf_lpm.specs.Rows.{IsGap, rank};
 
 use crate::aligned::{Aligned, agrees_in};
 use crate::index::Index;
-use crate::rows::{find, firsts_of, lengths_of, put_in, renew, take_out};
+use crate::rows::{blocks_of, find, firsts_of, lengths_of, put_in, renew, take_out};
 use crate::sort::sort_once;
 use npf_types::NoMemory;
 use std::alloc::Global;
@@ -87,6 +87,13 @@ impl Blocks {
         ensures once { AllPairs (λ p q. p ≢ q) self.now }
     {
         self.firsts.len()
+    }
+
+    /// The blocks, in order.
+    pub(crate) fn to_vec(&self, alloc: Global) -> Result<Vec<Aligned>, NoMemory>
+        ensures { IfOk result (λ blocks. blocks.items ≡ self.now) }
+    {
+        blocks_of(alloc, &self.firsts, &self.lengths)
     }
 
     /// Whether some block has the address.

@@ -2,16 +2,16 @@
 //
 // Contracts see a list of prefixes whose order means nothing. A new prefix alone can run out of memory, and leaves the table as it was; a
 // removal keeps the index of a table that has become small, which is right and goes with the table.
-ghost use Rattle.std.specs.Prelude.{◌≡◌, ◌≢◌, ◌≤◌, ◌+◌, ◌<◌, ◌↔◌, ℕ, [], Contains, IsTrue, IfOk, OnOk, OnErr, length, map, if◌then◌else◌, true, false};
+ghost use Rattle.std.specs.Prelude.{◌≡◌, ◌≢◌, ◌≤◌, ◌+◌, ◌<◌, ◌++◌, ◌↔◌, ℕ, [], Contains, IsTrue, IfOk, OnOk, OnErr, length, map, if◌then◌else◌, true, false};
 ghost use Rattle.std.specs.Bool.{OnFalse};
 ghost use Rattle.std.specs.List.{AllPairs, filter};
 ghost use Rattle.npf_types.specs.declared.prefix.Prefix.{Prefix};
 ghost use Rattle.npf_types.specs.Prefix.{Covers};
 ghost use Rattle.npf_lpm.specs.Blocks.{Inserts, Removes};
-ghost use Rattle.npf_lpm.specs.Families.{aligned_block, is_narrow};
+ghost use Rattle.npf_lpm.specs.Families.{aligned_block, is_narrow, prefix_of};
 ghost use Rattle.npf_lpm.specs.Lpm.{Gains, Loses};
 
-use crate::aligned::{Aligned, aligned_of, number_of};
+use crate::aligned::{Aligned, aligned_of, narrow_prefix, number_of, wide_prefix};
 use crate::blocks::Blocks;
 use npf_types::{Addr, NoMemory, Prefix};
 use std::alloc::Global;
@@ -64,6 +64,16 @@ impl Lpm {
         ensures once { AllPairs (λ p q. p ≢ q) self.now }
     {
         self.v4.len() as u64 + self.v6.len() as u64
+    }
+
+    /// The prefixes, in no order that means anything.
+    pub fn to_vec(&self, alloc: Global) -> Result<Vec<Prefix>, NoMemory>
+        ensures { IfOk result (λ prefixes. prefixes.items ≡ self.now) }
+    {
+        let mut prefixes = narrow_prefixes(alloc, self.v4.to_vec(alloc)?.as_slice())?;
+        let wide = wide_prefixes(alloc, self.v6.to_vec(alloc)?.as_slice())?;
+        prefixes.extend_from_slice(wide.as_slice())?;
+        Ok(prefixes)
     }
 
     /// Whether some prefix has the address.
@@ -126,6 +136,30 @@ impl Lpm {
             v6: self.v6.copy()?,
         })
     }
+}
+
+// The prefixes of IPv4 that the blocks are.
+fn narrow_prefixes(alloc: Global, blocks: &[Aligned]) -> Result<Vec<Prefix>, NoMemory>
+    ensures { IfOk result (λ prefixes. prefixes.items ≡ map (prefix_of true) blocks.now) }
+{
+    Ok(
+        blocks
+            .iter()
+            .map(|block| narrow_prefix(*block))
+            .collect(alloc)?,
+    )
+}
+
+// The prefixes of IPv6 that the blocks are.
+fn wide_prefixes(alloc: Global, blocks: &[Aligned]) -> Result<Vec<Prefix>, NoMemory>
+    ensures { IfOk result (λ prefixes. prefixes.items ≡ map (prefix_of false) blocks.now) }
+{
+    Ok(
+        blocks
+            .iter()
+            .map(|block| wide_prefix(*block))
+            .collect(alloc)?,
+    )
 }
 
 // The blocks of the prefixes of IPv4.

@@ -27,6 +27,26 @@ pub(crate) fn lengths_of(alloc: Global, blocks: &[Aligned]) -> Result<Vec<u8>, N
     Ok(blocks.iter().map(|block| block.len).collect(alloc)?)
 }
 
+/// The blocks of rows.
+pub(crate) fn blocks_of(
+    alloc: Global,
+    firsts: &[u128],
+    lengths: &[u8],
+) -> Result<Vec<Aligned>, NoMemory>
+    ensures { IfOk result (λ blocks. blocks.items ≡ aligned_blocks firsts.now lengths.now) }
+{
+    Ok(
+        firsts
+            .iter()
+            .zip(lengths.iter())
+            .map(|(first, len)| Aligned {
+                first: *first,
+                len: *len,
+            })
+            .collect(alloc)?,
+    )
+}
+
 /// The place of a block in rows of which `count` begin at or below its first address: Ok where it is there, Err where
 /// it would stand.
 pub(crate) fn find(

@@ -2,8 +2,8 @@
 -- a matching rule the first matching one with `final`, or else the last matching one. Places count the rules of groups that don't apply,
 -- too, so a rule has one number whatever the packet.
 -- READ 7 of docs/READING.md
-use Rattle.std.specs.Prelude.{ℕ, ◌+◌, Bool, ◌&&◌, if◌then◌else◌, Option, Some, None, List, [], ◌∷◌, length, map}
-use Rattle.std.specs.Option.{option_or}
+use Rattle.std.specs.Prelude.{ℕ, ◌+◌, Bool, ◌&&◌, if◌then◌else◌, Option, Some, None, List, [], ◌∷◌, length, map, slice_get}
+use Rattle.std.specs.Option.{option_map, option_or}
 use Rattle.std.specs.List.{flat_map}
 use Rattle.npf_types.specs.declared.direction.Dir.{Dir}
 use Rattle.npf_types.specs.declared.facts.Facts.{Facts}
@@ -11,6 +11,7 @@ use Rattle.npf_types.specs.declared.interface.IfId.{IfId}
 use Rattle.npf_model.specs.declared.group.Group.{Group}
 use Rattle.npf_model.specs.declared.group.Item.{Item}
 use Rattle.npf_model.specs.declared.group.Item.TheVariants.{One, Dynamic}
+use Rattle.npf_model.specs.declared.model.Model.{Model}
 use Rattle.npf_model.specs.declared.rule.OnIf.{OnIf}
 use Rattle.npf_model.specs.declared.rule.Rule.{Rule}
 use Rattle.npf_model.specs.Describes.{Tables, describes}
@@ -64,3 +65,7 @@ module _ (tables : Tables) (facts : Facts) (ifid : IfId) (dir : Dir) where
 -- all rules of a configuration, in the order of inspection
 abbrev pub all_rules : List Group → List PlacedRule
 all_rules groups = flat_map rules_of groups
+
+-- the rule at a place, counted from 0
+abbrev pub rule_at : Model → ℕ → Option Rule
+rule_at model place = option_map (λ placed. placed.rule) (slice_get (all_rules model.groups) place)

@@ -26,5 +26,5 @@ pub use map::{Algo, Arrow, Map, Side};
 pub use model::Model;
 pub use procedure::Procedure;
 pub use rule::{OnIf, Rule, StateOpt};
-pub use settings::{Parameter, Settings, switch_number, switch_word};
+pub use settings::{Choice, Parameter, PortBound, Settings, Switch, switch_number, switch_word};
 pub use table::{Kind, TableDecl};

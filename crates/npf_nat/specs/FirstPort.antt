@@ -20,10 +20,10 @@ drawn_for Dynamic l4 = source_number l4
 drawn_for Netmap l4 = None
 drawn_for Npt66 l4 = None
 
--- the numbers to draw from: those of the map's outside, or all that aren't well-known
-abbrev pub drawn_range : Option (ℕ × ℕ) → ℕ × ℕ
-drawn_range (Some range) = range
-drawn_range None = (1024, 65535)
+-- the numbers to draw from: those of the map's outside, or these where it has none
+abbrev pub drawn_range : Option (ℕ × ℕ) → ℕ × ℕ → ℕ × ℕ
+drawn_range (Some ports) unsaid = ports
+drawn_range None unsaid = unsaid
 
 -- the number that is tried first: the packet's own where it may be drawn, and otherwise one that is
 -- its own modulo the count

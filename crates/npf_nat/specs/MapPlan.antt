@@ -55,17 +55,19 @@ fixed facts there = Fixed there (answer_change facts there)
 abbrev pub draw : Addr → ℕ × ℕ → ℕ → MapPlan
 draw addr range number = Draw addr range.0 range.1 (first_candidate range number)
 
-abbrev pub outward : Map → Facts → Option ℕ → MapPlan
-outward map facts (Some number) = draw map.outside.net.addr (drawn_range map.outside.ports) number
-outward map facts None = fixed facts (outward_change map facts)
+-- `unsaid` are the ports to draw from where the right side has none
+abbrev pub outward : ℕ × ℕ → Map → Facts → Option ℕ → MapPlan
+outward unsaid map facts (Some number) = draw map.outside.net.addr (drawn_range map.outside.ports unsaid) number
+outward unsaid map facts None = fixed facts (outward_change map facts)
 
-abbrev pub plan_by : Dir → Map → Facts → MapPlan
-plan_by Out map facts = outward map facts (drawn_for map.algo facts.l4)
-plan_by In map facts = fixed facts (inward_change map facts)
+abbrev pub plan_by : ℕ × ℕ → Dir → Map → Facts → MapPlan
+plan_by unsaid Out map facts = outward unsaid map facts (drawn_for map.algo facts.l4)
+plan_by unsaid In map facts = fixed facts (inward_change map facts)
 
 -- none exactly where the packet's protocol, direction or ends aren't the map's
-abbrev pub plan : Map → Facts → Dir → Option MapPlan
-plan map facts dir = if fits_map_protocol map.proto facts.proto && fits_segment map facts dir then Some (plan_by dir map facts) else None
+abbrev pub plan : ℕ × ℕ → Map → Facts → Dir → Option MapPlan
+plan unsaid map facts dir =
+    if fits_map_protocol map.proto facts.proto && fits_segment map facts dir then Some (plan_by unsaid dir map facts) else None
 
 -- the change once a port or an identifier was drawn
 abbrev pub drawn_change : Addr → ℕ → Change

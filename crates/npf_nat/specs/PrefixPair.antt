@@ -1,5 +1,5 @@
 -- What is said of a map's blocks and ports where they are as a configuration has them.
-use Rattle.std.specs.Prelude.{◌≡◌, ◌≤◌, ℕ, IsTrue, Option, Some, None}
+use Rattle.std.specs.Prelude.{◌≡◌, ◌≤◌, ℕ, IsTrue}
 use Rattle.npf_types.specs.declared.prefix.Prefix.{Prefix}
 use Rattle.npf_model.specs.Describes.{is_v6}
 
@@ -11,7 +11,6 @@ pub record ArePrefixes (from : Prefix) (to : Prefix) : Type 0 where
   pub one_length : from.len ≡ to.len
   pub short : to.len ≤ 48
 
--- a range of ports whose first isn't past its last, where there is one
-abbrev pub IsOrdered : Option (ℕ × ℕ) → Type 0
-IsOrdered (Some range) = range.0 ≤ range.1
-IsOrdered None = Unit {0}
+-- a range of ports whose first isn't past its last
+abbrev pub IsForward : ℕ × ℕ → Type 0
+IsForward range = range.0 ≤ range.1

@@ -8,9 +8,6 @@ use crate::answer::answer_change;
 use npf_model::Algo;
 use npf_types::{Addr, Change, End, Facts, L4};
 
-/// The ports that a map draws from where its outside names none: all behind the well-known ones.
-const DEFAULT_RANGE: (u16, u16) = (1024, 65535);
-
 /// The change of a packet for which this port, or identifier of an echo, was drawn at this address,
 /// and that of its answers.
 pub fn drawn(facts: &Facts, addr: Addr, port: u16) -> (Change, Change)
@@ -48,11 +45,11 @@ fn source_number(l4: &L4) -> Option<u16>
     }
 }
 
-/// The first and the last number to draw from.
-pub fn drawn_range(ports: Option<(u16, u16)>) -> (u16, u16)
-    ensures { result ≡ drawn_range ports }
+/// The first and the last number to draw from: those of a map's outside, or `unsaid` where it has none.
+pub fn drawn_range(ports: Option<(u16, u16)>, unsaid: (u16, u16)) -> (u16, u16)
+    ensures { result ≡ drawn_range ports unsaid }
 {
-    ports.unwrap_or(DEFAULT_RANGE)
+    ports.unwrap_or(unsaid)
 }
 
 /// The number that is tried first for a packet that has this one. Where the range is in order it is

@@ -2,7 +2,7 @@
 ghost use Rattle.std.specs.Prelude.{◌≡◌, ◌≤◌, IfSome};
 ghost use Rattle.npf_nat.specs.FirstPort.{drawn_range};
 ghost use Rattle.npf_nat.specs.MapPlan.{plan, plan_by, outward, outward_change, inward_change, translated_address, is_neutral, fixed, draw, TriesWithin};
-ghost use Rattle.npf_nat.specs.PrefixPair.{IsOrdered};
+ghost use Rattle.npf_nat.specs.PrefixPair.{IsForward};
 
 use crate::answer::answer_change;
 use crate::first_port::{drawn_for, drawn_range, first_candidate};
@@ -29,42 +29,46 @@ pub enum MapPlan {
     },
 }
 
-/// What the map makes of a packet that crosses its interface this way. None exactly where the
-/// packet's protocol or direction, or its end on the map's side, isn't the map's. Interface and
-/// filter are not looked at. Where the range of ports is in order, a port of it is tried first.
-pub fn plan(map: &Map, facts: &Facts, dir: Dir) -> Option<MapPlan>
-    ensures value { result ≡ plan map.now facts.now dir }
-    ensures first { IsOrdered map.now.outside.ports → IfSome result TriesWithin }
+/// What the map makes of a packet that crosses its interface this way, where it draws from the
+/// ports `unsaid` if its outside has none. None exactly where the packet's protocol or direction,
+/// or its end on the map's side, isn't the map's. Interface and filter are not looked at. Where
+/// the ports to draw from are in order, one of them is tried first.
+pub fn plan(unsaid: (u16, u16), map: &Map, facts: &Facts, dir: Dir) -> Option<MapPlan>
+    ensures value { result ≡ plan unsaid map.now facts.now dir }
+    ensures first { IsForward (drawn_range map.now.outside.ports unsaid) → IfSome result TriesWithin }
 {
     if !fits_protocol(map.proto, facts.proto) || !fits_segment(map, facts, dir) {
         return None;
     }
     match dir {
-        Dir::Out => Some(outward(map, facts)),
+        Dir::Out => Some(outward(unsaid, map, facts)),
         Dir::In => Some(fixed(facts, inward_change(map, facts))),
     }
 }
 
-fn outward(map: &Map, facts: &Facts) -> MapPlan
-    ensures value { result ≡ plan_by Dir.Out map.now facts.now }
-    ensures first { IsOrdered map.now.outside.ports → TriesWithin result }
+fn outward(unsaid: (u16, u16), map: &Map, facts: &Facts) -> MapPlan
+    ensures value { result ≡ plan_by unsaid Dir.Out map.now facts.now }
+    ensures first { IsForward (drawn_range map.now.outside.ports unsaid) → TriesWithin result }
 {
     match drawn_for(map.algo, &facts.l4) {
-        Some(number) => draw(map.outside.net.addr, map.outside.ports, number),
+        Some(number) => {
+            let range = drawn_range(map.outside.ports, unsaid);
+            draw(map.outside.net.addr, range, number)
+        }
         None => fixed(facts, outward_change(map, facts)),
     }
 }
 
-fn draw(addr: Addr, ports: Option<(u16, u16)>, number: u16) -> MapPlan
-    ensures value { result ≡ draw addr (drawn_range ports) number }
-    ensures first { IsOrdered ports → TriesWithin result }
+fn draw(addr: Addr, range: (u16, u16), number: u16) -> MapPlan
+    ensures value { result ≡ draw addr range number }
+    ensures first { IsForward range → TriesWithin result }
 {
-    let (min, max) = drawn_range(ports);
+    let (min, max) = range;
     MapPlan::Draw {
         addr,
         min,
         max,
-        first: first_candidate((min, max), number),
+        first: first_candidate(range, number),
     }
 }
 

@@ -148,8 +148,8 @@ packet_by In link bytes translated map facts decodes moved fits t =
     destination-keeps link bytes translated facts decodes _ moved fits t
 
 pub packet_keeps_lem : PacketKeepsSums
-packet_keeps_lem link bytes translated map facts dir there back is decodes planned =
-    let plan = is_planned dir map facts there back is planned in
+packet_keeps_lem link bytes translated unsaid map facts dir there back is decodes planned =
+    let plan = is_planned unsaid dir map facts there back is planned in
     subst (λ change. AddressesFit facts change → Translated bytes facts change translated → IsNeutral bytes facts change translated)
     plan.there_is (packet_by dir link bytes translated map facts decodes plan.moved)
 
@@ -179,8 +179,8 @@ answer_by In link answered translated map facts answer one moved answers decodes
     (subst (λ y. IsMoved y facts.dst) (sym is) (moved_back facts.dst x moved)) fits t
 
 pub answer_keeps_lem : AnswerKeepsSums
-answer_keeps_lem link answered translated map facts answer dir there back is one planned answers decodes =
-    let plan = is_planned dir map facts there back is planned in
+answer_keeps_lem link answered translated unsaid map facts answer dir there back is one planned answers decodes =
+    let plan = is_planned unsaid dir map facts there back is planned in
     let given = subst (λ change. IsAnswer facts change answer) (sym plan.there_is) answers in
     subst (λ change. AddressesFit answer change → Translated answered answer change translated
     → IsNeutral answered answer change translated)
@@ -208,11 +208,11 @@ sent_by link bytes sent facts action change small numbers addresses ports decode
     }) decodes s
 
 pub packet_sent_lem : PacketIsSent
-packet_sent_lem link bytes sent map facts action dir there back is small numbers addresses ports decodes planned =
+packet_sent_lem link bytes sent unsaid map facts action dir there back is small numbers addresses ports decodes planned =
     sent_by link bytes sent facts action there small numbers addresses ports decodes
-    (λ middle says t. packet_keeps_lem link middle sent map facts dir there back is says planned addresses t)
+    (λ middle says t. packet_keeps_lem link middle sent unsaid map facts dir there back is says planned addresses t)
 
 pub answer_sent_lem : AnswerIsSent
-answer_sent_lem link answered sent map facts answer action dir there back is one small numbers addresses ports decodes planned answers =
+answer_sent_lem link answered sent unsaid map facts answer action dir there back is one small numbers addresses ports decodes planned answers =
     sent_by link answered sent answer action back small numbers addresses ports decodes
-    (λ middle says t. answer_keeps_lem link middle sent map facts answer dir there back is one planned answers says addresses t)
+    (λ middle says t. answer_keeps_lem link middle sent unsaid map facts answer dir there back is one planned answers says addresses t)

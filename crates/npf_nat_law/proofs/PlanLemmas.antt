@@ -63,12 +63,12 @@ abbrev pub npt66_change : Dir → Map → Facts → Change
 npt66_change Out map facts = source_change (npt66_address map.inside.net map.outside.net facts.src) None true
 npt66_change In map facts = destination_change (npt66_address map.outside.net map.inside.net facts.dst) None true
 
-planned : (dir : Dir) (map : Map) (facts : Facts) → IsPrefixMap map
-    → plan_by dir map facts ≡ fixed facts (npt66_change dir map facts)
-planned Out map facts is =
-    ap (λ a. outward map facts (drawn_for a facts.l4)) is.algo
+planned : (unsaid : ℕ × ℕ) (dir : Dir) (map : Map) (facts : Facts) → IsPrefixMap map
+    → plan_by unsaid dir map facts ≡ fixed facts (npt66_change dir map facts)
+planned unsaid Out map facts is =
+    ap (λ a. outward unsaid map facts (drawn_for a facts.l4)) is.algo
     ∙ ap (λ a. fixed facts (source_change (translated_address a map.inside.net map.outside.net facts.src) None (is_neutral a))) is.algo
-planned In map facts is =
+planned unsaid In map facts is =
     ap (λ a. fixed facts (destination_change (translated_address a map.outside.net map.inside.net facts.dst)
     (option_map (λ range. range.0) map.inside.ports) (is_neutral a))) is.algo
     ∙ ap (λ p. fixed facts (destination_change (npt66_address map.outside.net map.inside.net facts.dst)
@@ -104,12 +104,12 @@ pub record IsPlanned (dir : Dir) (map : Map) (facts : Facts) (there back : Chang
   pub back_is : answer_change facts (npt66_change dir map facts) ≡ back
   pub moved : IsMoved (taken_end dir facts) (given_end dir map facts)
 
-pub is_planned : (dir : Dir) (map : Map) (facts : Facts) (there back : Change) → IsPrefixMap map
-    → plan map facts dir ≡ Some (Fixed there back) → IsPlanned dir map facts there back
-is_planned dir map facts there back is h =
-    let fits = chosen (fits_map_protocol map.proto facts.proto && fits_segment map facts dir) (plan_by dir map facts)
+pub is_planned : (unsaid : ℕ × ℕ) (dir : Dir) (map : Map) (facts : Facts) (there back : Change) → IsPrefixMap map
+    → plan unsaid map facts dir ≡ Some (Fixed there back) → IsPlanned dir map facts there back
+is_planned unsaid dir map facts there back is h =
+    let fits = chosen (fits_map_protocol map.proto facts.proto && fits_segment map facts dir) (plan_by unsaid dir map facts)
     (Fixed there back) h in
-    let both = same_plan facts (npt66_change dir map facts) there back (sym (planned dir map facts is) ∙ fits.1) in
+    let both = same_plan facts (npt66_change dir map facts) there back (sym (planned unsaid dir map facts is) ∙ fits.1) in
     record {
       there_is = both.0;
       back_is = both.1;

@@ -38,8 +38,8 @@ pub record IsNeutral (bytes : List ℕ) (facts : Facts) (change : Change) (trans
 -- a packet that such a map translates
 abbrev pub PacketKeepsSums : Type 0
 PacketKeepsSums =
-    (link : Link) (bytes translated : List ℕ) (map : Map) (facts : Facts) (dir : Dir) (there back : Change)
-    → IsPrefixMap map → Decodes link bytes (Ip facts) → plan map facts dir ≡ Some (Fixed there back)
+    (link : Link) (bytes translated : List ℕ) (unsaid : ℕ × ℕ) (map : Map) (facts : Facts) (dir : Dir) (there back : Change)
+    → IsPrefixMap map → Decodes link bytes (Ip facts) → plan unsaid map facts dir ≡ Some (Fixed there back)
     → AddressesFit facts there → Translated bytes facts there translated
     → IsNeutral bytes facts there translated
 
@@ -51,8 +51,8 @@ pub record IsAnswer (facts : Facts) (there : Change) (answer : Facts) : Type 0 w
 -- the answer to it, under the change back
 abbrev pub AnswerKeepsSums : Type 0
 AnswerKeepsSums =
-    (link : Link) (answered translated : List ℕ) (map : Map) (facts answer : Facts) (dir : Dir) (there back : Change)
-    → IsPrefixMap map → IsOneFamily facts → plan map facts dir ≡ Some (Fixed there back)
+    (link : Link) (answered translated : List ℕ) (unsaid : ℕ × ℕ) (map : Map) (facts answer : Facts) (dir : Dir) (there back : Change)
+    → IsPrefixMap map → IsOneFamily facts → plan unsaid map facts dir ≡ Some (Fixed there back)
     → IsAnswer facts there answer → Decodes link answered (Ip answer)
     → AddressesFit answer back → Translated answered answer back translated
     → IsNeutral answered answer back translated
@@ -60,16 +60,16 @@ AnswerKeepsSums =
 -- So what is sent of such a packet is that packet: a sum that verified verifies.
 abbrev pub PacketIsSent : Type 0
 PacketIsSent =
-    (link : Link) (bytes sent : List ℕ) (map : Map) (facts : Facts) (action : Action) (dir : Dir) (there back : Change)
+    (link : Link) (bytes sent : List ℕ) (unsaid : ℕ × ℕ) (map : Map) (facts : Facts) (action : Action) (dir : Dir) (there back : Change)
     → IsPrefixMap map → HasBytes bytes → ActionFits action → AddressesFit facts there → PortsFit facts there
-    → Decodes link bytes (Ip facts) → plan map facts dir ≡ Some (Fixed there back)
+    → Decodes link bytes (Ip facts) → plan unsaid map facts dir ≡ Some (Fixed there back)
     → Sent bytes facts action there sent → IsPacketThere link bytes facts there sent
 
 -- and so is what is sent of the answer
 abbrev pub AnswerIsSent : Type 0
 AnswerIsSent =
-    (link : Link) (answered sent : List ℕ) (map : Map) (facts answer : Facts) (action : Action) (dir : Dir) (there back : Change)
+    (link : Link) (answered sent : List ℕ) (unsaid : ℕ × ℕ) (map : Map) (facts answer : Facts) (action : Action) (dir : Dir) (there back : Change)
     → IsPrefixMap map → IsOneFamily facts → HasBytes answered → ActionFits action
     → AddressesFit answer back → PortsFit answer back → Decodes link answered (Ip answer)
-    → plan map facts dir ≡ Some (Fixed there back) → IsAnswer facts there answer
+    → plan unsaid map facts dir ≡ Some (Fixed there back) → IsAnswer facts there answer
     → Sent answered answer action back sent → IsPacketThere link answered answer back sent

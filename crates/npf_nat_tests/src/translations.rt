@@ -20,6 +20,9 @@ const EXTERNAL: u128 = 0x2001_0db8_0001_d550_0000_0000_0000_1234;
 
 const PEER: Addr = Addr::V6(0x2001_0db8_00ff_0000_0000_0000_0000_0001);
 
+/// What a configuration draws from that says nothing of ports.
+const ANY: (u16, u16) = (1024, 65535);
+
 /// The first and the last port of a side.
 type Ports = Option<(u16, u16)>;
 
@@ -105,10 +108,68 @@ fn outward_maps_draw_a_port(rt: HostRuntime) -> Result<(), Fail> {
     outward(&rt, "another protocol", (47, L4::Other), None, None)
 }
 
-/// A dynamic map from 10.0.0.0/24 to the outer address draws this port, or changes the address alone; and nothing comes in.
+// The ports that a configuration draws from where its maps have none, those of the map, and what is drawn for a packet.
+#[test]
+fn ports_are_those_of_the_configuration(rt: HostRuntime) -> Result<(), Fail> {
+    let upper = (49152, 65535);
+    outward_from(
+        &rt,
+        "a port below",
+        upper,
+        (17, udp(40000, 53)),
+        None,
+        Some((49152, 65535, 56384)),
+    )?;
+    outward_from(
+        &rt,
+        "a port of it",
+        upper,
+        (6, tcp(50000, 80)),
+        None,
+        Some((49152, 65535, 50000)),
+    )?;
+    outward_from(
+        &rt,
+        "an echo",
+        upper,
+        (1, icmp(Some(7))),
+        None,
+        Some((49152, 65535, 49159)),
+    )?;
+    outward_from(
+        &rt,
+        "the map's own",
+        upper,
+        (17, udp(109, 53)),
+        Some((100, 109)),
+        Some((100, 109, 109)),
+    )?;
+    outward_from(
+        &rt,
+        "one port",
+        (5000, 5000),
+        (17, udp(40000, 53)),
+        None,
+        Some((5000, 5000, 5000)),
+    )
+}
+
+/// The same under a configuration that says nothing of ports.
 fn outward(
     rt: &impl Abort,
     case: &str,
+    packet: (u8, L4),
+    ports: Ports,
+    numbers: Option<(u16, u16, u16)>,
+) -> Result<(), Fail> {
+    outward_from(rt, case, ANY, packet, ports, numbers)
+}
+
+/// A dynamic map from 10.0.0.0/24 to the outer address draws this port, or changes the address alone; and nothing comes in.
+fn outward_from(
+    rt: &impl Abort,
+    case: &str,
+    unsaid: (u16, u16),
     (proto, l4): (u8, L4),
     ports: Ports,
     numbers: Option<(u16, u16, u16)>,
@@ -134,8 +195,8 @@ fn outward(
             back: destination(INSIDE, None),
         },
     };
-    same(rt, case, plan(&map, &facts, Dir::Out), Some(wanted));
-    same(rt, case, plan(&map, &facts, Dir::In), None);
+    same(rt, case, plan(unsaid, &map, &facts, Dir::Out), Some(wanted));
+    same(rt, case, plan(unsaid, &map, &facts, Dir::In), None);
     Ok(())
 }
 
@@ -186,8 +247,8 @@ fn inward(
         there: destination(INSIDE, there),
         back: source(OUTSIDE, back),
     });
-    same(rt, case, plan(&map, &facts, Dir::In), wanted);
-    same(rt, case, plan(&map, &facts, Dir::Out), None);
+    same(rt, case, plan(ANY, &map, &facts, Dir::In), wanted);
+    same(rt, case, plan(ANY, &map, &facts, Dir::Out), None);
     Ok(())
 }
 
@@ -202,17 +263,22 @@ fn blocks_are_exchanged(rt: HostRuntime) -> Result<(), Fail> {
         back: destination(own, None),
     };
     let leaving = packet(own, SERVER, 6, tcp(5000, 80));
-    same(&rt, "out", plan(&map, &leaving, Dir::Out), Some(out));
+    same(&rt, "out", plan(ANY, &map, &leaving, Dir::Out), Some(out));
     let into = MapPlan::Fixed {
         there: destination(own, None),
         back: source(moved, None),
     };
     let entering = packet(SERVER, moved, 6, tcp(80, 5000));
-    same(&rt, "into", plan(&map, &entering, Dir::In), Some(into));
+    same(&rt, "into", plan(ANY, &map, &entering, Dir::In), Some(into));
     let outsider = packet(Addr::V4(0x0a02_0000), SERVER, 6, tcp(5000, 80));
-    same(&rt, "not inside", plan(&map, &outsider, Dir::Out), None);
+    same(
+        &rt,
+        "not inside",
+        plan(ANY, &map, &outsider, Dir::Out),
+        None,
+    );
     let ipv6 = packet(PEER, PEER, 6, tcp(5000, 80));
-    same(&rt, "IPv6", plan(&map, &ipv6, Dir::Out), None);
+    same(&rt, "IPv6", plan(ANY, &map, &ipv6, Dir::Out), None);
     Ok(())
 }
 

@@ -1,3 +1,4 @@
+pub mod Ahead
 pub mod Counts
 pub mod Files
 pub mod Opened

@@ -1,14 +1,17 @@
 // The files of the system.
 //
 // One count of failed reads serves all names, since one for each would want memory at the very read that fails.
-ghost use Rattle.std.specs.Prelude.{◌≡◌, ◌≢◌, ◌↔◌, ◌<◌, ◌≤◌, [], ◌++◌, true, None, length, take, is_ok, vec_capacity, IfSome, IfOk, IsOk, OnOk, IsErrOf};
+ghost use Rattle.std.specs.Prelude.{◌≡◌, ◌≢◌, ◌↔◌, ◌<◌, ◌≤◌, [], true, None, length, take, is_ok, vec_capacity, IfSome, IfOk, IsOk, OnOk, IsErrOf};
 ghost use Rattle.std.specs.IoError.{error_kind};
 ghost use Rattle.std.specs.Fs.{new_options, with_create, with_truncate, with_write};
+ghost use Rattle.npf_outside.specs.Ahead.{IsAhead};
 ghost use Rattle.npf_outside.specs.Counts.{Rose, RoseByMore, count_after};
 ghost use Rattle.npf_outside.specs.Opened.{TookBytes};
 
+use crate::file_ahead::FileAhead;
 use crate::files::{FileFault, Files};
 use crate::parts::{PART_ROOM, Parts, write_each};
+use crate::read_front::read_front;
 use crate::write_front::write_front;
 use std::alloc::Global;
 use std::fs::{self, OpenFile, OpenOptions};
@@ -16,10 +19,11 @@ use std::io::{Error, ErrorKind, Read, Result as IoResult, Write};
 use std::rt;
 
 /// The files of the system, by paths from the current folder. It tells no contents, and counts the reads that failed for
-/// all names together.
+/// all names together. One file may have been read ahead: the first read of its name is given those bytes.
 #[derive(Drop)]
 pub struct FolderFiles<'a, R: rt::Files> {
     rt: &'a R,
+    ahead: Option<FileAhead>,
     read_faults: u64,
     write_faults: u64,
     taken: u64,
@@ -34,9 +38,41 @@ impl<'a, R: rt::Files> FolderFiles<'a, R> {
     {
         FolderFiles {
             rt,
+            ahead: None,
             read_faults: 0,
             write_faults: 0,
             taken: 0,
+        }
+    }
+
+    /// Reads the file ahead of the call that asks for it, in place of any that was read ahead before. A file that is no regular one, such as a
+    /// pipe, isn't opened, since that may wait for whoever writes to it. Where the file can't be read, has more than `most` bytes or memory runs
+    /// out, it is read when it is asked for, and refused then.
+    pub fn read_ahead(&mut self, alloc: Global, name: &str, most: u64)
+        ensures read_faults { self.new.read_faults ≡ self.old.read_faults }
+        ensures write_faults { self.new.write_faults ≡ self.old.write_faults }
+        ensures taken { self.new.taken ≡ self.old.taken }
+    {
+        self.ahead = match fs::metadata(self.rt, name) {
+            Ok(metadata) if metadata.is_file() && metadata.len() <= most => {
+                FileAhead::of(alloc, name, fs::open(self.rt, name), most)
+            }
+            _ => None,
+        };
+    }
+
+    /// The bytes that were read ahead, if they are those of the file of this name. They are given once.
+    fn take_ahead(&mut self, name: &str) -> Option<Vec<u8>>
+        ensures named { IfSome result (λ bytes. IsAhead self.old.ahead name.now bytes.items) }
+        ensures once { IfSome result (λ _. self.new.ahead ≡ None) }
+        ensures others { self.new ≡ record self.old { ahead = self.new.ahead } }
+    {
+        match self.ahead.take() {
+            Some(file) if file.has_name(name) => Some(file.into_bytes()),
+            other => {
+                self.ahead = other;
+                None
+            }
         }
     }
 
@@ -168,14 +204,19 @@ impl<'a, R: rt::Files> Files for FolderFiles<'a, R> {
     } };
 
     fn read(&mut self, alloc: Global, name: &str, most: u64) -> Result<Vec<u8>, FileFault> {
-        self.read_opened(alloc, fs::open(self.rt, name), most)
+        match self.take_ahead(name) {
+            Some(bytes) => self.read_of(bytes, Ok(()), most),
+            None => self.read_opened(alloc, fs::open(self.rt, name), most),
+        }
     }
 
+    /// What was read ahead may be of the file that is written, so it is dropped.
     fn write(&mut self, name: &str, bytes: &[u8]) -> Result<(), FileFault> {
+        self.ahead = None;
         self.write_opened(&mut replacing().open(self.rt, name), bytes)
     }
 
-    /// The room for a part is made before the file is opened.
+    /// The room for a part is made before the file is opened. What was read ahead is dropped, as by `write`.
     fn write_parts<P: Parts>(
         &mut self,
         alloc: Global,
@@ -185,20 +226,9 @@ impl<'a, R: rt::Files> Files for FolderFiles<'a, R> {
         let Ok(mut page) = Vec::with_capacity(alloc, PART_ROOM) else {
             return Err(FileFault::NoMemory);
         };
+        self.ahead = None;
         self.write_parts_opened(&mut replacing().open(self.rt, name), parts, &mut page)
     }
-}
-
-/// Appends what the source has left, of which it takes at most one byte more than `most`. The room for them is made at once.
-fn read_front<S: Read + OpenFile + Drop>(source: S, most: u64, bytes: &mut Vec<u8>) -> IoResult<()>
-    ensures { OnOk result (IfSome (S.remaining source)
-        (λ left. bytes.new.items ≡ bytes.old.items ++ take (count_after most 1) left)) }
-{
-    let most = most.saturating_add(1);
-    let size = source.metadata()?.len().min(most);
-    bytes.reserve_exact(size.saturating_add(1) as usize)?;
-    source.take(most).read_to_end(bytes)?;
-    Ok(())
 }
 
 /// How a file is opened whose contents are replaced: it is made where it is missing, and emptied where it is there.

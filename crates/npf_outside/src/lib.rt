@@ -9,15 +9,17 @@
 // `MemFiles` and `MemSink` tell everything and fail exactly where they were told to. A `StreamSink` stands over any writer
 // and tells what that tells; `StdoutSink` and `StderrSink` are those over the streams of the system, which tell nothing.
 // `FolderFiles` has the files of the system, which tell nothing either: its reading and its writing are proved of any
-// reader and writer. What the system's streams and files do with the bytes is the edge that is trusted.
+// reader and writer, and so is what it reads of a file ahead of the call that asks for it. What the system's streams and files do with the bytes is the edge that is trusted.
 #![tactic(auto)]
 
 mod calls;
+mod file_ahead;
 mod files;
 mod folder_files;
 mod mem_files;
 mod mem_sink;
 mod parts;
+mod read_front;
 mod sink;
 mod stream;
 mod stream_sink;

@@ -16,6 +16,7 @@ use Rattle.npf_syntax.specs.declared.value.Values.{Values}
 use Rattle.npf_syntax.specs.declared.word.Address.{Address}
 use Rattle.npf_syntax.specs.declared.word.Number.{Number}
 use Rattle.npf_syntax.specs.declared.word.Word.{Word}
+use Rattle.npf_syntax.specs.Reserved.{is_iface_word}
 use Rattle.npf_phrase.specs.Grammar.{Grammar, meaning, pure, making, either, fitted, ◌&◌, ◌or◌, optional, preceded, terminated, list_of}
 use Rattle.npf_parser_values.specs.declared.role.ValueRole.{ValueRole}
 use Rattle.npf_parser_values.specs.Token.{span_of, says, sign, string, word, variable, number, address, number_to, name_word, name_string, spaced}
@@ -118,12 +119,14 @@ is_port_end (Some last) = is_port last
 is_port_end None = true
 
 -- What a value may be in its place. In the definition of a variable it may be any; as an address it is an address, a
--- table, a function or a variable; as a port it is a port, a range of ports, a service's word or a variable.
+-- table, a function, an interface's name or a variable; as a port it is a port, a range of ports, a service's word or a variable.
 abbrev pub can_stand : ValueRole → Value → Bool
 can_stand ValueRole.Any _ = true
 can_stand ValueRole.Address (Value.Address _ _ _) = true
 can_stand ValueRole.Address (Value.Table _ _) = true
 can_stand ValueRole.Address (Value.Function _ _ _) = true
+can_stand ValueRole.Address (Value.Word word _) = is_iface_word word.text
+can_stand ValueRole.Address (Value.Str string _) = is_name string.text
 can_stand ValueRole.Address (Value.Var _ _) = true
 can_stand ValueRole.Port (Value.Number first last _) = is_port first && is_port_end last
 can_stand ValueRole.Port (Value.Word _ _) = true

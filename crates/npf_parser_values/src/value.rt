@@ -20,7 +20,9 @@ use crate::stop::Stop;
 use crate::text::{copied, span_to};
 use crate::tokens::{after_sign, after_spaced, behind_sign, behind_spaced, behind_word, skip};
 use npf_lexer::{Sign, Token, TokenKind};
-use npf_syntax::{Address, Boxed, Function, IfaceTree, Number, Value, ValueList, Values, Word};
+use npf_syntax::{
+    Address, Boxed, Function, IfaceTree, Number, Value, ValueList, Values, Word, is_iface_word,
+};
 use npf_types::List;
 use std::alloc::Global;
 
@@ -338,6 +340,8 @@ fn can_stand(role: ValueRole, value: &Value) -> bool
             | Value::Function { .. }
             | Value::Var { .. },
         ) => true,
+        (ValueRole::Address, Value::Word { word, .. }) => is_iface_word(word.text.as_slice()),
+        (ValueRole::Address, Value::Str { string, .. }) => is_name(string.text.as_slice()),
         (ValueRole::Port, Value::Number { first, last, .. }) => is_port(*first)
             && is_port_end(*last),
         (ValueRole::Port, Value::Word { .. } | Value::Var { .. }) => true,

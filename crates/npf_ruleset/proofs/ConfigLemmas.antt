@@ -1,9 +1,9 @@
 -- What a flat rule of a configuration says of the rule at its place.
 use Rattle.std.{proofs.Common.{◌≡◌, ◌<◌, ℕ, Some, length, get_or, slice_get, refl, sym, subst, ap, ◌∙◌, arith}, specs.{Prelude.unwrap_or, Option.option_map}}
 use Rattle.std.proofs.lemmas.Option.{slice_get-map, slice_get_read, slice_get_within}
-use Rattle.npf_model.specs.Verdict.{PlacedRule, all_rules}
+use Rattle.npf_model.specs.Verdict.{PlacedRule, all_rules, rule_at}
 use Rattle.npf_ruleset.specs.{declared.{config.Config.Config, flat.FlatRule.FlatRule}, Flat.{IsCompiled, IsFlatRule, programs_of}}
-use Rattle.npf_ruleset.{specs.{Place.{IsPlaceOfRule, placed_at}, RuleAt.{IsProgramAt, rule_at}}, proofs.PairLemmas.{drop_here, zip_each}}
+use Rattle.npf_ruleset.{specs.{Place.{IsPlaceOfRule, placed_at}, RuleAt.{IsProgramAt}}, proofs.PairLemmas.{drop_here, zip_each}}
 
 module _ (config : Config) (i : ℕ) (flat : FlatRule) (within : i < length (all_rules config.model.groups)) (is : flat ≡ get_or config.rules i flat) where
   there : (placed : PlacedRule) × (slice_get (all_rules config.model.groups) i ≡ Some placed)

@@ -27,9 +27,9 @@ pub struct Config {
 
 impl Config {
     ghost use Rattle.std.specs.Prelude.{◌≡◌, ◌<◌, Some, length, slice_get};
-    ghost use Rattle.npf_model.specs.Verdict.{all_rules};
+    ghost use Rattle.npf_model.specs.Verdict.{all_rules, rule_at};
     ghost use Rattle.npf_ruleset.specs.Configuration.{programs};
-    ghost use Rattle.npf_ruleset.specs.RuleAt.{IsProgramAt, rule_at};
+    ghost use Rattle.npf_ruleset.specs.RuleAt.{IsProgramAt};
 
     /// The rule at a place, counted from 0 in the order of inspection, which must be in range.
     pub fn rule(&self, i: u32) -> &Rule

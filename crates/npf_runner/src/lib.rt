@@ -1,7 +1,7 @@
 // A run: packets through workers, in phases, beside a control task that publishes configurations and expires connections.
 //
-// In a phase each worker takes its packets in rising order on a thread of its own, at the same time as the control task does the phase's
-// commands; each has a pass of its own to the table of connections, which is split from the caller's at the phase's start and
+// In a phase each worker that has packets takes them in rising order on a thread of its own, at the same time as the control task does the
+// phase's commands; each has a pass of its own to the table of connections, which is split from the caller's at the phase's start and
 // joined at its end. Then what was killed is freed. A worker handles its packets where they stand, and with one worker and one phase no
 // packet is ever moved.
 //

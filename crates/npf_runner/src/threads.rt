@@ -16,13 +16,21 @@ use crate::worker::{Lane, work};
 use npf_connections::Connections;
 use npf_flow::FlowLaw;
 use npf_publish::Publisher;
+use npf_runner_threads::{Busy, any_busy, for_each_busy_mut};
 use npf_traffic::Command;
 use npf_types::NoMemory;
 use std::sync::Wait;
-use std::thread::{Threads, for_each_mut, join};
+use std::thread::{Threads, join};
 
-/// The control task beside all workers, each on a thread of its own. A worker that is alone and has no commands beside it takes the
-/// caller's.
+/// A worker without packets has nothing to do, and takes no thread.
+impl<'a, P: Drop> Busy for Lane<'a, P> {
+    fn is_busy(&self) -> bool {
+        !self.worker.packets.is_empty()
+    }
+}
+
+/// The control task beside all workers. Where there are commands and packets, the control task has a thread of its own; else the caller does
+/// the commands, and then the workers' part.
 pub fn side_by_side<'a, R: Threads + Wait + Sync, C: Connections<FlowLaw>, G: Gate>(
     shared: &Shared<'_, R, C, G>,
     pass: C::Pass,
@@ -35,7 +43,6 @@ pub fn side_by_side<'a, R: Threads + Wait + Sync, C: Connections<FlowLaw>, G: Ga
         (publisher_range publisher.old).last }
     requires can { All (CanWork (C.fits shared.now.conns.now) C.view
         (length shared.now.configs.now)) lanes.items }
-    requires some { 0 < vec_len lanes }
     ensures out { IsOut flow_law (C.fits shared.now.conns.now) C.view result.0.0 }
     ensures rested { IsRested (C.view pass) (C.view result.0.0) }
     ensures runs { OnOk result.0.1 (Runs commands.now (C.view pass) (C.view result.0.0)) }
@@ -46,9 +53,10 @@ pub fn side_by_side<'a, R: Threads + Wait + Sync, C: Connections<FlowLaw>, G: Ga
         (configurations shared.now.configs.now) (slice_index_or lanes.entry.items i d)
         (slice_index_or result.1.items i d) }
 {
-    if commands.is_empty() && lanes.len() == 1 {
-        work(shared, &mut lanes[0]);
-        return ((pass, Ok(())), lanes);
+    if commands.is_empty() || !any_busy(lanes.as_slice()) {
+        let controlled = control(shared.rt, shared.conns, pass, commands, publisher);
+        work_all(shared, lanes.as_mut_slice());
+        return (controlled, lanes);
     }
     let rt = shared.rt;
     let conns = shared.conns;
@@ -61,7 +69,7 @@ pub fn side_by_side<'a, R: Threads + Wait + Sync, C: Connections<FlowLaw>, G: Ga
         { control(rt, conns, pass, commands, publisher) },
         move ||
             requires { All (CanWork (C.fits shared.now.conns.now) C.view
-                (length shared.now.configs.now)) lanes.items × (0 < vec_len lanes) }
+                (length shared.now.configs.now)) lanes.items }
         {
             work_all(shared, lanes.as_mut_slice());
             lanes
@@ -69,25 +77,22 @@ pub fn side_by_side<'a, R: Threads + Wait + Sync, C: Connections<FlowLaw>, G: Ga
     )
 }
 
-/// All workers at once.
+/// All workers at once, each that has packets on a thread of its own but for one.
 fn work_all<R: Threads + Wait + Sync, C: Connections<FlowLaw>, G: Gate>(
     shared: &Shared<'_, R, C, G>,
     lanes: &mut [Lane<'_, C::Pass>],
 )
     requires can { All (CanWork (C.fits shared.now.conns.now) C.view
         (length shared.now.configs.now)) lanes.old }
-    requires some { 0 < length lanes.old }
     ensures lanes { All (λ lane. IsOut flow_law (C.fits shared.now.conns.now) C.view lane.pass)
         lanes.new }
     ensures worked { (i : ℕ) (d : _) → i < length lanes.old → HasWorked C.view
         (configurations shared.now.configs.now) (slice_index_or lanes.old i d)
         (slice_index_or lanes.new i d) }
 {
-    let workers = lanes.len();
-    for_each_mut(
+    for_each_busy_mut(
         shared.rt,
         lanes,
-        workers,
         &|_, lane: &mut Lane<'_, C::Pass>|
             requires { CanWork (C.fits shared.now.conns.now) C.view (length shared.now.configs.now)
                 lane.old }

@@ -1,7 +1,7 @@
 -- What the names and the values of a configuration without a fault stand for.
-use Rattle.std.proofs.Common.{◌≡◌, ◌≤◌, ◌<◌, ℕ, Bool, true, false, not, ◌||◌, if◌then◌else◌, cond, Option, Some, None, IfSome, List, [], ◌∷◌}
-use Rattle.std.proofs.{Common.{◌++◌, length, flat_map, filter, refl, sym, ap, subst, ◌∙◌, arith, append-nil}, lemmas.{Bool.leb-true, List.length-append}}
-use Rattle.std.{proofs.lemmas.List.Elements.{All-head, All-tail}, specs.{List.All, Str.bytes_eq}}
+use Rattle.std.proofs.Common.{◌≡◌, ◌≤◌, ◌<◌, ℕ, Bool, true, false, not, ◌&&◌, ◌||◌, if◌then◌else◌, cond, Option, Some, None, IfSome, List, [], ◌∷◌}
+use Rattle.std.proofs.{Common.{◌++◌, length, flat_map, filter, refl, sym, ap, subst, ◌∙◌, arith, append-nil}, lemmas.{Bool.{leb-true, or_parts}, List.length-append}}
+use Rattle.std.{proofs.lemmas.List.Elements.{All-head, All-tail}, specs.{List.{All, list_any}, Str.bytes_eq}}
 use Rattle.npf_types.specs.{declared.{address.Addr.Addr, span.Span.Span}, Name.name_bytes, NameText.is_name}
 use Rattle.npf_shelf.proofs.ListLemmas.{nil_from_append_left, nil_from_append_right}
 use Rattle.npf_faults.specs.{declared.fault.{ConfFault.ConfFault, Fault.TheVariants.{Expected, UnknownInterface, UnknownTable}}, First.fault_if}
@@ -9,11 +9,13 @@ use Rattle.npf_syntax.specs.declared.{value.{Function.Function, IfaceTree.IfaceT
 use Rattle.npf_model.specs.declared.iface.Iface.{Iface}
 use Rattle.npf_check.specs.Undefined.{table_faults, tables_of_values}
 use Rattle.npf_expand_values.specs.Atom.{Atom, NumberAtom, RangeAtom, WordAtom, StringAtom, BlockAtom, TableAtom, AddressesAtom, Binding, Env}
-use Rattle.npf_expand_values.specs.Iface.{iface_binding, iface_span, iface_faults, name_text, only_name, bound_name, iface_name, addresses_of_first, addresses_of, is_of, has_none, address_faults}
-use Rattle.npf_expand_values.specs.Use.{atoms_of, undefined_faults}
+use Rattle.npf_expand_values.specs.declared.role.Role.TheVariants.{AsInterface}
+use Rattle.npf_expand_values.specs.Leader.{is_alike, name_text, shared_name}
+use Rattle.npf_expand_values.specs.Iface.{iface_binding, iface_span, iface_faults, bound_name, iface_name, addresses_of_first, addresses_of, is_of, has_none, address_faults}
+use Rattle.npf_expand_values.specs.Use.{atoms_of, is_unfit, undefined_faults, use_faults, word_faults}
 use Rattle.npf_expand_values.specs.Variable.{Definition, number_atom, length_of_block, empty_list_at, binding_of, own_faults, spliced}
 use Rattle.npf_expand_values.specs.Variable.{definition_faults, is_bound_to_list, is_list, unless_refused, defined, env_of}
-use Rattle.npf_expand.proofs.ElementLemmas.{untold}
+use Rattle.npf_expand.proofs.ElementLemmas.{unless, untold}
 use Rattle.npf_parser_values.specs.Value.{is_range}
 use Rattle.npf_show_tokens.specs.{Showable.FitsAddr, Tokens.is_run_word}
 use Rattle.npf_show_law.proofs.{Gives.Every, Sound.{IsSoundValue, AreSoundValues}}
@@ -38,12 +40,29 @@ pub every_listed : {A B : Type 0} (P : A → Type 0) (Q : B → Type 0) (f : A �
 every_listed P Q f step [] every = tt
 every_listed P Q f step (x ∷ xs) every = every_both Q (f x) (flat_map f xs) (step x every.0) (every_listed P Q f step xs every.1)
 
+-- the name of an interface that has no fault
+pub record IsNamed (o : Option (List ℕ)) : Type 0 where
+  pub text : List ℕ
+  pub is : o ≡ Some text
+  pub name : is_name text ≡ true
+
+-- values that are all of one interface, or one alone
+alone_alike : (atom : Atom) (atoms : List Atom) → length (atom ∷ atoms) ≡ 1 → is_alike (atom ∷ atoms) ≡ true
+alone_alike atom [] one = refl
+alone_alike atom (other ∷ atoms) one = absurd (omega (arith, one))
+
+are_alike : (many : Bool) (atom : Atom) (atoms : List Atom) (alike : Bool) → is_alike (atom ∷ atoms) ≡ alike → (many && not alike) ≡ false
+    → (many ≡ false → length (atom ∷ atoms) ≡ 1) → is_alike (atom ∷ atoms) ≡ true
+are_alike many atom atoms true is clean one = is
+are_alike true atom atoms false is clean one = cc
+are_alike false atom atoms false is clean one = alone_alike atom atoms (one refl)
+
 module _ (ifaces : List Iface) (fit : All (λ i. All FitsAddr i.addrs) ifaces) (is_defined : List ℕ → Bool) where
   abbrev pub IsSoundAtom : Atom → Type 0
   IsSoundAtom (RangeAtom first last) = first ≤ last
   IsSoundAtom (BlockAtom addr len) = FitsAddr addr
   IsSoundAtom (TableAtom name) = (is_run_word name ≡ true) × (is_name name ≡ true) × (is_defined name ≡ true)
-  IsSoundAtom (AddressesAtom addrs) = (0 < length addrs) × Every FitsAddr addrs
+  IsSoundAtom (AddressesAtom iface addrs) = (0 < length addrs) × Every FitsAddr addrs × IsNamed iface
   IsSoundAtom _ = Unit {0}
 
   pub record IsSoundBinding (b : Binding) : Type 0 where
@@ -71,12 +90,6 @@ module _ (ifaces : List Iface) (fit : All (λ i. All FitsAddr i.addrs) ifaces) (
   iface_bound env sound (WrittenIface.Str s span) = alone_sound (StringAtom s.text) tt
   iface_bound env sound (WrittenIface.Var v span) = sound v.name
 
-  -- the name of an interface that has no fault
-  pub record IsNamed (o : Option (List ℕ)) : Type 0 where
-    pub text : List ℕ
-    pub is : o ≡ Some text
-    pub name : is_name text ≡ true
-
   -- the faults of what stands for an interface here, as those of a variable
   abbrev uses_of : Span → Option Binding → List ConfFault
   uses_of span o = iface_faults (λ _. o) (WrittenIface.Var (record { name = []; span = span }) span)
@@ -90,31 +103,38 @@ module _ (ifaces : List Iface) (fit : All (λ i. All FitsAddr i.addrs) ifaces) (
   no_name : {o : Option (List ℕ)} (span : Span) → fault_if (true || false) span Expected ++ ([] ++ []) ≡ [] → IsNamed o
   no_name span none = let no : true ≡ false = (split true span [] none).0 in cc
 
-  atom_named : (atom : Atom) (span : Span) → uses_alone span (atom ∷ []) ≡ [] → IsNamed (name_text atom)
-  atom_named (WordAtom text at) span none = text_named text span none
-  atom_named (StringAtom text) span none = text_named text span none
-  atom_named (NumberAtom n) span none = no_name span none
-  atom_named (RangeAtom n m) span none = no_name span none
-  atom_named (BlockAtom a l) span none = no_name span none
-  atom_named (TableAtom n) span none = no_name span none
-  atom_named (AddressesAtom a) span none = no_name span none
+  atom_named : (atom : Atom) (span : Span) → IsSoundAtom atom → uses_alone span (atom ∷ []) ≡ [] → IsNamed (name_text atom)
+  atom_named (WordAtom text at) span sound none = text_named text span none
+  atom_named (StringAtom text) span sound none = text_named text span none
+  atom_named (NumberAtom n) span sound none = no_name span none
+  atom_named (RangeAtom n m) span sound none = no_name span none
+  atom_named (BlockAtom a l) span sound none = no_name span none
+  atom_named (TableAtom n) span sound none = no_name span none
+  atom_named (AddressesAtom iface a) span sound none = sound.2
 
-  atoms_named : (atoms : List Atom) (span : Span) → length atoms ≡ 1 → uses_alone span atoms ≡ [] → IsNamed (only_name atoms)
-  atoms_named (atom ∷ []) span one none = atom_named atom span none
-  atoms_named [] span one none = absurd (omega (arith, one))
-  atoms_named (a ∷ b ∷ atoms) span one none = absurd (omega (arith, one))
+  -- of values that are used the first can be
+  first_used : (atom : Atom) (atoms : List Atom) (span : Span) → use_faults AsInterface span (atom ∷ atoms) ≡ [] → uses_alone span (atom ∷ []) ≡ []
+  first_used atom atoms span none =
+      let unfit = list_any (is_unfit AsInterface) (atom ∷ atoms) in
+      let fits = untold unfit span Expected (nil_from_append_left (fault_if unfit span Expected) (flat_map (word_faults AsInterface) (atom ∷ atoms)) none) in
+      ap (λ here. fault_if (here || false) span Expected ++ []) (or_parts (is_unfit AsInterface atom) (list_any (is_unfit AsInterface) atoms) fits).0
 
-  many_none : (many : Bool) (atoms : List Atom) (span : Span) → 0 < length atoms → uses_of span (Some (record { many = many; atoms = atoms })) ≡ [] → (many ≡ false) × (uses_alone span atoms ≡ [])
-  many_none true [] span some none = absurd (omega (arith, some))
-  many_none true (atom ∷ atoms) span some none = cc
-  many_none false atoms span some none = (refl, none)
+  atoms_named : (many : Bool) (atoms : List Atom) (span : Span) → Every IsSoundAtom atoms → 0 < length atoms → (many ≡ false → length atoms ≡ 1)
+      → uses_of span (Some (record { many = many; atoms = atoms })) ≡ [] → IsNamed (shared_name atoms)
+  atoms_named many [] span sound some one none = absurd (omega (arith, some))
+  atoms_named many (atom ∷ atoms) span sound some one none =
+      let used = use_faults AsInterface span (atom ∷ atoms) in
+      let clean = unless (many && not (is_alike (atom ∷ atoms))) span used none in
+      let named = atom_named atom span sound.0 (first_used atom atoms span clean.1) in
+      record {
+        text = named.text;
+        is = ap (λ alike. if alike then name_text atom else None) (are_alike many atom atoms (is_alike (atom ∷ atoms)) refl clean.0 one) ∙ named.is;
+        name = named.name;
+      }
 
   bound_named : (o : Option Binding) (span : Span) → IfSome o IsSoundBinding → uses_of span o ≡ [] → IsNamed (bound_name o)
   bound_named None span sound none = cc
-  bound_named (Some b) span sound none =
-      let clean = many_none b.many b.atoms span sound.some none in
-      let named = atoms_named b.atoms span (sound.one clean.0) clean.1 in
-      record { text = named.text; is = ap (λ many. if many then None else only_name b.atoms) clean.0 ∙ named.is; name = named.name }
+  bound_named (Some b) span sound none = atoms_named b.many b.atoms span sound.atoms sound.some sound.one none
 
   pub iface_named : (env : Env) → IsSoundEnv env → (i : WrittenIface) → iface_faults env i ≡ [] → IsNamed (iface_name env i)
   iface_named env sound i none = bound_named (iface_binding env i) (iface_span i) (iface_bound env sound i) none
@@ -124,7 +144,7 @@ module _ (ifaces : List Iface) (fit : All (λ i. All FitsAddr i.addrs) ifaces) (
   every_of [] all = tt
   every_of (x ∷ xs) all = (All-head FitsAddr x xs all, every_of xs (All-tail FitsAddr x xs all))
 
-  first_fit : (list : List Iface) → All (λ i. All FitsAddr i.addrs) list → (text : List ℕ) → Every FitsAddr (addresses_of_first list text)
+  pub first_fit : (list : List Iface) → All (λ i. All FitsAddr i.addrs) list → (text : List ℕ) → Every FitsAddr (addresses_of_first list text)
   first_fit [] all text = tt
   first_fit (i ∷ list) all text = by (bytes_eq (name_bytes i.name) text) (first_fit list (All-tail (λ i. All FitsAddr i.addrs) i list all) text) where
     by : (b : Bool) → Every FitsAddr (addresses_of_first list text) → Every FitsAddr (if b then i.addrs else addresses_of_first list text)
@@ -138,15 +158,15 @@ module _ (ifaces : List Iface) (fit : All (λ i. All FitsAddr i.addrs) ifaces) (
     by true later = (every.0, later)
     by false later = later
 
-  some_there : (addrs : List Addr) → has_none addrs ≡ false → 0 < length addrs
+  pub some_there : (addrs : List Addr) → has_none addrs ≡ false → 0 < length addrs
   some_there [] some = cc
   some_there (a ∷ addrs) some = omega arith
 
-  function_sound : (f : Function) (o : Option (List ℕ)) (span : Span) → IsNamed o → address_faults ifaces f o span ≡ [] → IsSoundAtom (AddressesAtom (addresses_of ifaces f o))
+  function_sound : (f : Function) (o : Option (List ℕ)) (span : Span) → IsNamed o → address_faults ifaces f o span ≡ [] → IsSoundAtom (AddressesAtom o (addresses_of ifaces f o))
   function_sound f None span named none = let no : None ≡ Some named.text = named.is in cc
   function_sound f (Some text) span named none =
       let addrs = addresses_of ifaces f (Some text) in
-      (some_there addrs (untold (has_none addrs) span UnknownInterface none), kept_fit (is_of f) (addresses_of_first ifaces text) (first_fit ifaces fit text))
+      (some_there addrs (untold (has_none addrs) span UnknownInterface none), kept_fit (is_of f) (addresses_of_first ifaces text) (first_fit ifaces fit text), named)
 
   number_sound : (first : Number) (last : Option Number) → is_range (first, last) ≡ true → IsSoundAtom (number_atom first.value last)
   number_sound first None is = tt
@@ -161,7 +181,7 @@ module _ (ifaces : List Iface) (fit : All (λ i. All FitsAddr i.addrs) ifaces) (
   value_sound env sound (Value.Table name span) is own none = alone_sound (TableAtom name.text) (is.0, is.1, is_on (is_defined name.text) (untold (not (is_defined name.text)) span UnknownTable none))
   value_sound env sound (Value.Function f i span) is own none =
       let named = iface_named env sound i (nil_from_append_left (iface_faults env i) (address_faults ifaces f (iface_name env i) span) own) in
-      alone_sound (AddressesAtom (addresses_of ifaces f (iface_name env i)))
+      alone_sound (AddressesAtom (iface_name env i) (addresses_of ifaces f (iface_name env i)))
       (function_sound f (iface_name env i) span named (nil_from_append_right (iface_faults env i) (address_faults ifaces f (iface_name env i) span) own))
 
   pub bound_atoms : (o : Option Binding) → Bound o → Every IsSoundAtom (atoms_of o) × (0 < length (atoms_of o))

@@ -16,7 +16,8 @@ use Rattle.npf_expand_values.specs.Atom.{Atom, NumberAtom, RangeAtom, WordAtom, 
 use Rattle.npf_expand_values.{specs.Message.{first_number, icmp_names, message_number, number_among}, proofs.FaultLemmas.none_before}
 use Rattle.npf_expand_values.specs.Port.{atom_ports, ports_faults, ports_of}
 use Rattle.npf_expand_values.specs.Protocol.{one_span, one_binding, protocol_of, written_ones, protocol_faults, protocols_faults, spliced_ones, protocols_of}
-use Rattle.npf_expand_values.specs.{Use.{undefined_faults, atoms_of}, Variable.{value_span, empty_list_at, binding_of, own_faults, spliced}}
+use Rattle.npf_expand_values.specs.declared.role.Role.{Role, TheVariants.{AsPort, AsAddress}}
+use Rattle.npf_expand_values.specs.{Host.place_faults, Use.{undefined_faults, atoms_of, use_faults}, Variable.{value_span, each_value_faults, empty_list_at, binding_of, own_faults, spliced}}
 use Rattle.npf_expand.specs.Rule.{flag_bit, flag_bits, mask_bits, flags_of_detail, code_of, with_code, icmp_of_detail, icmp_of_part, detail_of_part, source_ends, destination_ends}
 use Rattle.npf_expand.specs.Rule.{ends_faults, part_faults, filter_faults, part_protocols, ends_of_written, filter_rule}
 use Rattle.npf_parser_values.specs.Token.{nowhere, is_flag}
@@ -27,7 +28,7 @@ use Rattle.npf_show_meaning.specs.Regular.{IsExclusion, IsRegularItem, IsForward
 use Rattle.npf_show_law.proofs.Gives.{Every, IfThere}
 use Rattle.npf_show_law.proofs.Sound.{IsSoundValue, IsSoundPort, AreSoundPorts, IsRunWord, IsSoundDetail, AreSomeProtocols, IsSoundPart, AreSoundAddresses, AreSoundEnds, IsSoundWhere, IsSoundFilter}
 use Rattle.npf_show_law.proofs.Atoms.{IsSoundAtom, IsSoundBinding, IsSoundEnv, every_both, some_left, values_sound, values_some}
-use Rattle.npf_show_law.proofs.Meant.{byte_small, IsPortAtom, IsAddressAtom, IsProtocolAtom, uses, usable, block_shows, kept_all, GivesSome, IsGoodRange}
+use Rattle.npf_show_law.proofs.Meant.{byte_small, IsPortAtom, IsProtocolAtom, uses, usable, placed, block_shows, kept_all, GivesSome, IsGoodRange}
 use Rattle.npf_show_law.proofs.Meant.{port_given, protocol_given, every_pairs, all_given, some_given}
 
 pub every_all : {X : Type 0} (P : X → Type 0) (xs : List X) → Every P xs → All P xs
@@ -122,7 +123,7 @@ module _ (names : Names) (small : (text : List ℕ) (n : ℕ) → number_named n
   number_fits (StringAtom text) = tt
   number_fits (BlockAtom addr len) = tt
   number_fits (TableAtom name) = tt
-  number_fits (AddressesAtom addrs) = tt
+  number_fits (AddressesAtom iface addrs) = tt
 
   first_fits : (atoms : List Atom) → IfSome (first_number names atoms) FitsByte
   first_fits [] = tt
@@ -147,21 +148,18 @@ module _ (env : Env) (names : IcmpNames) where
 
 module _ (ifaces : List Iface) (fit : All (λ i. All FitsAddr i.addrs) ifaces) (d : List ℕ → Bool) (env : Env) (sound : IsSoundEnv ifaces fit d env) where
   -- the faults of a value that is used where these can't stand, and words have these
-  abbrev each_uses : (Atom → Bool) → (Atom → List ConfFault) → Value → List ConfFault
-  each_uses unfit words v = own_faults ifaces env v ++ uses unfit words (value_span v) (atoms_of (binding_of ifaces env v))
-
-  each_use : (unfit : Atom → Bool) (words : Atom → List ConfFault) (vs : List Value) → flat_map (each_uses unfit words) vs ≡ [] →
-      (flat_map (own_faults ifaces env) vs ≡ []) × Every (λ atom. uses unfit words nowhere (atom ∷ []) ≡ []) (spliced ifaces env vs)
-  each_use unfit words [] none = (refl, tt)
-  each_use unfit words (v ∷ vs) none =
-      let here = each_uses unfit words v in
-      let first = nil_from_append_left here (flat_map (each_uses unfit words) vs) none in
-      let rest = each_use unfit words vs (nil_from_append_right here (flat_map (each_uses unfit words) vs) none) in
+  each_use : (role : Role) (vs : List Value) → flat_map (each_value_faults ifaces env role) vs ≡ [] →
+      (flat_map (own_faults ifaces env) vs ≡ []) × Every (λ atom. place_faults ifaces role nowhere (atom ∷ []) ≡ []) (spliced ifaces env vs)
+  each_use role [] none = (refl, tt)
+  each_use role (v ∷ vs) none =
+      let here = each_value_faults ifaces env role v in
+      let first = nil_from_append_left here (flat_map (each_value_faults ifaces env role) vs) none in
+      let rest = each_use role vs (nil_from_append_right here (flat_map (each_value_faults ifaces env role) vs) none) in
       let own = own_faults ifaces env v in
-      let used = uses unfit words (value_span v) (atoms_of (binding_of ifaces env v)) in (
+      let used = place_faults ifaces role (value_span v) (atoms_of (binding_of ifaces env v)) in (
         rw (nil_from_append_left own used first) rest.0,
-        every_both (λ atom. uses unfit words nowhere (atom ∷ []) ≡ []) (atoms_of (binding_of ifaces env v))
-            (spliced ifaces env vs) (usable unfit words (value_span v) (atoms_of (binding_of ifaces env v)) (nil_from_append_right own used first)) rest.1,
+        every_both (λ atom. place_faults ifaces role nowhere (atom ∷ []) ≡ []) (atoms_of (binding_of ifaces env v))
+            (spliced ifaces env vs) (placed ifaces role (value_span v) (atoms_of (binding_of ifaces env v)) (nil_from_append_right own used first)) rest.1,
       )
 
   -- ports
@@ -172,22 +170,25 @@ module _ (ifaces : List Iface) (fit : All (λ i. All FitsAddr i.addrs) ifaces) (
   abbrev AreGoodRanges : List (ℕ × ℕ) → Type 0
   AreGoodRanges ranges = (0 < length ranges) × All IsGoodRange ranges
 
-  listed_ports : (unfit : Atom → Bool) (words : Atom → List ConfFault) (span : Span) (vs : List Value) → Every IsSoundPort vs → empty_list_at span vs ++ flat_map (each_uses unfit words) vs ≡ []
-      → ((atom : Atom) → uses unfit words nowhere (atom ∷ []) ≡ [] → IsPortAtom atom) → AreGoodRanges (filter_map atom_ports (spliced ifaces env vs))
-  listed_ports unfit words span vs every none turn =
-      let filled = nil_from_append_left (empty_list_at span vs) (flat_map (each_uses unfit words) vs) none in
+  listed_ports : (span : Span) (vs : List Value) → Every IsSoundPort vs → empty_list_at span vs ++ flat_map (each_value_faults ifaces env AsPort) vs ≡ []
+      → AreGoodRanges (filter_map atom_ports (spliced ifaces env vs))
+  listed_ports span vs every none =
+      let each = flat_map (each_value_faults ifaces env AsPort) vs in
+      let filled = nil_from_append_left (empty_list_at span vs) each none in
       let parts = port_values vs every in
-      let used = each_use unfit words vs (nil_from_append_right (empty_list_at span vs) (flat_map (each_uses unfit words) vs) none) in
+      let used = each_use AsPort vs (nil_from_append_right (empty_list_at span vs) each none) in
       let atoms = values_sound ifaces fit d env sound vs parts.0 used.0 parts.1 in
       let some = values_some ifaces fit d env sound span vs filled parts.0 used.0 parts.1 in
+      let fits = every_step (λ atom. place_faults ifaces AsPort nowhere (atom ∷ []) ≡ []) IsPortAtom
+      (λ atom is. nil_from_append_left (use_faults AsPort nowhere (atom ∷ [])) [] is) (spliced ifaces env vs) used.1 in
       let kept = kept_all IsGoodRange atom_ports (spliced ifaces env vs) (every_pairs (IsSoundAtom ifaces fit d) IsPortAtom (λ atom. GivesSome IsGoodRange (atom_ports atom))
-      (port_given ifaces fit d) (spliced ifaces env vs) atoms (every_step _ IsPortAtom turn (spliced ifaces env vs) used.1)) in
+      (port_given ifaces fit d) (spliced ifaces env vs) atoms fits) in
       (subst (λ n. 0 < n) (sym kept.1) some, kept.0)
 
   ports_meant : (o : Option Values) → IfThere AreSoundPorts o → ports_faults ifaces env o ≡ [] → IfSome (ports_of ifaces env o) AreGoodRanges
   ports_meant None is none = tt
-  ports_meant (Some (Values.One v span)) is none = listed_ports _ _ span (v ∷ []) (is, tt) none (λ atom is. is)
-  ports_meant (Some (Values.List list span)) is none = listed_ports _ _ list.span list.values is none (λ atom is. is)
+  ports_meant (Some (Values.One v span)) is none = listed_ports span (v ∷ []) (is, tt) none
+  ports_meant (Some (Values.List list span)) is none = listed_ports list.span list.values is none
 
   -- protocols
   bound_usable : (unfit : Atom → Bool) (words : Atom → List ConfFault) (o : Option Binding) (span : Span) →
@@ -255,39 +256,36 @@ module _ (ifaces : List Iface) (fit : All (λ i. All FitsAddr i.addrs) ifaces) (
     net_good : (addr : Addr) (len : ℕ) → FitsAddr addr → IsGoodItem (Net (block addr len))
     net_good addr len fits = (block_shows addr len fits, tt)
 
-    listed_items : (unfit : Atom → Bool) (words : Atom → List ConfFault) (span : Span) (vs : List Value) → empty_list_at span vs ≡ [] →
-        Every IsSoundValue vs → flat_map (each_uses unfit words) vs ≡ [] → flat_map (table_faults d) vs ≡ []
-        → ((atom : Atom) → uses unfit words nowhere (atom ∷ []) ≡ [] → IsAddressAtom atom) → AreGoodItems (flat_map (items_of tables) (spliced ifaces env vs))
-    listed_items unfit words span vs filled every none defined turn =
-        let used = each_use unfit words vs none in
+    abbrev each_address : List Value → List ConfFault
+    each_address vs = flat_map (each_value_faults ifaces env AsAddress) vs
+
+    listed_items : (span : Span) (vs : List Value) → empty_list_at span vs ≡ [] → Every IsSoundValue vs → each_address vs ≡ [] → flat_map (table_faults d) vs ≡ []
+        → AreGoodItems (flat_map (items_of ifaces tables) (spliced ifaces env vs))
+    listed_items span vs filled every none defined =
+        let used = each_use AsAddress vs none in
         let atoms = values_sound ifaces fit d env sound vs every used.0 defined in
-        let some = values_some ifaces fit d env sound span vs filled every used.0 defined in
-        let fits = every_step _ IsAddressAtom turn (spliced ifaces env vs) used.1 in (
-          some_given ifaces fit d tables IsGoodItem net_good numbered (spliced ifaces env vs) some atoms fits,
-          all_given ifaces fit d tables IsGoodItem net_good numbered (spliced ifaces env vs) atoms fits,
+        let some = values_some ifaces fit d env sound span vs filled every used.0 defined in (
+          some_given ifaces fit d tables IsGoodItem net_good numbered (spliced ifaces env vs) some atoms used.1,
+          all_given ifaces fit d tables IsGoodItem net_good numbered (spliced ifaces env vs) atoms used.1,
         )
 
-    one_item : (unfit : Atom → Bool) (words : Atom → List ConfFault) (v : Value) → IsSoundValue v → each_uses unfit words v ≡ [] →
-        table_faults d v ≡ [] → ((atom : Atom) → uses unfit words nowhere (atom ∷ []) ≡ [] → IsAddressAtom atom)
-        → AreGoodItems (flat_map (items_of tables) (spliced ifaces env (v ∷ [])))
-    one_item unfit words v is none defined turn = listed_items unfit words (value_span v) (v ∷ []) refl (
-      is,
-      tt,
-    ) (append-nil (each_uses unfit words v) ∙ none) (append-nil (table_faults d v) ∙ defined) turn
+    one_item : (v : Value) → IsSoundValue v → each_value_faults ifaces env AsAddress v ≡ [] → table_faults d v ≡ []
+        → AreGoodItems (flat_map (items_of ifaces tables) (spliced ifaces env (v ∷ [])))
+    one_item v is none defined = listed_items (value_span v) (v ∷ []) refl (is, tt) (append-nil (each_value_faults ifaces env AsAddress v) ∙ none)
+        (append-nil (table_faults d v) ∙ defined)
 
-    list_items : (unfit : Atom → Bool) (words : Atom → List ConfFault) (span : Span) (vs : List Value) → Every IsSoundValue vs →
-        empty_list_at span vs ++ flat_map (each_uses unfit words) vs ≡ [] → flat_map (table_faults d) vs ≡ []
-        → ((atom : Atom) → uses unfit words nowhere (atom ∷ []) ≡ [] → IsAddressAtom atom) → AreGoodItems (flat_map (items_of tables) (spliced ifaces env vs))
-    list_items unfit words span vs every none defined turn =
-        listed_items unfit words span vs (nil_from_append_left (empty_list_at span vs) (flat_map (each_uses unfit words) vs) none) every
-        (nil_from_append_right (empty_list_at span vs) (flat_map (each_uses unfit words) vs) none) defined turn
+    list_items : (span : Span) (vs : List Value) → Every IsSoundValue vs → empty_list_at span vs ++ each_address vs ≡ [] → flat_map (table_faults d) vs ≡ []
+        → AreGoodItems (flat_map (items_of ifaces tables) (spliced ifaces env vs))
+    list_items span vs every none defined =
+        listed_items span vs (nil_from_append_left (empty_list_at span vs) (each_address vs) none) every
+        (nil_from_append_right (empty_list_at span vs) (each_address vs) none) defined
 
     addresses_meant : (a : Addresses) → AreSoundAddresses a → addresses_faults ifaces env a ≡ [] → tables_of_addresses d a ≡ [] → IfSome (address_items ifaces env tables a) AreGoodItems
     addresses_meant (Addresses.Any span) is none defined = tt
-    addresses_meant (Addresses.Excluded (Values.One v own) span) is none defined = one_item _ (λ _. []) v is (sym (append-nil _) ∙ none) defined (λ atom is. is)
-    addresses_meant (Addresses.Excluded (Values.List list own) span) is none defined = list_items _ (λ _. []) list.span list.values is none defined (λ atom is. is)
-    addresses_meant (Addresses.One v span) is none defined = one_item _ (λ _. []) v is none defined (λ atom is. is)
-    addresses_meant (Addresses.List list span) is none defined = list_items _ (λ _. []) list.span list.values is none defined (λ atom is. is)
+    addresses_meant (Addresses.Excluded (Values.One v own) span) is none defined = one_item v is (sym (append-nil (each_value_faults ifaces env AsAddress v)) ∙ none) defined
+    addresses_meant (Addresses.Excluded (Values.List list own) span) is none defined = list_items list.span list.values is none defined
+    addresses_meant (Addresses.One v span) is none defined = one_item v is none defined
+    addresses_meant (Addresses.List list span) is none defined = list_items list.span list.values is none defined
 
     -- one end
     record AreGoodEnds (ends : Option WrittenEnds) : Type 0 where

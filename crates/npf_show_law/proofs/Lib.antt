@@ -9,5 +9,6 @@ pub mod FilterMeant
 pub mod StmtMeant
 pub mod NameMeant
 pub mod ElementMeant
+pub mod SettingsMeant
 pub mod TreeMeant
 pub mod Accepted

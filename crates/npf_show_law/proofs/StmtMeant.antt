@@ -12,6 +12,7 @@ use Rattle.npf_model.specs.declared.procedure.Procedure.{Procedure}
 use Rattle.npf_check.specs.Undefined.{table_faults, tables_of_where, tables_of_pass, tables_of_item, tables_of_stmt, applied_faults, procedures_of_item, procedures_of_stmt}
 use Rattle.npf_expand_values.specs.Atom.{Atom, NumberAtom, RangeAtom, WordAtom, StringAtom, BlockAtom, TableAtom, AddressesAtom, Env}
 use Rattle.npf_expand_values.specs.{Declarations.{Declared, table_number}, Iface.{iface_faults, on_text, on_iface}, Port.{same_port, atom_ports}}
+use Rattle.npf_expand_values.specs.{Leader.host_name, Host.{addresses_named, hosts_of}}
 use Rattle.npf_expand_values.specs.{Protocol.{protocol_of, first_protocol, one_binding, one_protocol}}
 use Rattle.npf_names.{specs.{Names.number_named, Protocol.protocols, Service.services}, proofs.BoundLemmas.{service_small, protocol_small}}
 use Rattle.npf_expand_values.specs.{Use.atoms_of, Variable.{binding_of, own_faults}, Source.declared_of}
@@ -27,7 +28,7 @@ use Rattle.npf_show_meaning.specs.Regular.{IsOfText, IsForward, IsRegularItem, I
 use Rattle.npf_show_meaning.specs.Regular.{IsRegularRule, IsRegularEntry, IsRegularGroup, IsRegularMap, IsRegularDecl}
 use Rattle.npf_show_law.proofs.Gives.{Every, IfThere}
 use Rattle.npf_show_law.proofs.Sound.{IsSoundValue, IsSoundPort, IsPlainStr, IsSoundFilter, IsSoundItem, IsSoundHead, IsSoundSide, IsSoundCall, IsSoundStmt}
-use Rattle.npf_show_law.proofs.Atoms.{IsSoundAtom, IsSoundEnv, is_on, value_sound, iface_named, bound_atoms}
+use Rattle.npf_show_law.proofs.Atoms.{IsSoundAtom, IsSoundEnv, is_on, first_fit, value_sound, iface_named, bound_atoms}
 use Rattle.npf_show_law.proofs.Meant.{block_shows, IsGoodRange, port_small, byte_small}
 use Rattle.npf_show_law.proofs.FilterMeant.{every_all, named_text, filter_meant}
 
@@ -133,7 +134,7 @@ ports_fit ifaces fit d (WordAtom text span) sound = by (number_named services te
 ports_fit ifaces fit d (StringAtom text) sound = tt
 ports_fit ifaces fit d (BlockAtom addr len) sound = tt
 ports_fit ifaces fit d (TableAtom name) sound = tt
-ports_fit ifaces fit d (AddressesAtom addrs) sound = tt
+ports_fit ifaces fit d (AddressesAtom iface addrs) sound = tt
 
 protocol_fits : (atom : Atom) → IfSome (protocol_of atom) FitsByte
 protocol_fits (NumberAtom n) = by (nat_lt 255 n) refl where
@@ -148,7 +149,7 @@ protocol_fits (RangeAtom n m) = tt
 protocol_fits (StringAtom text) = tt
 protocol_fits (BlockAtom addr len) = tt
 protocol_fits (TableAtom name) = tt
-protocol_fits (AddressesAtom addrs) = tt
+protocol_fits (AddressesAtom iface addrs) = tt
 
 first_fits : (atoms : List Atom) → IfSome (first_protocol atoms) FitsByte
 first_fits [] = tt
@@ -200,16 +201,20 @@ module _ (ifaces : List Iface) (fit : All (λ i. All FitsAddr i.addrs) ifaces) (
   host_shows [] every = every_v4_shows
   host_shows (addr ∷ addrs) every = block_shows addr (width addr) every.0
 
-  block_meant : (atom : Atom) → IsSoundAtom ifaces fit d atom → IsShowablePrefix (side_block atom)
+  named_fit : (name : Option (List ℕ)) → Every FitsAddr (addresses_named ifaces name)
+  named_fit None = tt
+  named_fit (Some text) = first_fit ifaces fit d ifaces fit text
+
+  block_meant : (atom : Atom) → IsSoundAtom ifaces fit d atom → IsShowablePrefix (side_block ifaces atom)
   block_meant (BlockAtom addr len) is = block_shows addr (unwrap_or len (width addr)) is
-  block_meant (AddressesAtom addrs) is = host_shows addrs is.1
+  block_meant (AddressesAtom iface addrs) is = host_shows addrs is.1
   block_meant (NumberAtom n) is = every_v4_shows
   block_meant (RangeAtom n m) is = every_v4_shows
-  block_meant (WordAtom text span) is = every_v4_shows
-  block_meant (StringAtom text) is = every_v4_shows
+  block_meant (WordAtom text span) is = host_shows (hosts_of ifaces (WordAtom text span)) (named_fit (host_name (WordAtom text span)))
+  block_meant (StringAtom text) is = host_shows (hosts_of ifaces (StringAtom text)) (named_fit (host_name (StringAtom text)))
   block_meant (TableAtom name) is = every_v4_shows
 
-  first_shows : (atoms : List Atom) → Every (IsSoundAtom ifaces fit d) atoms → IsShowablePrefix (first_block atoms)
+  first_shows : (atoms : List Atom) → Every (IsSoundAtom ifaces fit d) atoms → IsShowablePrefix (first_block ifaces atoms)
   first_shows [] every = every_v4_shows
   first_shows (atom ∷ atoms) every = block_meant atom every.0
 

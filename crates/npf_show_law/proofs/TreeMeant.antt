@@ -19,7 +19,7 @@ use Rattle.npf_show_meaning.specs.Regular.{IsOfText, IsRegular, IsRegularItem, I
 use Rattle.npf_show_law.proofs.{Gives.Every, Sound.IsSoundStmt, Atoms.{AreCleanDefinitions, env_sound, every_both, every_listed}}
 use Rattle.npf_show_law.proofs.StmtMeant.{IsCleanStmt, IsGoodGroup, IsGoodMap, every_left, tables_meant, procedures_meant, named_meant, default_meant, maps_meant}
 use Rattle.npf_show_law.proofs.NameMeant.{is_listed, number_named, among_listed, by_form, tables_named, procedures_named, few_tables, few_procedures}
-use Rattle.npf_show_law.proofs.ElementMeant.{elements_few}
+use Rattle.npf_show_law.proofs.{ElementMeant.elements_few, SettingsMeant.{settings_regular, settings_showable}}
 
 -- the name of a procedure that is there, or of none
 plain_at : (xs : List Procedure) (place : ℕ) → Every (λ p. IsShowableProcedure p × IfSome p.log IsOfText) xs → IsPlain (name_of_procedure (slice_get xs place))
@@ -181,8 +181,9 @@ module _ (ifaces : List Iface) (fit : All (λ i. All FitsAddr i.addrs) ifaces) (
       let sum = sum_by-append (λ (group : Group). sum_by entry_elements group.items) named_groups default_groups in
       let all : sum_by (λ (m : Map). pass_elements m.filter) model.maps + sum_by (λ (group : Group). sum_by entry_elements group.items) (named_groups ++ default_groups) ≤ MAX_LIST_ELEMENTS =
       omega (arith, few, sum) in (
-        record { tables = tables.0; maps = maps.0; procedures = procedures.0; groups = groups.0 },
+        record { settings = settings_showable tree.stmts; tables = tables.0; maps = maps.0; procedures = procedures.0; groups = groups.0 },
         record {
+          settings = settings_regular tree.stmts;
           tables = tables.1;
           maps = maps.1;
           procedures = procedures.1;

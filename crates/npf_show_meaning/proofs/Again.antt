@@ -1,15 +1,17 @@
 -- What the tree of a canonical text means.
-use Rattle.std.proofs.Common.{◌≡◌, ◌≤◌, ℕ, ◌+◌, Bool, true, false, not, if◌then◌else◌, cond, List, [], ◌∷◌, ◌++◌, map, flat_map, codes}
-use Rattle.std.proofs.{Common.{filter, sum_by, refl, sym, ap, ap₂, subst, ◌∙◌, arith, append-nil}, lemmas.{Grind.flat_map-append, List.Concat.flat_map_single}}
+use Rattle.std.proofs.Common.{◌≡◌, ◌≤◌, ℕ, ◌+◌, ◌==◌, Bool, true, false, not, if◌then◌else◌, cond, List, [], ◌∷◌, ◌++◌, map, flat_map, codes}
+use Rattle.std.proofs.{Common.{filter, sum_by, refl, sym, ap, ap₂, subst, ◌∙◌, arith, append-nil}, lemmas.{Bool.Decides.nat_tests, Grind.flat_map-append, List.Concat.flat_map_single}}
 use Rattle.std.{proofs.lemmas.List.Sums.{sum_by-append, sum_by-cons}, specs.{List.list_any, Str.bytes_eq}}
 use Rattle.npf_types.specs.{declared.limits.TheConstants.MAX_LIST_ELEMENTS, Name.name_bytes}
 use Rattle.npf_syntax.specs.declared.stmt.{Stmt.Stmt, Tree.Tree}
 use Rattle.npf_model.specs.declared.{group.Group.Group, iface.Iface.Iface, map.Map.Map, model.Model.Model, procedure.Procedure.Procedure}
-use Rattle.npf_model.specs.{declared.{settings.{Parameter.Parameter, Settings.Settings}, table.TableDecl.TableDecl}, Settings.{default_settings, with_settings}}
+use Rattle.npf_model.specs.declared.{settings.{Choice.Choice, Parameter.Parameter, Settings.Settings}, table.TableDecl.TableDecl}
+use Rattle.npf_model.specs.declared.settings.{PortBound.TheVariants.{Least, Greatest}, Switch.TheVariants.{StrictRst, KeyInterface}}
+use Rattle.npf_model.specs.Settings.{choice_in, default_settings, parameters, set_in, with_settings}
 use Rattle.npf_expand_values.specs.{Atom.Env, Declarations.{declared_in, table_name, table_names, procedure_name, procedure_names}, Source.declared_of}
 use Rattle.npf_expand.specs.Elaborates.{gathered, stmt_elements, stmt_faults, stmts_faults, tree_faults, model_of, named_group, default_group, maps_of, procedures_of}
-use Rattle.npf_expand.specs.{Settings.{algs_in, asks_icmp, settings_in, settings_of}, Table.tables_of}
-use Rattle.npf_show.specs.Setting.{shown_settings}
+use Rattle.npf_expand.{specs.{Settings.{algs_in, asks_icmp, settings_in, settings_of}, Table.tables_of}, proofs.SettingsLemmas.settings_both}
+use Rattle.npf_show.specs.Setting.{changed_setting, has_same_value, shown_settings}
 use Rattle.npf_show_meaning.{specs.{Law.{AreSameTables, SameButSpans}, Regular.{is_default, entry_elements, pass_elements, model_elements}}, proofs.Lists.Each}
 use Rattle.npf_show_meaning.proofs.Says.{nameless}
 use Rattle.npf_show_meaning.proofs.Parts.{Part, OfSet, OfAlg, OfTable, OfMap, OfProcedure, OfGroup, sets_in, gateways_in, tables_in, maps_in, procedures_in, named_in, default_in, part_elements}
@@ -40,13 +42,13 @@ settings_alone f model t m p g =
     ∙ append-nil (flat_map f (setting_parts model))
 
 -- what is gathered of tables alone, of maps, of procedures, of groups
-module _ {X : Type 0} (f : Part → List X) (model : Model) (set : (one : Parameter × Bool) → f (OfSet one) ≡ []) (alg : f OfAlg ≡ []) where
+module _ {X : Type 0} (f : Part → List X) (model : Model) (set : (choice : Choice) → f (OfSet choice) ≡ []) (alg : f OfAlg ≡ []) where
   parts_flat : flat_map f (parts_of model)
       ≡ flat_map (λ t. f (OfTable t)) model.tables ++ flat_map (λ m. f (OfMap m)) model.maps ++ flat_map (λ p. f (OfProcedure p)) model.procedures ++ flat_map (λ g. f (OfGroup g)) model.groups
   parts_flat =
       flat_map-append f (setting_parts model) (declared_parts model)
       ∙ ap (λ x. x ++ flat_map f (declared_parts model))
-      (settings_flat f model ∙ ap₂ (λ x y. x ++ y) (every_none (λ one. f (OfSet one)) set (shown_settings model.settings)) (alg_none f alg model.alg_icmp))
+      (settings_flat f model ∙ ap₂ (λ x y. x ++ y) (every_none (λ choice. f (OfSet choice)) set (shown_settings model.settings)) (alg_none f alg model.alg_icmp))
       ∙ declared_flat f model
 
   from_tables : ((m : Map) → f (OfMap m) ≡ []) → ((p : Procedure) → f (OfProcedure p) ≡ []) → ((g : Group) → f (OfGroup g) ≡ []) →
@@ -138,13 +140,57 @@ default_filter (g ∷ groups) = by g.default (default_filter groups) where
   by false same = same
 
 -- settings, and the gateway
+-- a parameter set to what it has
+set_same : (settings : Settings) (parameter : Parameter) → set_in (choice_in settings parameter) settings ≡ settings
+set_same settings (Parameter.Switch StrictRst) = refl
+set_same settings (Parameter.Switch KeyInterface) = refl
+set_same settings (Parameter.Port Least) = refl
+set_same settings (Parameter.Port Greatest) = refl
+
+same_switch : (a b : Bool) → (if a then b else not b) ≡ true → a ≡ b
+same_switch true true is = refl
+same_switch false false is = refl
+same_switch true false is = cc
+same_switch false true is = cc
+
+same_number : (a b : ℕ) → (a == b) ≡ true → a ≡ b
+same_number a b is = grind (arith, nat_tests)
+
+same_choice : (one other : Settings) (parameter : Parameter) → has_same_value (choice_in one parameter) (choice_in other parameter) ≡ true → choice_in one parameter ≡ choice_in other parameter
+same_choice one other (Parameter.Switch StrictRst) is = ap (Choice.Switch StrictRst) (same_switch one.strict_rst other.strict_rst is)
+same_choice one other (Parameter.Switch KeyInterface) is = ap (Choice.Switch KeyInterface) (same_switch one.key_interface other.key_interface is)
+same_choice one other (Parameter.Port Least) is = ap (Choice.Port Least) (same_number one.min_port other.min_port is)
+same_choice one other (Parameter.Port Greatest) is = ap (Choice.Port Greatest) (same_number one.max_port other.max_port is)
+
+module _ (target : Settings) where
+  -- where a parameter is as without a statement, what is shown of it sets it as the target has it
+  restores : (settings : Settings) (parameter : Parameter) → choice_in settings parameter ≡ choice_in default_settings parameter
+      → with_settings settings (changed_setting target parameter) ≡ set_in (choice_in target parameter) settings
+  restores settings parameter is = by (has_same_value (choice_in target parameter) (choice_in default_settings parameter)) refl where
+    by : (same : Bool) → has_same_value (choice_in target parameter) (choice_in default_settings parameter) ≡ same
+        → with_settings settings (if same then [] else choice_in target parameter ∷ []) ≡ set_in (choice_in target parameter) settings
+    by true same = sym (ap (λ c. set_in c settings) (same_choice target default_settings parameter same ∙ sym is) ∙ set_same settings parameter)
+    by false same = refl
+
+  abbrev all_set : Settings → List Parameter → Settings
+  all_set settings [] = settings
+  all_set settings (parameter ∷ among) = all_set (set_in (choice_in target parameter) settings) among
+
+  -- each is as without a statement until it is set
+  abbrev AreUnset : Settings → List Parameter → Type 0
+  AreUnset settings [] = Unit {0}
+  AreUnset settings (parameter ∷ among) =
+      (choice_in settings parameter ≡ choice_in default_settings parameter) × AreUnset (set_in (choice_in target parameter) settings) among
+
+  restores_all : (settings : Settings) (among : List Parameter) → AreUnset settings among → with_settings settings (flat_map (changed_setting target) among) ≡ all_set settings among
+  restores_all settings [] unset = refl
+  restores_all settings (parameter ∷ among) unset =
+      settings_both settings (changed_setting target parameter) (flat_map (changed_setting target) among)
+      ∙ ap (λ s. with_settings s (flat_map (changed_setting target) among)) (restores settings parameter unset.0)
+      ∙ restores_all (set_in (choice_in target parameter) settings) among unset.1
+
 settings_restored : (settings : Settings) → with_settings default_settings (shown_settings settings) ≡ settings
-settings_restored settings = by settings.strict_rst settings.key_interface where
-  by : (strict key : Bool) → with_settings default_settings (shown_settings (record { strict_rst = strict; key_interface = key })) ≡ record { strict_rst = strict; key_interface = key }
-  by true true = refl
-  by true false = refl
-  by false true = refl
-  by false false = refl
+settings_restored settings = restores_all settings default_settings parameters (refl, (refl, (refl, (refl, tt))))
 
 alg_restored : (is_asked : Bool) → list_any (bytes_eq (codes "icmp")) (flat_map gateways_in (alg_parts is_asked)) ≡ is_asked
 alg_restored true = refl
@@ -258,7 +304,7 @@ module _ (ifaces : List Iface) (model : Model) where
         ap (list_any (bytes_eq (codes "icmp")))
         (each_flat algs_in gateways_in (λ stmt part is. is.algs) tree.stmts (parts_of model) each
         ∙ settings_alone gateways_in model (λ _. refl) (λ _. refl) (λ _. refl) (λ _. refl) ∙ settings_flat gateways_in model
-        ∙ ap (λ x. x ++ flat_map gateways_in (alg_parts model.alg_icmp)) (every_none (λ one. gateways_in (OfSet one)) (λ _. refl) (shown_settings model.settings)))
+        ∙ ap (λ x. x ++ flat_map gateways_in (alg_parts model.alg_icmp)) (every_none (λ choice. gateways_in (OfSet choice)) (λ _. refl) (shown_settings model.settings)))
         ∙ alg_restored model.alg_icmp
 
     pub same_again : model.groups ≡ filter (λ g. not (is_default g)) model.groups ++ filter is_default model.groups → SameButSpans model (model_of tree ifaces)

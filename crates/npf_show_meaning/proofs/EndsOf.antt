@@ -14,7 +14,7 @@ use Rattle.npf_phrase.specs.Grammar.{Grammar, making, meaning, optional, precede
 use Rattle.npf_parser_values.specs.{Token.{quoted, sign, span_of}, Value.{value, values, can_stand, is_port, is_port_end}}
 use Rattle.npf_parser_values.specs.declared.role.ValueRole.{ValueRole}
 use Rattle.npf_parser.specs.Filter.{addresses, ports, ends, the_ends}
-use Rattle.npf_expand_values.specs.{Address.{items_of, addresses_faults, addresses_count, address_items, is_excluded}, Atom.Atom}
+use Rattle.npf_expand_values.specs.{Address.{items_of, addresses_faults, addresses_count, address_items, is_excluded}, Atom.Atom, Host.host_count_of, Use.count_of}
 use Rattle.npf_expand_values.specs.{Port.{atom_ports, ports_faults, ports_count, ports_of}, Variable.empty_list_at, Source.declared_of}
 use Rattle.npf_expand.specs.Rule.{ends_faults, ends_of_written, ends_count, source_ends, destination_ends}
 use Rattle.npf_show.specs.Ends.{addresses_pieces, name_of_table, item_pieces, range_pieces, ports_pieces, ends_pieces, is_said, where_pieces}
@@ -53,7 +53,7 @@ module _ (ifaces : List Iface) (model : Model) where
   tables = (declared_of model).tables
 
   abbrev IsItem : Value → AddrItem → Type 0
-  IsItem = IsElement ifaces (address_list_faults ifaces) (flat_map (items_of tables))
+  IsItem = IsElement ifaces (host_count_of ifaces) (address_list_faults ifaces) (flat_map (items_of ifaces tables))
 
   item_goes : (role : _) → ((a : Address) (o : Option Number) (span : Span) → can_stand role (Value.Address a o span) ≡ true) →
       ((w : Word) (span : Span) → can_stand role (Value.Table w span) ≡ true) → (inside : Bool) (item : AddrItem) → IsRegularItem model item → (to : List TokenKind) → Behind inside to
@@ -76,25 +76,29 @@ module _ (ifaces : List Iface) (model : Model) where
     count : addresses_count ifaces (nameless ifaces) a ≡ length items
 
   abbrev addresses_give : List Atom → List AddrItem
-  addresses_give = flat_map (items_of tables)
+  addresses_give = flat_map (items_of ifaces tables)
 
   addresses_both : (xs ys : List Atom) → addresses_give (xs ++ ys) ≡ addresses_give xs ++ addresses_give ys
-  addresses_both xs ys = flat_map-append (items_of tables) xs ys
+  addresses_both xs ys = flat_map-append (items_of ifaces tables) xs ys
 
   says_list : (span : Span) (list : ValueList) (x : AddrItem) (xs : List AddrItem) → Each IsItem list.values (x ∷ xs) → SaysAddresses false (x ∷ xs) (Addresses.List list span)
   says_list span list x xs each = record {
     excludes = refl;
-    faults = rw (each_some IsItem list.span list.values x xs each, elements_faults ifaces (address_list_faults ifaces) addresses_give refl refl addresses_both list.values (x ∷ xs) each) refl;
-    gives = ap Some (elements_give ifaces (address_list_faults ifaces) addresses_give refl refl addresses_both list.values (x ∷ xs) each);
-    count = elements_count ifaces (address_list_faults ifaces) addresses_give refl refl addresses_both list.values (x ∷ xs) each;
+    faults = rw (
+      each_some IsItem list.span list.values x xs each,
+      elements_faults ifaces (host_count_of ifaces) (address_list_faults ifaces) addresses_give refl refl
+          addresses_both list.values (x ∷ xs) each,
+    ) refl;
+    gives = ap Some (elements_give ifaces (host_count_of ifaces) (address_list_faults ifaces) addresses_give refl refl addresses_both list.values (x ∷ xs) each);
+    count = elements_count ifaces (host_count_of ifaces) (address_list_faults ifaces) addresses_give refl refl addresses_both list.values (x ∷ xs) each;
   }
 
   says_one : (span : Span) (v : Value) (x : AddrItem) → IsItem v x → SaysAddresses false (x ∷ []) (Addresses.One v span)
   says_one span v x is = record {
     excludes = refl;
     faults = sym (append-nil _) ∙ is.faults [] refl;
-    gives = ap Some (elements_give ifaces (address_list_faults ifaces) addresses_give refl refl addresses_both (v ∷ []) (x ∷ []) (is, tt));
-    count = elements_count ifaces (address_list_faults ifaces) addresses_give refl refl addresses_both (v ∷ []) (x ∷ []) (is, tt);
+    gives = ap Some (elements_give ifaces (host_count_of ifaces) (address_list_faults ifaces) addresses_give refl refl addresses_both (v ∷ []) (x ∷ []) (is, tt));
+    count = elements_count ifaces (host_count_of ifaces) (address_list_faults ifaces) addresses_give refl refl addresses_both (v ∷ []) (x ∷ []) (is, tt);
   }
 
   -- the same of values that are excluded
@@ -131,7 +135,7 @@ module _ (ifaces : List Iface) (model : Model) where
 
   -- ports
   abbrev IsPort : Value → ℕ × ℕ → Type 0
-  IsPort = IsElement ifaces (port_list_faults ifaces) (filter_map atom_ports)
+  IsPort = IsElement ifaces count_of (port_list_faults ifaces) (filter_map atom_ports)
 
   port_goes : (role : _) → ((first : Number) (last : Option Number) (span : Span) → is_port first ≡ true → is_port_end last ≡ true → can_stand role (Value.Number first last span) ≡ true) →
       (inside : Bool) (range : ℕ × ℕ) → IsRange ifaces range → (to : List TokenKind) → Behind inside to
@@ -152,16 +156,20 @@ module _ (ifaces : List Iface) (model : Model) where
 
   says_ports : (span : Span) (list : ValueList) (x : ℕ × ℕ) (xs : List (ℕ × ℕ)) → Each IsPort list.values (x ∷ xs) → SaysPorts (x ∷ xs) (Values.List list span)
   says_ports span list x xs each = record {
-    faults = rw (each_some IsPort list.span list.values x xs each, elements_faults ifaces (port_list_faults ifaces) (filter_map atom_ports) refl refl ports_both list.values (x ∷ xs) each) refl;
-    gives = ap Some (elements_give ifaces (port_list_faults ifaces) (filter_map atom_ports) refl refl ports_both list.values (x ∷ xs) each);
-    count = elements_count ifaces (port_list_faults ifaces) (filter_map atom_ports) refl refl ports_both list.values (x ∷ xs) each;
+    faults = rw (
+      each_some IsPort list.span list.values x xs each,
+      elements_faults ifaces count_of (port_list_faults ifaces) (filter_map atom_ports) refl refl
+          ports_both list.values (x ∷ xs) each,
+    ) refl;
+    gives = ap Some (elements_give ifaces count_of (port_list_faults ifaces) (filter_map atom_ports) refl refl ports_both list.values (x ∷ xs) each);
+    count = elements_count ifaces count_of (port_list_faults ifaces) (filter_map atom_ports) refl refl ports_both list.values (x ∷ xs) each;
   }
 
   says_port : (span : Span) (v : Value) (x : ℕ × ℕ) → IsPort v x → SaysPorts (x ∷ []) (Values.One v span)
   says_port span v x is = record {
     faults = is.faults [] refl;
-    gives = ap Some (elements_give ifaces (port_list_faults ifaces) (filter_map atom_ports) refl refl ports_both (v ∷ []) (x ∷ []) (is, tt));
-    count = elements_count ifaces (port_list_faults ifaces) (filter_map atom_ports) refl refl ports_both (v ∷ []) (x ∷ []) (is, tt);
+    gives = ap Some (elements_give ifaces count_of (port_list_faults ifaces) (filter_map atom_ports) refl refl ports_both (v ∷ []) (x ∷ []) (is, tt));
+    count = elements_count ifaces count_of (port_list_faults ifaces) (filter_map atom_ports) refl refl ports_both (v ∷ []) (x ∷ []) (is, tt);
   }
 
   ports_go : (x : ℕ × ℕ) (xs : List (ℕ × ℕ)) → All (IsRange ifaces) (x ∷ xs) → (to : List TokenKind) → Behind false to

@@ -17,7 +17,7 @@ use Rattle.npf_show.specs.Piece as Pieces
 use Rattle.npf_show.specs.{Procedure.{log_line, normal_options, normalize_line, procedure_head, procedure_lines}, Setting.{alg_line, set_line, shown_settings}}
 use Rattle.npf_show.specs.Table.{table_line}
 use Rattle.npf_show_tokens.specs.Showable.{IsShowableProcedure}
-use Rattle.npf_show_meaning.specs.Regular.{IsRegularDecl, IsOfText}
+use Rattle.npf_show_meaning.specs.Regular.{IsRegularChoice, IsRegularDecl, IsOfText}
 use Rattle.npf_show_meaning.proofs.{Goes.{Goes, HeadIn, token_goes, make, turn, pick_first, pick_second, it_is, none_is}, Lists.{onto, onto_both, Each}}
 use Rattle.npf_show_meaning.proofs.{Values.keyword, Blocks.{feed, bare_goes}, Parts.{Part, OfSet, OfAlg, OfTable, OfMap, OfProcedure, OfGroup, SaysPartOf}}
 use Rattle.npf_show_meaning.proofs.{GroupStmt.{IsFineGroup, group_within, group_goes}, SettingStmt.{alg_goes, alg_within, set_goes, set_within}}
@@ -42,7 +42,7 @@ end_of_text = Kind.End ∷ []
 
 -- what is gathered of each part
 pub settings_flat : {X : Type 0} (f : Part → List X) (model : Model)
-    → flat_map f (setting_parts model) ≡ flat_map (λ one. f (OfSet one)) (shown_settings model.settings) ++ flat_map f (alg_parts model.alg_icmp)
+    → flat_map f (setting_parts model) ≡ flat_map (λ choice. f (OfSet choice)) (shown_settings model.settings) ++ flat_map f (alg_parts model.alg_icmp)
 settings_flat f model =
     flat_map-append f (map OfSet (shown_settings model.settings)) (alg_parts model.alg_icmp)
     ∙ ap (λ x. x ++ flat_map f (alg_parts model.alg_icmp)) (flat_map-map f OfSet (shown_settings model.settings))
@@ -62,7 +62,7 @@ declared_flat f model =
 
 module _ (ifaces : List Iface) (model : Model) where
   abbrev row : Part → List Piece
-  row (OfSet one) = set_line one
+  row (OfSet choice) = set_line choice
   row OfAlg = alg_line true
   row (OfTable t) = table_line t
   row (OfMap m) = map_line model m
@@ -70,7 +70,7 @@ module _ (ifaces : List Iface) (model : Model) where
   row (OfGroup g) = group_lines model g
 
   abbrev within : Part → List Piece
-  within (OfSet one) = set_within ifaces model one
+  within (OfSet choice) = set_within ifaces model choice
   within OfAlg = alg_within ifaces model
   within (OfTable t) = table_within ifaces model t
   within (OfMap m) = map_within ifaces model m
@@ -81,7 +81,7 @@ module _ (ifaces : List Iface) (model : Model) where
   closed_row lines ks = onto_both lines closing_line ks ∙ sym (onto_both lines (glued (Pieces.Sign (codes "}"))) (feed ∷ ks))
 
   row_is : (part : Part) (ks : List TokenKind) → onto (row part) ks ≡ onto (within part) (feed ∷ ks)
-  row_is (OfSet one) ks = onto_both (set_within ifaces model one) line_end ks
+  row_is (OfSet choice) ks = onto_both (set_within ifaces model choice) line_end ks
   row_is OfAlg ks = onto_both (alg_within ifaces model) line_end ks
   row_is (OfTable t) ks = onto_both (table_within ifaces model t) line_end ks
   row_is (OfMap m) ks = onto_both (map_within ifaces model m) line_end ks
@@ -90,7 +90,7 @@ module _ (ifaces : List Iface) (model : Model) where
 
   -- what a part needs so that it is read again
   abbrev pub IsFinePart : Part → Type 0
-  IsFinePart (OfSet _) = Unit {0}
+  IsFinePart (OfSet choice) = IsRegularChoice choice
   IsFinePart OfAlg = Unit {0}
   IsFinePart (OfTable t) = IsRegularDecl t
   IsFinePart (OfMap m) = IsFineMap ifaces model m
@@ -102,7 +102,7 @@ module _ (ifaces : List Iface) (model : Model) where
 
   part_goes : (part : Part) → IsFinePart part → (ks : List TokenKind) → Goes stmt (λ tree. IsPartOf tree part) (onto (within part) (feed ∷ ks)) (feed ∷ ks)
   unfolding stmt set alg table the_map group procedure
-  part_goes (OfSet one) is ks = pick_first (it_is (λ s. refl)) (set_goes ifaces model one ks)
+  part_goes (OfSet choice) is ks = pick_first (it_is (λ s. refl)) (set_goes ifaces model choice is ks)
   part_goes OfAlg is ks = pick_second (it_is (λ s. refl)) (pick_first (it_is (λ s. refl)) (alg_goes ifaces model ks))
   part_goes (OfTable t) is ks = pick_second (it_is (λ s. refl)) (pick_second (it_is (λ s. refl)) (pick_first (it_is (λ s. refl)) (table_stmt_goes ifaces model t is ks)))
   part_goes (OfMap m) is ks =

@@ -1,12 +1,14 @@
 -- A model that can be shown and is as texts make it has what its parts need so that they are read again.
-use Rattle.std.proofs.Common.{◌<◌, ℕ, Bool, true, false, Option, Some, None, IfSome, List, [], ◌∷◌, ◌++◌, length, map}
+use Rattle.std.proofs.Common.{◌<◌, ℕ, Bool, true, false, if◌then◌else◌, Option, Some, None, IfSome, List, [], ◌∷◌, ◌++◌, length, map, flat_map}
 use Rattle.std.{proofs.lemmas.List.Elements.{All-append, All-cons, All-nil, All-head, All-tail}, specs.List.All}
 use Rattle.npf_model.specs.declared.{ends.Ends.Ends, group.{Group.Group, Item.{Item, TheVariants.{One, Dynamic}}}, iface.Iface.Iface, map.Map.Map}
-use Rattle.npf_model.specs.declared.{model.Model.Model, rule.Rule.Rule, settings.Parameter.Parameter}
-use Rattle.npf_show.specs.Setting.{shown_settings}
+use Rattle.npf_model.specs.declared.{model.Model.Model, rule.Rule.Rule, settings.{Choice.Choice, Parameter.Parameter, Settings.Settings}}
+use Rattle.npf_model.specs.Settings.{choice_in, default_settings, parameters}
+use Rattle.npf_show.specs.Setting.{changed_setting, has_same_value, shown_settings}
 use Rattle.npf_show_tokens.specs.Showable.{IsShowable, IsShowableRange, AreShowableEnds, IsShowableFilter, IsShowableRule, IsShowableEntry}
 use Rattle.npf_show_tokens.specs.Showable.{IsShowableGroup, IsShowableMap, IsShowableProcedure, IsShowableTable}
-use Rattle.npf_show_meaning.specs.Regular.{IsForward, IsRegular, AreRegularEnds, IsRegularFilter, IsRegularRule, IsRegularEntry, IsRegularGroup, IsRegularMap, IsRegularDecl, IsOfText, IsFilterAlone}
+use Rattle.npf_show_meaning.specs.Regular.{IsForward, IsRegular, IsRegularChoice}
+use Rattle.npf_show_meaning.specs.Regular.{AreRegularEnds, IsRegularFilter, IsRegularRule, IsRegularEntry, IsRegularGroup, IsRegularMap, IsRegularDecl, IsOfText, IsFilterAlone}
 use Rattle.npf_show_meaning.proofs.{Values.IsRange, EndsOf.AreFine, FilterOf.IsFineFilter, RuleOf.IsFineRule, GroupOf.IsFineEntry, GroupStmt.IsFineGroup}
 use Rattle.npf_show_meaning.proofs.{MapStmt.IsFineMap, Parts.{OfSet, OfAlg, OfTable, OfMap, OfProcedure, OfGroup}}
 use Rattle.npf_show_meaning.proofs.FileOf.{alg_parts, declared_parts, parts_of, setting_parts, IsFinePart}
@@ -25,6 +27,19 @@ all_pairs P Q R step (x ∷ xs) ps qs =
 if_both : {A : Type 0} (P Q R : A → Type 0) → ((a : A) → P a → Q a → R a) → (o : Option A) → IfSome o P → IfSome o Q → IfSome o R
 if_both P Q R step None p q = tt
 if_both P Q R step (Some a) p q = step a p q
+
+-- what settings are changed to is regular as they are
+module _ (settings : Settings) (is : (parameter : Parameter) → IsRegularChoice (choice_in settings parameter)) where
+  regular_changed : (parameter : Parameter) → All IsRegularChoice (changed_setting settings parameter)
+  regular_changed parameter = by (has_same_value (choice_in settings parameter) (choice_in default_settings parameter)) where
+    by : (same : Bool) → All IsRegularChoice (if same then [] else choice_in settings parameter ∷ [])
+    by true = All-nil IsRegularChoice
+    by false = All-cons IsRegularChoice (choice_in settings parameter) [] (is parameter) (All-nil IsRegularChoice)
+
+  regular_among : (among : List Parameter) → All IsRegularChoice (flat_map (changed_setting settings) among)
+  regular_among [] = All-nil IsRegularChoice
+  regular_among (parameter ∷ among) =
+      All-append IsRegularChoice (changed_setting settings parameter) (flat_map (changed_setting settings) among) (regular_changed parameter) (regular_among among)
 
 module _ (ifaces : List Iface) (model : Model) where
   fine_range : (range : ℕ × ℕ) → IsShowableRange range → IsForward range → IsRange ifaces range
@@ -71,9 +86,8 @@ module _ (ifaces : List Iface) (model : Model) where
         (λ r s q. (q.0, fine_filter r s q.1)) m.filter shows.filter regular.filter;
   }
 
-  fine_sets : (sets : List (Parameter × Bool)) → All (IsFinePart ifaces model) (map OfSet sets)
-  fine_sets [] = All-nil (IsFinePart ifaces model)
-  fine_sets (one ∷ sets) = All-cons (IsFinePart ifaces model) (OfSet one) (map OfSet sets) tt (fine_sets sets)
+  fine_sets : (choices : List Choice) → All IsRegularChoice choices → All (IsFinePart ifaces model) (map OfSet choices)
+  fine_sets choices all = all_both IsRegularChoice IsRegularChoice (IsFinePart ifaces model) OfSet (λ choice is _. is) choices all all
 
   fine_alg : (is_asked : Bool) → All (IsFinePart ifaces model) (alg_parts is_asked)
   fine_alg true = All-cons (IsFinePart ifaces model) OfAlg [] tt (All-nil (IsFinePart ifaces model))
@@ -97,5 +111,6 @@ module _ (ifaces : List Iface) (model : Model) where
   fine_parts shows regular =
       let Fine = IsFinePart ifaces model in
       All-append Fine (setting_parts model) (declared_parts model)
-      (All-append Fine (map OfSet (shown_settings model.settings)) (alg_parts model.alg_icmp) (fine_sets (shown_settings model.settings)) (fine_alg model.alg_icmp))
+      (All-append Fine (map OfSet (shown_settings model.settings)) (alg_parts model.alg_icmp)
+      (fine_sets (shown_settings model.settings) (regular_among model.settings regular.settings parameters)) (fine_alg model.alg_icmp))
       (fine_declared shows regular)

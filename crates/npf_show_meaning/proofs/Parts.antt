@@ -1,24 +1,24 @@
 -- The statements of a canonical text, and what each says of the model.
-use Rattle.std.proofs.Common.{◌≡◌, ◌≤◌, ℕ, ◌+◌, Bool, if◌then◌else◌, List, [], ◌∷◌, codes, map, sum_by}
+use Rattle.std.proofs.Common.{◌≡◌, ◌≤◌, ℕ, ◌+◌, if◌then◌else◌, List, [], ◌∷◌, codes, map, sum_by}
 use Rattle.npf_types.specs.{declared.limits.TheConstants.MAX_LIST_ELEMENTS, Name.name_bytes}
 use Rattle.npf_syntax.specs.declared.stmt.Stmt.{Stmt}
 use Rattle.npf_model.specs.declared.{group.Group.Group, iface.Iface.Iface, map.Map.Map, model.Model.Model, procedure.Procedure.Procedure}
-use Rattle.npf_model.specs.declared.{settings.Parameter.Parameter, table.TableDecl.TableDecl}
+use Rattle.npf_model.specs.declared.{settings.Choice.Choice, table.TableDecl.TableDecl}
 use Rattle.npf_expand_values.specs.{Declarations.{table_name, procedure_name}, Variable.Definition, Source.declared_of}
 use Rattle.npf_expand.specs.Elaborates.{behind, stmt_elements, stmt_faults, named_group, default_group, maps_of, procedures_of}
 use Rattle.npf_expand.specs.{Settings.{algs_in, settings_in}, Table.tables_of}
 use Rattle.npf_show_meaning.{specs.{Law.AreSameTables, Regular.{entry_elements, pass_elements}}, proofs.Says.nameless}
 
 pub data Part : Type 0 where
-  OfSet : (one : Parameter × Bool) → Part
+  OfSet : (choice : Choice) → Part
   OfAlg : Part
   OfTable : (table : TableDecl) → Part
   OfMap : (m : Map) → Part
   OfProcedure : (procedure : Procedure) → Part
   OfGroup : (group : Group) → Part
 
-abbrev pub sets_in : Part → List (Parameter × Bool)
-sets_in (OfSet one) = one ∷ []
+abbrev pub sets_in : Part → List Choice
+sets_in (OfSet choice) = choice ∷ []
 sets_in _ = []
 
 abbrev pub gateways_in : Part → List (List ℕ)

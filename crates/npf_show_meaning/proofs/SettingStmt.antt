@@ -1,41 +1,61 @@
 -- The statements of settings and of the gateway of ICMP.
-use Rattle.std.proofs.Common.{◌≡◌, ℕ, Bool, true, false, Option, Some, None, List, [], ◌∷◌, ◌++◌, codes, refl, ap, ap₂, ◌∙◌}
+use Rattle.std.proofs.Common.{◌≡◌, ℕ, Bool, true, false, if◌then◌else◌, Option, Some, None, option_and_then, option_map, option_to_list, List, [], ◌∷◌, ◌++◌, codes, refl, ap, ◌∙◌}
 use Rattle.npf_types.specs.declared.span.Span.{Span}
 use Rattle.npf_lexer.specs.declared.token.TokenKind.{TokenKind}
 use Rattle.npf_lexer.specs.declared.token.TokenKind.TheVariants as Kind
 use Rattle.npf_syntax.specs.declared.{stmt.{Setting.Setting, Stmt.Stmt}, word.{Str.Str, Word.Word}}
-use Rattle.npf_model.specs.declared.{iface.Iface.Iface, model.Model.Model, settings.Parameter.{Parameter, TheVariants.{StrictRst, KeyInterface}}}
-use Rattle.npf_model.specs.Settings.{parameter_name, parameter_named, switch_word}
+use Rattle.npf_model.specs.declared.{iface.Iface.Iface, model.Model.Model, settings.{Choice.Choice, Parameter.Parameter}}
+use Rattle.npf_model.specs.declared.settings.{PortBound.{PortBound, TheVariants.{Least, Greatest}}, Switch.{Switch, TheVariants.{StrictRst, KeyInterface}}}
+use Rattle.npf_model.specs.Settings.{choice_by_number, choice_by_word, chosen_number, chosen_word, is_port, parameter_name, parameter_named, parameter_of, switch_word}
 use Rattle.npf_parser_values.specs.Token.{span_of}
 use Rattle.npf_parser.specs.Stmt.{alg, set, setting}
-use Rattle.npf_expand.specs.Settings.{setting_of, value_set}
-use Rattle.npf_show.specs.{Piece.{Piece, glued, spaced}, Setting.switch_text}
+use Rattle.npf_expand.specs.Settings.{choice_of}
+use Rattle.npf_show.specs.{Piece.{Piece, glued, spaced}, Setting.{switch_text, value_piece}}
 use Rattle.npf_show.specs.Piece as Pieces
-use Rattle.npf_show_meaning.proofs.{Goes.{Goes, make, turn, pick_second, said, it_is}, Lists.onto, Blocks.feed, RuleOf.{IsText, string_goes}}
+use Rattle.npf_show_meaning.specs.Regular.{IsRegularChoice}
+use Rattle.npf_show_meaning.proofs.{Goes.{Goes, make, turn, pick_first, pick_second, said, it_is}, Lists.onto, Values.{IsNumber, number_goes}, Blocks.feed, RuleOf.{IsText, string_goes}}
 use Rattle.npf_show_meaning.proofs.{TableStmt.{IsWord, any_word_goes}, Parts.{OfSet, OfAlg, SaysPartOf}}
 
 parameter_again : (parameter : Parameter) → parameter_named (parameter_name parameter) ≡ Some parameter
-parameter_again StrictRst = refl
-parameter_again KeyInterface = refl
+parameter_again (Parameter.Switch StrictRst) = refl
+parameter_again (Parameter.Switch KeyInterface) = refl
+parameter_again (Parameter.Port Least) = refl
+parameter_again (Parameter.Port Greatest) = refl
 
 switch_again : (value : Bool) → switch_word (switch_text value) ≡ Some value
 switch_again true = refl
 switch_again false = refl
 
--- the statement sets it so
-abbrev Sets : Bool → Setting → Type 0
-Sets value written = value_set written ≡ Some value
+abbrev name_of : Choice → List ℕ
+name_of choice = parameter_name (parameter_of choice)
 
-value_goes : (value : Bool) (ks : List TokenKind) → Goes setting (Sets value) (Kind.Word (switch_text value) ∷ ks) ks
+switch_chosen : (switch : Switch) (on : Bool) → choice_by_word (name_of (Choice.Switch switch on)) (switch_text on) ≡ Some (Choice.Switch switch on)
+switch_chosen switch on =
+    ap (option_and_then (λ parameter. chosen_word parameter (switch_text on))) (parameter_again (Parameter.Switch switch))
+    ∙ ap (option_map (Choice.Switch switch)) (switch_again on)
+
+port_chosen : (bound : PortBound) (port : ℕ) → is_port port ≡ true → choice_by_number (name_of (Choice.Port bound port)) port ≡ Some (Choice.Port bound port)
+port_chosen bound port is =
+    ap (option_and_then (λ parameter. chosen_number parameter port)) (parameter_again (Parameter.Port bound))
+    ∙ ap (λ b. if b then Some (Choice.Port bound port) else None) is
+
+-- the value sets it so
+abbrev Sets : Choice → Setting → Type 0
+Sets choice written = choice_of (name_of choice) written ≡ Some choice
+
+value_goes : (choice : Choice) → IsRegularChoice choice → (ks : List TokenKind) → Goes setting (Sets choice) (onto (spaced (value_piece choice)) ks) ks
 unfolding setting
-value_goes value ks =
+value_goes (Choice.Switch switch on) regular ks =
     pick_second (it_is (λ s. refl))
-    (make {P = IsWord (switch_text value)} (λ ts w is. ap switch_word is ∙ switch_again value) (any_word_goes (switch_text value) ks))
+    (make {P = IsWord (switch_text on)} (λ ts w is. ap (choice_by_word (parameter_name (Parameter.Switch switch))) is ∙ switch_chosen switch on) (any_word_goes (switch_text on) ks))
+value_goes (Choice.Port bound port) regular ks =
+    pick_first (it_is (λ s. refl))
+    (make {P = IsNumber port} (λ ts n is. ap (choice_by_number (parameter_name (Parameter.Port bound))) is ∙ port_chosen bound port regular) (number_goes port ks))
 
 module _ (ifaces : List Iface) (model : Model) where
-  says_set : (one : Parameter × Bool) (name : Word) (value : Setting) (span : Span) → IsWord (parameter_name one.0) name → Sets one.1 value
-      → SaysPartOf ifaces model (OfSet one) (Stmt.Set name value span)
-  says_set one name value span named sets = record {
+  says_set : (choice : Choice) (name : Word) (value : Setting) (span : Span) → IsWord (name_of choice) name → Sets choice value
+      → SaysPartOf ifaces model (OfSet choice) (Stmt.Set name value span)
+  says_set choice name value span named sets = record {
     plain = λ older. refl;
     faults = λ counted few. refl;
     count = refl;
@@ -46,7 +66,7 @@ module _ (ifaces : List Iface) (model : Model) where
     procedures = refl;
     table_names = refl;
     procedure_names = refl;
-    settings = ap₂ setting_of (ap parameter_named named ∙ parameter_again one.0) sets;
+    settings = ap (λ text. option_to_list (choice_of text value)) named ∙ ap option_to_list sets;
     algs = refl;
   }
 
@@ -67,17 +87,18 @@ module _ (ifaces : List Iface) (model : Model) where
   }
 
   -- their lines but for the end
-  abbrev pub set_within : Parameter × Bool → List Piece
-  set_within one = glued (Pieces.Word (codes "set")) ++ spaced (Pieces.Word (parameter_name one.0)) ++ spaced (Pieces.Word (switch_text one.1))
+  abbrev pub set_within : Choice → List Piece
+  set_within choice = glued (Pieces.Word (codes "set")) ++ spaced (Pieces.Word (name_of choice)) ++ spaced (value_piece choice)
 
   abbrev pub alg_within : List Piece
   alg_within = glued (Pieces.Word (codes "alg")) ++ spaced (Pieces.Quoted (codes "icmp"))
 
-  pub set_goes : (one : Parameter × Bool) (ks : List TokenKind) → Goes set (SaysPartOf ifaces model (OfSet one)) (onto (set_within one) (feed ∷ ks)) (feed ∷ ks)
+  pub set_goes : (choice : Choice) → IsRegularChoice choice → (ks : List TokenKind)
+      → Goes set (SaysPartOf ifaces model (OfSet choice)) (onto (set_within choice) (feed ∷ ks)) (feed ∷ ks)
   unfolding set
-  set_goes one ks =
-      make {P = λ a. IsWord (parameter_name one.0) a.0 × Sets one.1 a.1} (λ ts a q. says_set one a.0 a.1 (span_of ts) q.0 q.1)
-      (said (turn (any_word_goes (parameter_name one.0) (Kind.Word (switch_text one.1) ∷ feed ∷ ks)) (value_goes one.1 (feed ∷ ks))))
+  set_goes choice regular ks =
+      make {P = λ a. IsWord (name_of choice) a.0 × Sets choice a.1} (λ ts a q. says_set choice a.0 a.1 (span_of ts) q.0 q.1)
+      (said (turn (any_word_goes (name_of choice) (onto (spaced (value_piece choice)) (feed ∷ ks))) (value_goes choice regular (feed ∷ ks))))
 
   pub alg_goes : (ks : List TokenKind) → Goes alg (SaysPartOf ifaces model OfAlg) (onto alg_within (feed ∷ ks)) (feed ∷ ks)
   unfolding alg

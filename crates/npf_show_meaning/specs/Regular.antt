@@ -1,6 +1,6 @@
 -- Models as texts make them: names are those of their bytes, interfaces have their numbers in the run, numbers of tables and procedures
--- name the first of their name, what a filter says more stands beside protocols, no written list is empty, the default group is last, and
--- all lists together have no more elements than a configuration may have.
+-- name the first of their name, what a filter says more stands beside protocols, no written list is empty, the default group is last,
+-- all lists together have no more elements than a configuration may have, and settings have values that statements give them.
 use Rattle.std.specs.Prelude.{◌≡◌, ◌<◌, ◌≤◌, ◌^◌, ℕ, ◌+◌, Bool, true, false, not, IfSome, is_some, Option, Some, None, List, [], ◌++◌, length, slice_get}
 use Rattle.std.specs.List.{All, filter, sum_by}
 use Rattle.std.specs.Str.{is_utf8}
@@ -23,8 +23,11 @@ use Rattle.npf_model.specs.declared.model.Model.{Model}
 use Rattle.npf_model.specs.declared.rule.OnIf.{OnIf}
 use Rattle.npf_model.specs.declared.rule.Rule.{Rule}
 use Rattle.npf_model.specs.declared.rule.StateOpt.TheVariants.{Not}
+use Rattle.npf_model.specs.declared.settings.Choice.{Choice}
+use Rattle.npf_model.specs.declared.settings.Parameter.{Parameter}
 use Rattle.npf_model.specs.declared.table.TableDecl.{TableDecl}
 use Rattle.npf_model.specs.Count.{elements_of}
+use Rattle.npf_model.specs.Settings.{choice_in, is_port}
 use Rattle.npf_expand_values.specs.Declarations.{table_number}
 use Rattle.npf_expand_values.specs.Iface.{on_text}
 use Rattle.npf_expand_values.specs.Source.{declared_of}
@@ -133,7 +136,13 @@ pub record IsRegularDecl (table : TableDecl) : Type 0 where
   pub file : IfSome table.file (λ file. is_utf8 file ≡ true)
   pub span : is_some table.file_span ≡ is_some table.file
 
+-- a port that may be drawn
+abbrev pub IsRegularChoice : Choice → Type 0
+IsRegularChoice (Choice.Switch switch on) = Unit {0}
+IsRegularChoice (Choice.Port bound port) = is_port port ≡ true
+
 pub record IsRegular (ifaces : List Iface) (model : Model) : Type 0 where
+  pub settings : (parameter : Parameter) → IsRegularChoice (choice_in model.settings parameter)
   pub tables : All IsRegularDecl model.tables
   pub maps : All (IsRegularMap ifaces model) model.maps
   pub procedures : All (λ procedure. IfSome procedure.log IsOfText) model.procedures

@@ -1,6 +1,6 @@
 -- The canonical text of a showable model has the tokens of its pieces.
-use Rattle.std.proofs.Common.{zero, suc, ◌≡◌, ℕ, ◌<◌, ◌^◌, ◌||◌, Bool, true, false, if◌then◌else◌, Option, Some, None, List, [], ◌∷◌, ◌++◌, codes, refl, subst, arith, append-nil}
-use Rattle.std.{proofs.lemmas.List.Elements.{All-append, All-nil}, specs.{Prelude.{IfSome, slice_get, length}, List.{slice_index_or, All, flat_map}}}
+use Rattle.std.proofs.Common.{zero, suc, ◌≡◌, ℕ, ◌<◌, ◌^◌, ◌||◌, Bool, true, false, if◌then◌else◌, Option, Some, None, List, [], ◌∷◌, ◌++◌, codes, refl, sym, subst, arith, append-nil}
+use Rattle.std.{proofs.lemmas.{Grind.flat_map-append, List.Elements.{All-append, All-nil}}, specs.{Prelude.{IfSome, slice_get, length}, List.{slice_index_or, All, flat_map}}}
 use Rattle.npf_types.specs.declared.decision.{Decision.{Decision, TheVariants.{Pass, Block}}, Return.{Return, TheVariants.{Nothing, Any, Rst, Icmp}}}
 use Rattle.npf_types.specs.{declared.{direction.Dir.{Dir, TheVariants.{In, Out}}, name.Name.Name}, Name.name_bytes}
 use Rattle.npf_lexer.specs.declared.token.Sign.TheVariants as Signs
@@ -9,9 +9,10 @@ use Rattle.npf_model.specs.declared.{group.Item.TheVariants.{One, Dynamic}, map.
 use Rattle.npf_model.specs.declared.map.Algo.TheVariants as Algos
 use Rattle.npf_model.specs.declared.map.Arrow.TheVariants as Arrows
 use Rattle.npf_model.specs.declared.{procedure.Procedure.Procedure, rule.{OnIf.OnIf, Rule.Rule, StateOpt.StateOpt}}
-use Rattle.npf_model.specs.declared.{rule.StateOpt.TheVariants.{Not, OnInterface, Everywhere}, settings.Parameter.Parameter}
-use Rattle.npf_model.specs.declared.{settings.Parameter.TheVariants.{StrictRst, KeyInterface}, table.Kind.{Kind, TheVariants.{Ipset, Lpm, Const}}}
-use Rattle.npf_model.specs.{declared.table.TableDecl.TableDecl, Settings.parameter_name}
+use Rattle.npf_model.specs.declared.{rule.StateOpt.TheVariants.{Not, OnInterface, Everywhere}, settings.{Choice.Choice, Parameter.Parameter, Settings.Settings}}
+use Rattle.npf_model.specs.declared.settings.{PortBound.TheVariants.{Least, Greatest}, Switch.TheVariants.{StrictRst, KeyInterface}}
+use Rattle.npf_model.specs.declared.{table.Kind.{Kind, TheVariants.{Ipset, Lpm, Const}}}
+use Rattle.npf_model.specs.{declared.table.TableDecl.TableDecl, Settings.{choice_in, default_settings, parameter_name, parameter_of, parameters}}
 use Rattle.npf_show.specs.Bound.{dir_pieces, on_pieces}
 use Rattle.npf_show.specs.Ends.{addresses_pieces, angled, prefix_pieces, item_pieces, name_of_table, range_pieces, ports_pieces, ends_pieces, end_pieces, is_said, where_pieces}
 use Rattle.npf_show.specs.Filter.{family_pieces, protocol_pieces, protocols_pieces, flags_pieces, code_pieces, icmp_pieces, filter_pieces}
@@ -22,9 +23,9 @@ use Rattle.npf_show.specs.Piece.{Piece, spelled, glued, spaced, line_end, indent
 use Rattle.npf_show.specs.Piece as Pieces
 use Rattle.npf_show.specs.Procedure.{log_line, normal_option, least_option, greatest_option, fragment_option, normal_options, normalize_line, procedure_head, procedure_lines}
 use Rattle.npf_show.specs.Rule.{return_pieces, decision_pieces, state_pieces, final_pieces, apply_pieces, rule_pieces, name_of_procedure}
-use Rattle.npf_show.specs.{Setting.{alg_line, set_line, shown_settings, switch_text}, Table.{kind_pieces, file_pieces, table_line}}
+use Rattle.npf_show.specs.{Setting.{alg_line, changed_setting, has_same_value, set_line, shown_settings, switch_text, value_piece}, Table.{kind_pieces, file_pieces, table_line}}
 use Rattle.npf_show_tokens.specs.Showable.{IsPlain, FitsByte, IsShowableRange, IsShowableItem, AreShowableEnds, AreShowableFlags, IsShowableFilter, IsShowableRule, IsShowableEntry}
-use Rattle.npf_show_tokens.specs.Showable.{IsShowableGroup, IsShowableSide, IsShowableMap, IsShowableProcedure, IsShowableTable, IsShowable, ShowsTokens}
+use Rattle.npf_show_tokens.specs.Showable.{IsShowableGroup, IsShowableSide, IsShowableMap, IsShowableProcedure, IsShowableTable, IsShowableChoice, IsShowable, ShowsTokens}
 use Rattle.npf_show_tokens.{specs.Tokens.{AreTold, is_run_word}, proofs.Told.tells_tokens_lem}
 use Rattle.npf_show_tokens.proofs.Chunks.{Follows, nothing_follows, both_follow, option_follows, word_follows, quoted_follows, number_follows, sign_follows, list_follows, comma_list_follows}
 use Rattle.npf_show_tokens.proofs.Lines.{Opens, Lines, prefix_follows, range_follows, angled_follows, flags_follow, name_is_plain, opens_word, opens_colon}
@@ -351,24 +352,40 @@ procedure_told procedure is =
 
 -- settings and the gateway
 parameter_follows : (parameter : Parameter) → Follows (spaced (Pieces.Word (parameter_name parameter)))
-parameter_follows StrictRst = word_follows (parameter_name StrictRst) refl
-parameter_follows KeyInterface = word_follows (parameter_name KeyInterface) refl
+parameter_follows (Parameter.Switch StrictRst) = word_follows (parameter_name (Parameter.Switch StrictRst)) refl
+parameter_follows (Parameter.Switch KeyInterface) = word_follows (parameter_name (Parameter.Switch KeyInterface)) refl
+parameter_follows (Parameter.Port Least) = word_follows (parameter_name (Parameter.Port Least)) refl
+parameter_follows (Parameter.Port Greatest) = word_follows (parameter_name (Parameter.Port Greatest)) refl
 
 switch_follows : (value : Bool) → Follows (spaced (Pieces.Word (switch_text value)))
 switch_follows true = word_follows (codes "on") refl
 switch_follows false = word_follows (codes "off") refl
 
-set_told : (one : Parameter × Bool) → Lines (set_line one)
-set_told one =
-    let word = glued (Pieces.Word (codes "set")) in
-    let name = spaced (Pieces.Word (parameter_name one.0)) in
-    let value = spaced (Pieces.Word (switch_text one.1)) in
-    opens_line (word ++ name ++ value)
-    (opens_more (word ++ name) value (opens_more word name (opens_word (codes "set") refl) (parameter_follows one.0)) (switch_follows one.1))
+value_follows : (choice : Choice) → IsShowableChoice choice → Follows (spaced (value_piece choice))
+value_follows (Choice.Switch switch on) is = switch_follows on
+value_follows (Choice.Port bound port) is = number_follows port (omega (arith, is))
 
-sets_told : (sets : List (Parameter × Bool)) → Lines (flat_map set_line sets)
-sets_told [] = no_lines
-sets_told (one ∷ sets) = both_lines (set_line one) (flat_map set_line sets) (set_told one) (sets_told sets)
+set_told : (choice : Choice) → IsShowableChoice choice → Lines (set_line choice)
+set_told choice is =
+    let word = glued (Pieces.Word (codes "set")) in
+    let name = spaced (Pieces.Word (parameter_name (parameter_of choice))) in
+    let value = spaced (value_piece choice) in
+    opens_line (word ++ name ++ value)
+    (opens_more (word ++ name) value (opens_more word name (opens_word (codes "set") refl) (parameter_follows (parameter_of choice))) (value_follows choice is))
+
+module _ (settings : Settings) (is : (parameter : Parameter) → IsShowableChoice (choice_in settings parameter)) where
+  changed_told : (parameter : Parameter) → Lines (flat_map set_line (changed_setting settings parameter))
+  changed_told parameter = by (has_same_value (choice_in settings parameter) (choice_in default_settings parameter)) where
+    by : (same : Bool) → Lines (flat_map set_line (if same then [] else choice_in settings parameter ∷ []))
+    by true = no_lines
+    by false = both_lines (set_line (choice_in settings parameter)) [] (set_told (choice_in settings parameter) (is parameter)) no_lines
+
+  sets_told : (among : List Parameter) → Lines (flat_map set_line (flat_map (changed_setting settings) among))
+  sets_told [] = no_lines
+  sets_told (parameter ∷ among) =
+      let rest = flat_map (changed_setting settings) among in
+      subst Lines (sym (flat_map-append set_line (changed_setting settings parameter) rest))
+      (both_lines (flat_map set_line (changed_setting settings parameter)) (flat_map set_line rest) (changed_told parameter) (sets_told among))
 
 alg_told : (is_asked : Bool) → Lines (alg_line is_asked)
 alg_told false = no_lines
@@ -396,7 +413,7 @@ model_told model is =
     let settings = flat_map set_line (shown_settings model.settings) in
     let alg = alg_line model.alg_icmp in
     let lines : Lines (model_pieces model) =
-    both_lines (settings ++ alg) (declared_lines model) (both_lines settings alg (sets_told (shown_settings model.settings)) (alg_told model.alg_icmp)) (declared_told model is) in
+    both_lines (settings ++ alg) (declared_lines model) (both_lines settings alg (sets_told model.settings is.settings parameters) (alg_told model.alg_icmp)) (declared_told model is) in
     subst AreTold (append-nil (model_pieces model)) (lines [] tt)
 
 pub shows_tokens_lem : ShowsTokens

@@ -21,7 +21,10 @@ use Rattle.npf_model.specs.declared.map.Side.{Side}
 use Rattle.npf_model.specs.declared.model.Model.{Model}
 use Rattle.npf_model.specs.declared.procedure.Procedure.{Procedure}
 use Rattle.npf_model.specs.declared.rule.Rule.{Rule}
+use Rattle.npf_model.specs.declared.settings.Choice.{Choice}
+use Rattle.npf_model.specs.declared.settings.Parameter.{Parameter}
 use Rattle.npf_model.specs.declared.table.TableDecl.{TableDecl}
+use Rattle.npf_model.specs.Settings.{choice_in}
 use Rattle.npf_show.specs.Ends.{name_of_table}
 use Rattle.npf_show.specs.Filter.{flag_text}
 use Rattle.npf_show.specs.Model.{model_pieces}
@@ -96,7 +99,12 @@ pub record IsShowableTable (table : TableDecl) : Type 0 where
   pub name : is_run_word (name_bytes table.name) ≡ true
   pub file : IfSome table.file IsPlain
 
+abbrev pub IsShowableChoice : Choice → Type 0
+IsShowableChoice (Choice.Switch switch on) = ⊤
+IsShowableChoice (Choice.Port bound port) = port < 2 ^ 16
+
 pub record IsShowable (model : Model) : Type 0 where
+  pub settings : (parameter : Parameter) → IsShowableChoice (choice_in model.settings parameter)
   pub tables : All IsShowableTable model.tables
   pub maps : All (IsShowableMap model) model.maps
   pub procedures : All IsShowableProcedure model.procedures

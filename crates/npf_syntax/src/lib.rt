@@ -6,7 +6,7 @@
 // behind a box (`Boxed`), which contracts do not see. Of what isn't built the tree keeps the place, and nothing of what is said there.
 //
 // The contract: these types say no more than their fields. Each has the span of the text that it was read from, from its
-// first token to its last.
+// first token to its last. And a word names an interface where an address is asked for exactly as specs/Reserved says.
 #![tactic(auto)]
 
 mod boxed;
@@ -14,6 +14,7 @@ mod filter;
 mod group;
 mod map;
 mod procedure;
+mod reserved;
 mod rule;
 mod stmt;
 mod value;
@@ -24,6 +25,7 @@ pub use filter::{Addresses, Detail, EndsTree, Family, Filter, ProtoPart, Protoco
 pub use group::{GroupHead, ItemTree};
 pub use map::{ArrowTree, MapKind, SideTree};
 pub use procedure::{Call, LogName, Opt};
+pub use reserved::is_iface_word;
 pub use rule::{BlockReturn, Direction, RuleAction, RuleTree, Stateful};
 pub use stmt::{Setting, Stmt, TableType, Tree};
 pub use value::{Function, IfaceTree, One, OneList, Value, ValueList, Values};

@@ -44,6 +44,13 @@ impl Table {
         })
     }
 
+    /// The prefixes of the table, in no order that means anything.
+    pub fn to_vec(&self, alloc: Global) -> Result<Vec<Prefix>, NoMemory>
+        ensures { IfOk result (λ made. made.items ≡ prefixes self.now) }
+    {
+        self.prefixes.to_vec(alloc)
+    }
+
     /// Whether some prefix of the table has the address.
     pub fn contains(&self, addr: Addr) -> bool
         ensures { IsTrue result ↔ Covers (prefixes self.now) addr }

@@ -1,5 +1,5 @@
 -- What a pass has while it works under a turn, and what is left when it has ended it.
-use Rattle.std.proofs.Common.{◌≡◌, ℕ, Some, None, List, [], ◌∷◌, refl, sym, ap, ◌∙◌, subst, inl, inr, IsTrue, Contains}
+use Rattle.std.proofs.Common.{◌≡◌, ℕ, true, Some, None, List, [], ◌∷◌, refl, sym, ap, ◌∙◌, subst, inl, inr, IsTrue, Contains}
 use denote.Bor.{Bor}
 use Rattle.atomic_table.specs.Table.{Me}
 use Rattle.npf_types.specs.declared.key.Way.{Way}
@@ -13,7 +13,7 @@ use Rattle.npf_cells_takes.specs.PrivateKinds.{ShowsTurnInc, MayStore, stored_in
 use Rattle.npf_cells_turns.specs.declared.act.TurnAct.{TurnAct, TheVariants.{Start, Step as Steps, Abandoned, Expired}}
 use Rattle.npf_cells_turns.specs.{EndKinds.{BuildsThere, HasBareNotes, stage_by, MayAct, MayEndBy}, TurnKinds.{HasTaken, HasSlotTurn}}
 use Rattle.npf_cells_turns.proofs.ActLemmas.{stepped_phase}
-use Rattle.npf_cells.specs.Step.{StepsFlow, gone_on, going_answer}
+use Rattle.npf_cells.specs.{Due.is_due_at, Step.{StepsFlow, gone_on, going_answer}}
 
 -- what holds something is Live
 pub is_live : {S : Type 0} (stage : Stage S) (flow : S) (steps : ℕ) → running stage ≡ Some (flow, steps) → stage ≡ Live flow steps
@@ -38,6 +38,12 @@ answers_on m way arg Vacant = refl
 answers_on m way arg (Building seat) = refl
 answers_on m way arg (Live flow steps) = refl
 answers_on m way arg Dead = refl
+
+-- what is due is a flow that is due by the law
+pub due_flow : {S A R : Type 0} (m : Meaning S A R) (time : ℕ) (held : Running S) → is_due_at m time held ≡ true →
+    (flow : S × ℕ) × ((held ≡ Some flow) × IsTrue (m.is_due flow.0 time))
+due_flow m time None e = absurd cc
+due_flow m time (Some flow) e = (flow, (refl, e))
 
 -- a turn of a slot that was at this, with this phase
 abbrev pub turn_of : {S : Type 0} → ℕ → Slot S → ℕ → Turn S

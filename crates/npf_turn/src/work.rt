@@ -114,19 +114,15 @@ pub fn expire<L: Law, H: KeyHash>(
     ensures expires { HasExpired L.meaning slot now result pass.old.seat.me pass.new.seat.me }
 {
     wait_turn(rt, cells, pass, slot);
-    match cells.exchange(pass, slot, None) {
-        Some((flow, _)) if L::due(&flow, now) => {
-            let inc = cells.load_inc(pass, slot);
-            let id = ConnId { slot, inc };
-            cells.store_private(pass, Pool::Slots, slot, PHASE, DEAD);
-            cells.end_turn(pass, slot, &TurnAct::Expired { id, now });
-            Some(id)
-        }
-        running => {
-            cells.exchange(pass, slot, running);
-            cells.see(pass);
-            cells.end_turn(pass, slot, &TurnAct::Nothing);
-            None
-        }
+    if !cells.is_due(pass, slot, now) {
+        cells.see(pass);
+        cells.end_turn(pass, slot, &TurnAct::Nothing);
+        return None;
     }
+    let inc = cells.load_inc(pass, slot);
+    let id = ConnId { slot, inc };
+    cells.exchange(pass, slot, None);
+    cells.store_private(pass, Pool::Slots, slot, PHASE, DEAD);
+    cells.end_turn(pass, slot, &TurnAct::Expired { id, now });
+    Some(id)
 }

@@ -1,8 +1,8 @@
 // npfctl: what a configuration of npf.conf(5) does to the packets of captures.
 //
-// `main` makes the table of connections, and hands the words of the command line, the files of the
-// current folder and both standard streams to the top call of `npf_ctl`, whose contract says the
-// rest.
+// `main` makes the table of connections while the file of a run's packets is read ahead, and hands the words of the
+// command line, the files of the current folder and both standard streams to the top call of `npf_ctl`, whose contract
+// says the rest.
 #![tactic(auto)]
 
 ghost use Rattle.std.specs.Prelude.{◌≡◌, ◌≤◌, Some};
@@ -11,14 +11,15 @@ ghost use Rattle.npf_ctl_words.specs.declared.command.CommandName.TheVariants.{R
 
 use npf_conndb::{Conns, Fnv};
 use npf_ctl::npfctl_top;
-use npf_ctl_words::{CommandName, name_in};
+use npf_ctl_words::{CommandName, Invocation, name_in, read_words};
 use npf_flow::FlowLaw;
 use npf_outside::{FolderFiles, StderrSink, StdoutSink};
 use npf_runner::NoGate;
-use npf_types::limits::{MAX_CONNECTIONS, MAX_NODES};
-use std::alloc::AllocError;
+use npf_types::limits::{MAX_CAPTURE_BYTES, MAX_CONNECTIONS, MAX_NODES};
+use std::alloc::{AllocError, Global};
 use std::io::ErrorKind;
 use std::process::ExitCode;
+use std::thread::join;
 use std::{env, mem};
 
 /// How many connections a table may have at a time, and how many nodes for their keys.
@@ -43,10 +44,14 @@ fn main(rt: HostRuntime) -> ExitCode {
     };
     let alloc = rt.alloc();
     let TableSize { slots, nodes } = room_for(words.as_slice());
-    let Ok((conns, mut pass)) = Conns::<FlowLaw, Fnv>::new(alloc, slots, nodes) else {
+    let (made, mut files) = join(
+        &rt,
+        || Conns::<FlowLaw, Fnv>::new(alloc, slots, nodes),
+        || files_of(&rt, alloc, words.as_slice()),
+    );
+    let Ok((conns, mut pass)) = made else {
         return ExitCode::FAILURE;
     };
-    let mut files = FolderFiles::new(&rt);
     let mut out = StdoutSink::new(&rt);
     let mut err = StderrSink::new(&rt);
     let status = npfctl_top(
@@ -76,6 +81,19 @@ fn room_for(words: &[String]) -> TableSize
         Some(CommandName::Run | CommandName::Gen) => MOST,
         _ => LEAST,
     }
+}
+
+/// The files of the current folder. The second file of a run, which has its packets or names them, is read ahead.
+fn files_of<'a>(
+    rt: &'a HostRuntime,
+    alloc: Global,
+    words: &[String],
+) -> FolderFiles<'a, HostRuntime> {
+    let mut files = FolderFiles::new(rt);
+    if let Ok(Invocation::Run(run)) = read_words(alloc, words) {
+        files.read_ahead(alloc, run.script, MAX_CAPTURE_BYTES as u64);
+    }
+    files
 }
 
 /// The words behind the program's name; none where one of them isn't UTF-8, which is no command

@@ -1,4 +1,4 @@
-use Rattle.std.proofs.Common.{◌≡◌, ◌<◌, ◌∙◌, false, ap, subst}
+use Rattle.std.proofs.Common.{◌≡◌, ◌∙◌, false, ap}
 use Rattle.npf_cells_words.specs.declared.layout.Layout.{Layout}
 use Rattle.npf_cells_rule.{specs.Passes.is_pinned, proofs.PassLemmas.pinned_in}
 use Rattle.npf_conndb.proofs.PassLemmas.{stays_pinned}
@@ -13,14 +13,12 @@ loop-node-init g c =
     let load = c.load_epoch-epoch.ensures in
     record {
       own = load.own;
+      sized = ap (λ (l : Layout). l.nodes) c.layout-nodes.ensures;
       regains = regains_none g.L.Law.meaning c.load_epoch-epoch.result c.args.pass.now.seat.me c.enter.new.pass.seat.me c.load_epoch-epoch.new.pass.seat.me e.same e.protected e.enters
           (entered_pass g.L.Law.meaning _ _ e.same e.protected e.enters c.requires.legal)
           (entered_between g.L.Law.meaning _ _ e.same e.protected e.enters (c.requires.legal.idle out) c.requires.between)
           load.met load.next;
     }
-
-pub regain-requires-clause-exists : goal.regain-requires-clause-exists
-regain-requires-clause-exists g c = subst (λ (l : Layout). c.loop-node.node < l.nodes) c.layout-node-end.ensures c.loop-node-test.true
 
 pub regain-requires-clause-protected : goal.regain-requires-clause-protected
 regain-requires-clause-protected g c = still_protected g.L.Law.meaning _ _ _ c.loop-node.invariant.regains
@@ -37,6 +35,7 @@ regain-requires-clause-nodes g c = still_nodeless g.L.Law.meaning _ _ _ c.loop-n
 pub loop-node-preserved : goal.loop-node-preserved
 loop-node-preserved g c = record {
   own = c.regain.ensures.own;
+  sized = c.loop-node.invariant.sized;
   regains = regains_more g.L.Law.meaning _ _ _ c.loop-node.invariant.regains _ c.regain.result c.regain.ensures.returns;
 }
 

@@ -1,16 +1,17 @@
 use Rattle.std.proofs.Common.{List, ◌++◌, ◌∷◌, [], append-nil, refl, sym, ap, ◌∙◌}
 use Rattle.npf_model.specs.declared.group.Group.{Group}
-use Rattle.npf_expand_values.specs.{Source.declared_by, Scope.env_in}
+use Rattle.npf_expand_values.specs.{Source.declared_by, Scope.{env_in, ifaces_in}}
 use Rattle.npf_expand.proofs.StepLemmas.{default_is, default_none, named_is, named_none}
 use Rattle.npf_expand.proofs.elaborate.State.add_group.Goals as goal
 
 pub returns-in_ok-push-in-Named : goal.returns-in_ok-push-in-Named
 returns-in_ok-push-in-Named c =
     let state = c.args.self.now in
-    let ifaces = c.args.interfaces.now.list.now in
+    let ifaces = ifaces_in c.args.self.now.variables in
     let declared = declared_by c.args.declarations.now.source in
     let env = env_in state.variables in
     λ span. record {
+      run = refl;
       env = λ text. refl;
       met = c.in_ok-group.ensures.met;
       adds = λ none. record {
@@ -25,10 +26,11 @@ returns-in_ok-push-in-Named c =
 pub returns-in_ok-push-in-Default : goal.returns-in_ok-push-in-Default
 returns-in_ok-push-in-Default c =
     let state = c.args.self.now in
-    let ifaces = c.args.interfaces.now.list.now in
+    let ifaces = ifaces_in c.args.self.now.variables in
     let declared = declared_by c.args.declarations.now.source in
     let env = env_in state.variables in
     λ span. record {
+      run = refl;
       env = λ text. refl;
       met = c.in_ok-group.ensures.met;
       adds = λ none. record {

@@ -1,7 +1,7 @@
 use Rattle.std.proofs.{Common.{◌≡◌, ◌<◌, ◌++◌, ◌∷◌, [], All, List, length, map, reverse, refl, sym, ap, subst, ◌∙◌, arith}, lemmas.List.nil_from_length}
 use Rattle.std.proofs.lemmas.Option.{slice_get_read}
 use Rattle.npf_expand_values.specs.{declared.variable.Part.{Part, TheVariants.Defined}, Atom.{Atom, kept_atom}, Kept.{IsOfFirst, kept_parts, parts_atoms}}
-use Rattle.npf_expand_values.specs.Scope.{known}
+use Rattle.npf_expand_values.specs.Scope.{ifaces_in, known}
 use Rattle.npf_expand_values.proofs.KeptLemmas.{IsDefAt, known_at, last_of_first, length-known, map-reversed, replaced_means, replaced_older}
 use Rattle.npf_expand_values.proofs.{PartSize.{parts_size, replaced_smaller}, variable.Variables.gather.Goals.In_ok-put_on-in-Defined}
 use Rattle.npf_expand_values.proofs.variable.Variables.gather.Goals as goal
@@ -25,7 +25,7 @@ within c =
     (subst (All (IsOfFirst (length (known variables)))) (popped c) c.loop-part.invariant.older) in
     subst (λ n. c.in-Defined.place < n) (length-known variables) older
 
-def_is : (c : In_ok-put_on-in-Defined) → IsDefAt (known c.args.self.now) c.in-Defined.place c.index.result.now
+def_is : (c : In_ok-put_on-in-Defined) → IsDefAt (ifaces_in c.args.self.now) (known c.args.self.now) c.in-Defined.place c.index.result.now
 def_is c =
     let defs = c.args.self.now.defs in
     known_at c.args.self.now c.in-Defined.place c.index.result.now
@@ -45,10 +45,10 @@ loop-part-preserved c =
     let front = c.pop.new.self.items in
     let is = def_is c in
     record {
-      older = subst (All (IsOfFirst (length bindings))) (sym c.in_ok-put_on-in-Defined.ensures) (replaced_older bindings front c.in-Defined.place c.index.result.now is
+      older = subst (All (IsOfFirst (length bindings))) (sym c.in_ok-put_on-in-Defined.ensures) (replaced_older (ifaces_in c.args.self.now) bindings front c.in-Defined.place c.index.result.now is
           (subst (All (IsOfFirst (length bindings))) (popped c) c.loop-part.invariant.older));
       left = c.loop-part.invariant.left ∙ ap (λ (parts : List Part). parts_atoms bindings parts ++ reverse (map kept_atom c.loop-part.atoms.items)) (popped c)
-          ∙ ap (λ (atoms : List Atom). atoms ++ reverse (map kept_atom c.loop-part.atoms.items)) (replaced_means bindings front c.in-Defined.place c.index.result.now is)
+          ∙ ap (λ (atoms : List Atom). atoms ++ reverse (map kept_atom c.loop-part.atoms.items)) (replaced_means (ifaces_in c.args.self.now) bindings front c.in-Defined.place c.index.result.now is)
           ∙ ap (λ (parts : List Part). parts_atoms bindings parts ++ reverse (map kept_atom c.loop-part.atoms.items)) (sym c.in_ok-put_on-in-Defined.ensures);
     }
 

@@ -1,9 +1,9 @@
 use Rattle.std.proofs.{Common.{◌<◌, length, refl, sym, ap, ◌∙◌, subst}, lemmas.Option.slice_get_read}
-use Rattle.npf_expand_values.{specs.{Scope.known, Use.atoms_of}, proofs.KeptLemmas.{IsDefAt, known_at, length-known, only_part, only_older}}
+use Rattle.npf_expand_values.{specs.{Scope.{ifaces_in, known}, Use.atoms_of}, proofs.KeptLemmas.{IsDefAt, known_at, length-known, only_part, only_older}}
 use Rattle.npf_expand_values.proofs.variable.Variables.part.Goals as goal
 use Rattle.npf_expand_values.proofs.variable.Variables.part.Goals.{In-Some}
 
-def_is : (c : In-Some) → IsDefAt (known c.args.self.now) c.args.place c.index.result.now
+def_is : (c : In-Some) → IsDefAt (ifaces_in c.args.self.now) (known c.args.self.now) c.args.place c.index.result.now
 def_is c = known_at c.args.self.now c.args.place c.index.result.now
     (slice_get_read c.args.self.now.defs.items _ c.args.place c.index.result.now refl c.requires c.index.ensures)
 

@@ -19,8 +19,8 @@ invariant_of-self-2 c =
           c.insert.ensures.updates c.insert.ensures.err;
     }
 
-pub returns : goal.returns
-returns c =
+pub returns-clause-bound : goal.returns-clause-bound
+returns-clause-bound c =
     let was = c.args.self.now in
     let counted : c.len-place.result ≡ length was.defs.items = omega (arith, c.len-place.ensures, was.defs.ok.0) in
     put_bound was c.args.def c.push.new.self.items c.in_ok-push.ensures.items c.args.name.now (λ text. get_by (λ key. bytes_eq text key.now) c.insert.new.self)

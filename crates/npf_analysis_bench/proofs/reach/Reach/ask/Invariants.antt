@@ -1,0 +1,6 @@
+use Rattle.std.proofs.Common.{◌<◌}
+use Rattle.std.specs.Prelude.{All}
+use Rattle.npf_analysis_bench.proofs.reach.Reach.ask.Given as goal
+
+abbrev pub invariant-loop-at : goal.invariant-loop-at
+invariant-loop-at l = All (λ number. number < l.boxes.count) l.before.items

@@ -1,0 +1,12 @@
+mod AddsLemmas
+mod AgreeLemmas
+mod BlockLemmas
+mod BoxesLemmas
+mod BoxingLemmas
+mod KindLemmas
+mod NarrowLemmas
+mod PacketLemmas
+mod PushLemmas
+mod RangeLemmas
+mod SetsLemmas
+mod SpaceLemmas

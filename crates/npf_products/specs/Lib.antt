@@ -1,0 +1,14 @@
+pub mod Adds
+pub mod Axis
+pub mod OwnSet
+pub mod Condition
+pub mod End
+pub mod Kind
+pub mod Lists
+pub mod Narrow
+pub mod Number
+pub mod Packet
+pub mod Product
+pub mod Rule
+pub mod Sets
+pub mod Space

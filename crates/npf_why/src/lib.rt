@@ -1,0 +1,27 @@
+// What a person is told of a fault of a configuration, beside its line: what could stand at its place, which known names are near an
+// unknown one, and a sentence.
+//
+// What can stand where the grammar halts is asked of the proved parser: `candidate` has the words and signs of the grammar and an example
+// of everything else, and `stand` puts one after the other behind the tokens before the place, and parses. `distance` and `near` compare
+// names by the edit distance of Levenshtein (1966).
+//
+// The contract: with each candidate that is told the tokens before it begin a text of the grammar, were every value to fit; at each other
+// one the grammar halts, or before it; and no word of the grammar is lacking among the candidates (`laws`). The names that are told are
+// those of least distance.
+#![tactic(auto)]
+
+mod candidate;
+mod distance;
+mod halt;
+mod known;
+pub mod laws;
+mod nearest;
+mod sentence;
+mod stand;
+
+pub use candidate::Candidate;
+pub use halt::{greatest, is_told, sentence_at};
+pub use known::{GivenNames, given_names, interfaces};
+pub use nearest::{MAX_NEAR_BYTES, near};
+pub use sentence::Sentence;
+pub use stand::could_stand;
