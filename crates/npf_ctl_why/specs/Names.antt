@@ -1,16 +1,17 @@
 -- The name that isn't known, at the place of a fault, and those that are near it.
-use Rattle.std.specs.Prelude.{ℕ, Option, Some, None, List, [], ◌∷◌, map, slice_get}
+use Rattle.std.specs.Prelude.{ℕ, Option, Some, None, if◌then◌else◌, List, [], ◌∷◌, codes, map, slice_get}
 use Rattle.std.specs.List.{flat_map}
+use Rattle.std.specs.Str.{bytes_eq}
 use Rattle.npf_faults.specs.declared.fault.ConfFault.{ConfFault}
 use Rattle.npf_faults.specs.declared.fault.Fault.{Fault}
-use Rattle.npf_faults.specs.declared.fault.Fault.TheVariants.{UnknownVariable, UnknownInterface, UnknownTable, UnknownProcedure}
+use Rattle.npf_faults.specs.declared.fault.Fault.TheVariants.{UnknownVariable, UnknownInterface, UnknownTable, UnknownProcedure, Unbuilt}
 use Rattle.npf_lexer.specs.declared.token.Sign.TheVariants.{OpenParen}
 use Rattle.npf_lexer.specs.declared.token.Token.{Token}
 use Rattle.npf_lexer.specs.declared.token.TokenKind.{TokenKind}
 use Rattle.npf_lexer.specs.declared.token.TokenKind.TheVariants as Kind
 use Rattle.npf_model.specs.declared.iface.Iface.{Iface}
 use Rattle.npf_syntax.specs.declared.stmt.Tree.{Tree}
-use Rattle.npf_why.specs.Known.{given_by, iface_text}
+use Rattle.npf_why.specs.Known.{given_by, iface_text, setting_names}
 use Rattle.npf_why.specs.declared.known.GivenNames.{GivenNames}
 use Rattle.npf_why.specs.Nearest.{nearest}
 use Rattle.npf_ctl_why.specs.declared.listed.Marks.{Marks}
@@ -51,12 +52,21 @@ interface_by (Some token) tokens = interface_before token.kind tokens
 abbrev pub interface_in : List Token → Option (List ℕ)
 interface_in tokens = interface_by (slice_get tokens 1) tokens
 
--- the name that isn't known, of the tokens at the fault's place: a variable's; an interface's; a table's, behind its sign; a procedure's
+abbrev pub behind_set : Option (List ℕ) → List Token → Option (List ℕ)
+behind_set None tokens = None
+behind_set (Some word) tokens = if bytes_eq word (codes "set") then word_in tokens 1 else None
+
+-- what a statement sets
+abbrev pub setting_in : List Token → Option (List ℕ)
+setting_in tokens = behind_set (word_in tokens 0) tokens
+
+-- the name that isn't known, of the tokens at the fault's place: a variable's; an interface's; a table's, behind its sign; a procedure's; what is set
 abbrev pub unknown_word : Fault → List Token → Option (List ℕ)
 unknown_word UnknownVariable tokens = variable_in tokens
 unknown_word UnknownInterface tokens = interface_in tokens
 unknown_word UnknownTable tokens = word_in tokens 1
 unknown_word UnknownProcedure tokens = word_in tokens 0
+unknown_word Unbuilt tokens = setting_in tokens
 unknown_word _ tokens = None
 
 -- the names that are known of that kind
@@ -64,6 +74,7 @@ abbrev pub names_by : Fault → ℕ → List Iface → Tree → List (List ℕ)
 names_by UnknownVariable at ifaces tree = flat_map (given_by (GivenNames.VariablesBefore at)) tree.stmts
 names_by UnknownInterface at ifaces tree = map iface_text ifaces
 names_by UnknownTable at ifaces tree = flat_map (given_by GivenNames.Tables) tree.stmts
+names_by Unbuilt at ifaces tree = setting_names
 names_by _ at ifaces tree = flat_map (given_by GivenNames.Procedures) tree.stmts
 
 abbrev pub known_names : List Iface → Tree → ConfFault → List (List ℕ)

@@ -4,7 +4,7 @@ ghost use Rattle.std.specs.List.{prefix_len};
 ghost use Rattle.npf_types.specs.Reading.{IsOnly};
 ghost use Rattle.npf_lexer.specs.Lexer.{IsLexed};
 ghost use Rattle.npf_why.specs.Candidate.{candidate_kind};
-ghost use Rattle.npf_ctl_why.specs.Names.{interface_in, known_names, marks, near_text, unknown_word, variable_in, word_in};
+ghost use Rattle.npf_ctl_why.specs.Names.{interface_in, known_names, marks, near_text, setting_in, unknown_word, variable_in, word_in};
 ghost use Rattle.npf_ctl_why.specs.Reason.{PutsBehind, ExplainsExpected, ExplainsFault, ExplainsHalt, ExplainsNamed, NamesNear, byte_sentence, halt_sentence};
 ghost use Rattle.npf_ctl_why.specs.Sentences.{is_hardware_address, is_pair, is_pair_behind_colon, sentence_text, shown_at, tail_text, tokens_at};
 
@@ -20,6 +20,7 @@ use npf_types::limits::MAX_TEXT_BYTES;
 use npf_types::{NoMemory, Span};
 use npf_why::{
     Candidate, GivenNames, Sentence, could_stand, given_names, interfaces, near, sentence_at,
+    settings,
 };
 use std::alloc::Global;
 
@@ -250,6 +251,7 @@ fn unknown_word(fault: Fault, tokens: &[Token]) -> Option<&[u8]>
         Fault::UnknownInterface => interface_in(tokens),
         Fault::UnknownTable => word_in(tokens, 1),
         Fault::UnknownProcedure => word_in(tokens, 0),
+        Fault::Unbuilt => setting_in(tokens),
         _ => None,
     }
 }
@@ -263,6 +265,17 @@ fn variable_in(tokens: &[Token]) -> Option<&[u8]>
             _ => None,
         },
         None => None,
+    }
+}
+
+/// What a `set` statement sets; None of another statement.
+fn setting_in(tokens: &[Token]) -> Option<&[u8]>
+    ensures { option_map (λ word. word.now) result ≡ setting_in tokens.now }
+{
+    if word_in(tokens, 0)? == "set".as_bytes() {
+        word_in(tokens, 1)
+    } else {
+        None
     }
 }
 
@@ -306,6 +319,7 @@ fn known_names<'a>(
         }
         Fault::UnknownInterface => interfaces(alloc, ifaces),
         Fault::UnknownTable => given_names(alloc, tree, GivenNames::Tables),
+        Fault::Unbuilt => settings(alloc),
         _ => given_names(alloc, tree, GivenNames::Procedures),
     }
 }

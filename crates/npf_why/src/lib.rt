@@ -21,7 +21,7 @@ mod stand;
 
 pub use candidate::Candidate;
 pub use halt::{greatest, is_told, sentence_at};
-pub use known::{GivenNames, given_names, interfaces};
+pub use known::{GivenNames, given_names, interfaces, settings};
 pub use nearest::{MAX_NEAR_BYTES, near};
 pub use sentence::Sentence;
 pub use stand::could_stand;
