@@ -2,7 +2,8 @@
 use Rattle.std.proofs.Common.{◌≡◌, ◌<◌, ◌/◌, ◌%◌, ◌^◌, ◌==◌, ◌≤◌, ◌&&◌, ℕ, Bool, true, false, not, Option, Some, None, IfSome, List, [], ◌∷◌, ◌++◌, slice_index, refl, sym, ap, ◌∙◌, arith, lit≤}
 use Rattle.std.{specs.{Fmt.decimal, Int.{w16, w32, w64}, List.list_all, Char.digit_value}, proofs.lemmas.{Bool.and_parts, List.Folds.list_all-append}}
 use Rattle.hex.specs.Hex.{is_hex_digit}
-use Rattle.npf_types.specs.{declared.{action.Action.Action, address.Addr.{Addr, TheVariants.{V4, V6}}, change.{Change.Change, End.End}, key.Key.Key, name.Name.Name}, Name.name_bytes, NameText.is_name_byte}
+use Rattle.npf_types.specs.declared.{action.Action.Action, address.Addr.{Addr, TheVariants.{V4, V6}}, change.{Change.Change, End.End}, key.Key.Key, name.Name.Name}
+use Rattle.npf_types.specs.{Name.name_bytes, NameText.is_name_byte}
 use Rattle.npf_tcp.specs.declared.state.{Known.Known, TcpPhase.TcpPhase, TcpSide.TcpSide, TcpState.TcpState}
 use Rattle.npf_tcp.specs.declared.state.Known.TheVariants as Knowns
 use Rattle.npf_tcp.specs.declared.state.TcpPhase.TheVariants as Phases

@@ -1,5 +1,5 @@
 -- The timeouts at a line's end.
-use Rattle.std.proofs.Common.{◌≡◌, ◌<◌, ◌≤◌, ◌^◌, ◌==◌, ℕ, Bool, true, false, not, if◌then◌else◌, List, [], ◌∷◌, ◌++◌, codes, refl, sym, ap, ◌∙◌, append-nil, arith}
+use Rattle.std.proofs.Common.{◌≡◌, ◌≢◌, ◌<◌, ◌≤◌, ◌^◌, ◌==◌, ℕ, Bool, true, false, not, if◌then◌else◌, List, [], ◌∷◌, ◌++◌, codes, refl, sym, ap, ◌∙◌, append-nil, length, arith}
 use Rattle.std.{specs.{Char.digit_value, Fmt.decimal, List.{after_first, before_first}}, proofs.lemmas.{Bool.Decides.nat_tests, List.Folds.list_all-append}}
 use Rattle.npf_timeouts.specs.declared.timeouts.{Timeout.TheVariants.{TcpNew, TcpEstablished, TcpHalfClose, TcpTimeWait, TcpClose, OtherNew, OtherEstablished}, Timeouts.Timeouts}
 use Rattle.npf_timeouts.{specs.Timeouts.{AreTimeouts, are_default, default_timeouts, is_timeout}, proofs.TimeoutsLemmas.default_is}
@@ -44,6 +44,10 @@ module _ (text word : List ℕ) (times : Timeouts) (is : text ≡ word ++ timeou
     by true is = ap (after_first (λ byte. byte == 32)) (is ∙ append-nil word) ∙ none_after 32 word lack
     by false is = rest_behind 32 text word (codes "timeouts" ++ 32 ∷ times_text times) is lack
 
+pub no_length : (words : List ℕ) → length words ≡ 0 → words ≡ []
+no_length [] none = refl
+no_length (x ∷ words) none = cc
+
 -- where nothing stands behind the word the times are those that hold without a statement
 pub nothing_behind : (words : List ℕ) (times : Timeouts) → words ≡ [] → words ≡ timeouts_behind times → default_timeouts ≡ times
 nothing_behind words times none is = by (are_default times) refl is where
@@ -52,7 +56,7 @@ nothing_behind words times none is = by (are_default times) refl is where
   by false same is = cc
 
 -- and else what stands behind its first space is their text
-pub something_behind : (words : List ℕ) (times : Timeouts) → ¬ (words ≡ []) → words ≡ timeouts_behind times → after_first (λ byte. byte == 32) words ≡ times_text times
+pub something_behind : (words : List ℕ) (times : Timeouts) → words ≢ [] → words ≡ timeouts_behind times → after_first (λ byte. byte == 32) words ≡ times_text times
 something_behind words times some is = by (are_default times) is where
   by : (same : Bool) → words ≡ (if same then [] else codes "timeouts" ++ 32 ∷ times_text times) → after_first (λ byte. byte == 32) words ≡ times_text times
   by true is = absurd (some is)

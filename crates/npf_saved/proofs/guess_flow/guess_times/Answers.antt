@@ -1,5 +1,6 @@
 use Rattle.std.{proofs.Common.{◌≡◌, ◌++◌, ◌∷◌, ◌∙◌, ℕ, refl, lit≤}, specs.Fmt.decimal}
-use Rattle.npf_timeouts.{specs.declared.timeouts.Timeout.TheVariants.{TcpNew, TcpEstablished, TcpHalfClose, TcpTimeWait, TcpClose, OtherNew, OtherEstablished}, proofs.TimeoutsLemmas.all_can_be_set}
+use Rattle.npf_timeouts.specs.declared.timeouts.Timeout.TheVariants.{TcpNew, TcpEstablished, TcpHalfClose, TcpTimeWait, TcpClose, OtherNew, OtherEstablished}
+use Rattle.npf_timeouts.proofs.TimeoutsLemmas.{all_can_be_set}
 use Rattle.npf_saved.proofs.{CutLemmas.{rest_behind, word_before}, TimeoutLemmas.time_lacks}
 use Rattle.npf_saved.proofs.guess_flow.guess_times.Goals as goal
 
@@ -30,11 +31,15 @@ returns-clause-value c = λ times are is.
     let five = c.cut-5.ensures.behind ∙ rest_behind 32 c.cut-4.result.1.now tcp_close behind_5 four tcp_close_lacks in
     let six = c.cut-6.ensures.behind ∙ rest_behind 32 c.cut-5.result.1.now other_new other_established five other_new_lacks in
     let tcp_new_is = c.guess_seconds.ensures.value times.tcp_new (are TcpNew) (c.cut.ensures.word ∙ word_before 32 c.args.words.now tcp_new behind_1 is tcp_new_lacks) in
-    let tcp_established_is = c.guess_seconds-2.ensures.value times.tcp_established (are TcpEstablished) (c.cut-2.ensures.word ∙ word_before 32 c.cut.result.1.now tcp_established behind_2 one tcp_established_lacks) in
-    let tcp_half_close_is = c.guess_seconds-3.ensures.value times.tcp_half_close (are TcpHalfClose) (c.cut-3.ensures.word ∙ word_before 32 c.cut-2.result.1.now tcp_half_close behind_3 two tcp_half_close_lacks) in
-    let tcp_time_wait_is = c.guess_seconds-4.ensures.value times.tcp_time_wait (are TcpTimeWait) (c.cut-4.ensures.word ∙ word_before 32 c.cut-3.result.1.now tcp_time_wait behind_4 three tcp_time_wait_lacks) in
+    let tcp_established_is = c.guess_seconds-2.ensures.value times.tcp_established (are TcpEstablished)
+    (c.cut-2.ensures.word ∙ word_before 32 c.cut.result.1.now tcp_established behind_2 one tcp_established_lacks) in
+    let tcp_half_close_is = c.guess_seconds-3.ensures.value times.tcp_half_close (are TcpHalfClose)
+    (c.cut-3.ensures.word ∙ word_before 32 c.cut-2.result.1.now tcp_half_close behind_3 two tcp_half_close_lacks) in
+    let tcp_time_wait_is = c.guess_seconds-4.ensures.value times.tcp_time_wait (are TcpTimeWait)
+    (c.cut-4.ensures.word ∙ word_before 32 c.cut-3.result.1.now tcp_time_wait behind_4 three tcp_time_wait_lacks) in
     let tcp_close_is = c.guess_seconds-5.ensures.value times.tcp_close (are TcpClose) (c.cut-5.ensures.word ∙ word_before 32 c.cut-4.result.1.now tcp_close behind_5 four tcp_close_lacks) in
-    let other_new_is = c.guess_seconds-6.ensures.value times.other_new (are OtherNew) (c.cut-6.ensures.word ∙ word_before 32 c.cut-5.result.1.now other_new other_established five other_new_lacks) in
+    let other_new_is = c.guess_seconds-6.ensures.value times.other_new (are OtherNew)
+    (c.cut-6.ensures.word ∙ word_before 32 c.cut-5.result.1.now other_new other_established five other_new_lacks) in
     let other_established_is = c.guess_seconds-7.ensures.value times.other_established (are OtherEstablished) six in
     λ i. record {
       tcp_new = tcp_new_is i;
@@ -48,4 +53,5 @@ returns-clause-value c = λ times are is.
 
 pub returns-clause-fits : goal.returns-clause-fits
 returns-clause-fits c =
-    all_can_be_set _ c.guess_seconds.ensures.fits c.guess_seconds-2.ensures.fits c.guess_seconds-3.ensures.fits c.guess_seconds-4.ensures.fits c.guess_seconds-5.ensures.fits c.guess_seconds-6.ensures.fits c.guess_seconds-7.ensures.fits
+    all_can_be_set _ c.guess_seconds.ensures.fits c.guess_seconds-2.ensures.fits c.guess_seconds-3.ensures.fits c.guess_seconds-4.ensures.fits c.guess_seconds-5.ensures.fits
+    c.guess_seconds-6.ensures.fits c.guess_seconds-7.ensures.fits

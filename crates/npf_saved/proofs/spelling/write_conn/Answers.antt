@@ -21,7 +21,8 @@ returns c =
     let rest_2 : List ℕ = (32 ∷ []) ++ rest_3 in
     let rest_1 : List ℕ = key_text c.args.saved.now.forward ++ rest_2 in
     let step_16 = c.in_ok-write_timeouts.ensures in
-    let step_15 = before c.push-7.new.self.items (action_text c.args.saved.now.flow.action) c.write_action.new.into.items rest_16 c.write_timeouts.new.into.items c.in_ok-write_action.ensures step_16 in
+    let step_15 = before c.push-7.new.self.items (action_text c.args.saved.now.flow.action) c.write_action.new.into.items rest_16 c.write_timeouts.new.into.items
+    c.in_ok-write_action.ensures step_16 in
     let step_14 = before c.write_change-2.new.into.items ((32 ∷ [])) c.push-7.new.self.items rest_15 c.write_timeouts.new.into.items c.in_ok-push-7.ensures.items step_15 in
     let step_13 =
     before c.push-6.new.self.items (change_text c.args.saved.now.flow.back) c.write_change-2.new.into.items rest_14 c.write_timeouts.new.into.items c.in_ok-write_change-2.ensures step_14 in
