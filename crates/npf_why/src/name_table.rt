@@ -2,8 +2,8 @@
 ghost use Rattle.std.specs.Prelude.{◌≡◌, ◌++◌, IfOk, None, OnOk, map, option_map};
 ghost use Rattle.npf_names.specs.Icmp.{types_of};
 ghost use Rattle.npf_names.specs.Protocol.{protocols};
-ghost use Rattle.npf_why.specs.declared.looked_up.NameTable.TheVariants.{Unknown};
-ghost use Rattle.npf_why.specs.LookedUp.{code_table, looked_up, name_texts, names_of_number, names_of_table, number_said, table_at_code, table_behind, table_behind_word, table_from};
+ghost use Rattle.npf_why.specs.declared.name_table.NameTable.TheVariants.{Unknown};
+ghost use Rattle.npf_why.specs.NameTable.{code_table, looked_up, name_texts, names_of_number, names_of_table, number_said, table_at_code, table_behind, table_behind_word, table_from};
 
 use npf_lexer::{Sign, Token, TokenKind};
 use npf_names::{IcmpNames, IcmpTable, protocol_number, protocol_rows, service_rows};

@@ -15,8 +15,8 @@ use Rattle.npf_names.specs.declared.icmp.IcmpNames.{IcmpNames}
 use Rattle.npf_names.specs.declared.icmp.IcmpNames.TheVariants.{OfIcmp, OfIcmp6, OfNeither}
 use Rattle.npf_names.specs.declared.icmp.IcmpTable.{IcmpTable}
 use Rattle.npf_names.specs.declared.icmp.IcmpTable.TheVariants.{Types, Codes}
-use Rattle.npf_why.specs.declared.looked_up.NameTable.{NameTable}
-use Rattle.npf_why.specs.declared.looked_up.NameTable.TheVariants.{Unknown, Services, Protocols, Messages}
+use Rattle.npf_why.specs.declared.name_table.NameTable.{NameTable}
+use Rattle.npf_why.specs.declared.name_table.NameTable.TheVariants.{Unknown, Services, Protocols, Messages}
 
 abbrev pub name_texts : Names → List (List ℕ)
 name_texts rows = map (λ row. row.0) rows
