@@ -63,7 +63,12 @@ fn fault_beside<'a>(
 fn gives_some<'a>(scope: &Scope<'_, 'a, '_>, protocols: &'a [One]) -> bool
     ensures { result ≡ list_any (gives_atom (env_of_scope scope.now)) protocols.now }
 {
-    protocols.iter().any(|one| gives_atom(scope, one))
+    for one in protocols {
+        if gives_atom(scope, one) {
+            return true;
+        }
+    }
+    false
 }
 
 fn gives_atom<'a>(scope: &Scope<'_, 'a, '_>, one: &'a One) -> bool
