@@ -68,7 +68,7 @@ fn table_before(tokens: &[Token]) -> NameTable
 
 /// The table behind a token, by that before it and by the token that stands before it.
 fn table_behind(table: NameTable, last: Option<&TokenKind>, kind: &TokenKind) -> NameTable
-    ensures { result ≡ table_behind table (option_map (λ kind. kind.now) last) kind.now }
+    ensures { result ≡ table_behind table (option_map (λ kind. kind.now) last.entry) kind.now }
 {
     match kind {
         TokenKind::Sign(Sign::Equals) => NameTable::Unknown,
@@ -78,7 +78,7 @@ fn table_behind(table: NameTable, last: Option<&TokenKind>, kind: &TokenKind) ->
 }
 
 fn table_behind_word(table: NameTable, last: Option<&TokenKind>, word: &[u8]) -> NameTable
-    ensures { result ≡ table_behind_word table (option_map (λ kind. kind.now) last) word.now }
+    ensures { result ≡ table_behind_word table (option_map (λ kind. kind.now) last.entry) word.now }
 {
     if word == "port".as_bytes() {
         NameTable::Services
@@ -105,7 +105,7 @@ fn names_of_number(protocol: Option<u8>) -> IcmpNames
 }
 
 fn table_at_code(table: NameTable, last: Option<&TokenKind>) -> NameTable
-    ensures { result ≡ table_at_code table (option_map (λ kind. kind.now) last) }
+    ensures { result ≡ table_at_code table (option_map (λ kind. kind.now) last.entry) }
 {
     match table {
         NameTable::Messages(IcmpTable::Types(names)) => {
@@ -126,7 +126,7 @@ fn code_table(names: IcmpNames, kind: Option<u8>) -> IcmpTable
 
 /// The protocol that a token says.
 fn protocol_said(last: Option<&TokenKind>) -> Option<u8>
-    ensures { result ≡ number_said protocols (option_map (λ kind. kind.now) last) }
+    ensures { result ≡ number_said protocols (option_map (λ kind. kind.now) last.entry) }
 {
     match last {
         Some(TokenKind::Word(word)) => protocol_number(word.as_slice()),
@@ -137,7 +137,7 @@ fn protocol_said(last: Option<&TokenKind>) -> Option<u8>
 
 /// The type that a token says.
 fn type_said(names: IcmpNames, last: Option<&TokenKind>) -> Option<u8>
-    ensures { result ≡ number_said (types_of names) (option_map (λ kind. kind.now) last) }
+    ensures { result ≡ number_said (types_of names) (option_map (λ kind. kind.now) last.entry) }
 {
     match last {
         Some(TokenKind::Word(word)) => IcmpTable::Types(names).number_named(word.as_slice()),
