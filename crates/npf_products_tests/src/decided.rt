@@ -1,8 +1,8 @@
 // What decides on the packets of the small space.
 use crate::meaning::decider;
-use crate::packets::Packets;
+use crate::packets::{Extent, Packets};
 use anyhow::Result;
-use npf_products::{CellPacket, PacketKind, kinds};
+use npf_products::{CellPacket, kinds};
 use npf_ruleset::Config;
 use npf_treatment::{NO_RULE, RuleEffect, rule_effect};
 use std::alloc::Global;
@@ -20,11 +20,11 @@ pub fn decided_pairs(
     alloc: Global,
     old: &Config,
     new: &Config,
-    space: fn(PacketKind) -> Packets,
+    extent: Extent,
 ) -> Result<Vec<(usize, usize)>> {
     let mut pairs = Vec::new(alloc);
     for kind in &kinds() {
-        add_pairs(old, new, space(*kind), &mut pairs)?;
+        add_pairs(old, new, Packets::new(*kind, extent), &mut pairs)?;
     }
     pairs.sort_unstable();
     Ok(pairs)
@@ -51,7 +51,7 @@ fn add_pairs(
 pub fn deciding(alloc: Global, config: &Config) -> Result<Vec<usize>> {
     let mut numbers = Vec::new(alloc);
     for kind in &kinds() {
-        let packets = Packets::all(*kind);
+        let packets = Packets::new(*kind, Extent::All);
         for number in 0..packets.count() {
             let (decider, _) = decided(config, &packets.packet(&packets.choice(number)));
             if !numbers.contains(&decider) {

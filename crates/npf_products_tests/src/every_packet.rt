@@ -1,7 +1,7 @@
 // Boxes beside a look at every packet of the small space.
 use crate::cells::Cells;
 use crate::meaning::{applies, describes, matches};
-use crate::packets::Packets;
+use crate::packets::{Extent, Packets};
 use crate::probe::{Classes, probes};
 use crate::products::Products;
 use anyhow::{Context, Result};
@@ -33,7 +33,7 @@ pub fn counted(alloc: Global, config: &Config) -> Result<Option<Vec<u64>>> {
 }
 
 fn counted_of_kind(alloc: Global, config: &Config, kind: PacketKind) -> Result<Option<Vec<u64>>> {
-    let packets = Packets::all(kind);
+    let packets = Packets::new(kind, Extent::All);
     let probes = probes(alloc, &packets)?;
     let mut products = Products::new(alloc);
     products.add_all(alloc, config)?;

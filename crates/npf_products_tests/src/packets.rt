@@ -29,6 +29,13 @@ const CODES: [u8; 3] = [0, 1, 255];
 const PROTOCOLS4: [u8; 6] = [47, 58, 2, 0, 51, 255];
 const PROTOCOLS6: [u8; 6] = [47, 1, 2, 50, 59, 255];
 
+/// How many packets of a kind are looked at: all, or those that are enough for what is drawn.
+#[derive(Clone, Copy, Debug, PartialEq, Eq)]
+pub enum Extent {
+    All,
+    Few,
+}
+
 /// The packets of a kind that are looked at, numbered from 0, by how many numbers each dimension has.
 #[derive(Clone, Copy)]
 pub struct Packets {
@@ -37,20 +44,12 @@ pub struct Packets {
 }
 
 impl Packets {
-    /// All of them.
-    pub fn all(kind: PacketKind) -> Packets {
-        Packets {
-            kind,
-            counts: counts(kind, 6, 5, 6),
-        }
-    }
-
-    /// Those that are enough for what is drawn.
-    pub fn few(kind: PacketKind) -> Packets {
-        Packets {
-            kind,
-            counts: counts(kind, 3, 4, 5),
-        }
+    pub fn new(kind: PacketKind, extent: Extent) -> Packets {
+        let counts = match extent {
+            Extent::All => counts(kind, 6, 5, 6),
+            Extent::Few => counts(kind, 3, 4, 5),
+        };
+        Packets { kind, counts }
     }
 
     pub fn count(&self) -> u64 {

@@ -6,7 +6,7 @@ use crate::every_cell::each_has_packet;
 use crate::every_packet::{PLENTY, counted};
 use crate::grid::grid_text;
 use crate::loaded::load;
-use crate::packets::Packets;
+use crate::packets::Extent;
 use crate::reached::reached;
 use anyhow::{Context, Result, anyhow};
 use npf_precedence::in_order;
@@ -84,7 +84,7 @@ fn pair(alloc: Global, old: &Config, new: &Config) -> Result<String> {
     let Some(found) = differing(alloc, old, new, &mut Steps::new(PLENTY))? else {
         return Ok(String::from_str(alloc, "spent")?);
     };
-    let decided = decided_pairs(alloc, old, new, Packets::all)?;
+    let decided = decided_pairs(alloc, old, new, Extent::All)?;
     if decided.iter().any(|pair| !found.contains(pair)) {
         return Ok(String::from_str(alloc, "wrong")?);
     }
@@ -171,7 +171,7 @@ fn drawn(alloc: Global, seed: u32) -> Result<String> {
     let Some(found) = differing(alloc, &old, &new, &mut Steps::new(PLENTY))? else {
         return Err(anyhow!("spent"));
     };
-    let decided = decided_pairs(alloc, &old, &new, Packets::few)?;
+    let decided = decided_pairs(alloc, &old, &new, Extent::Few)?;
     let answer = if found == decided {
         told(alloc, found.as_slice())?
     } else {
