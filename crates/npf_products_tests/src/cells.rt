@@ -1,5 +1,6 @@
 // Boxes of products, and packets of their cells.
-ghost use Rattle.npf_products.specs.Space.{AreBoxesOf, IsCutSpace};
+ghost use Rattle.std.specs.Prelude.{IfOk};
+ghost use Rattle.npf_products_tests.specs.Cells.{AreCells};
 
 use crate::products::Products;
 use anyhow::{Result, anyhow};
@@ -13,40 +14,18 @@ use std::alloc::Global;
 pub struct Cells {
     space: Space,
     pub boxes: Boxes,
-    ghost cut: { IsCutSpace space },
-    ghost told: { AreBoxesOf space boxes },
-}
-
-/// What came of a question.
-#[derive(Clone, Copy)]
-pub enum Answer {
-    Packet(CellPacket),
-    Nothing,
-    /// The steps were spent.
-    Spent,
 }
 
 impl Cells {
-    /// The boxes of these products; none where the steps were spent.
+    /// The boxes of these products.
     pub fn new(
         alloc: Global,
         kind: PacketKind,
         products: &Products<'_>,
         steps: &mut Steps,
-    ) -> Result<Option<Cells>> {
-        match Cells::made(alloc, kind, products, steps) {
-            Ok(cells) => Ok(Some(cells)),
-            Err(Stopped::Spent) => Ok(None),
-            Err(stopped) => Err(stopped.into()),
-        }
-    }
-
-    fn made(
-        alloc: Global,
-        kind: PacketKind,
-        products: &Products<'_>,
-        steps: &mut Steps,
-    ) -> Result<Cells, Stopped> {
+    ) -> Result<Cells, Stopped>
+        ensures { IfOk result AreCells }
+    {
         let tables = products.tables.as_slice();
         let space = Space::new(alloc, kind, tables, products.list.as_slice(), steps)?;
         let boxes = space.boxes(alloc, steps)?;
@@ -54,15 +33,18 @@ impl Cells {
     }
 
     /// A packet of the words' least cell, if they have any that a packet can have.
-    pub fn packet_in(&self, alloc: Global, words: &[u64]) -> Result<Option<CellPacket>> {
-        if words.len() != self.boxes.shape.words() {
-            return Err(anyhow!("no box"));
+    pub fn packet_in(&self, alloc: Global, words: &[u64]) -> Result<Option<CellPacket>, Stopped>
+        requires { AreCells self.now }
+    {
+        let boxes = &self.boxes;
+        if words.len() != boxes.shape.words() {
+            return Ok(None);
         }
-        let whole = self.boxes.get(self.boxes.count - 1);
-        let Some(both) = meet(alloc, &self.boxes.shape, words, whole)? else {
+        let whole = boxes.get(boxes.count - 1);
+        let Some(both) = meet(alloc, &boxes.shape, words, whole)? else {
             return Ok(None);
         };
-        let Some(cell) = least_cell(&self.boxes.shape, both.as_slice()) else {
+        let Some(cell) = least_cell(&boxes.shape, both.as_slice()) else {
             return Ok(None);
         };
         Ok(Some(self.space.packet_of(&cell)))
@@ -76,43 +58,21 @@ impl Cells {
         other: usize,
         before: &[usize],
         steps: &mut Steps,
-    ) -> Result<Answer> {
-        if one >= self.boxes.count || other >= self.boxes.count {
-            return Err(anyhow!("no box"));
+    ) -> Result<Option<CellPacket>, Stopped>
+        requires { AreCells self.now }
+    {
+        let boxes = &self.boxes;
+        if one >= boxes.count || other >= boxes.count {
+            return Ok(None);
         }
-        let (one, other) = (self.boxes.get(one), self.boxes.get(other));
-        let Some(both) = meet(alloc, &self.boxes.shape, one, other)? else {
-            return Ok(Answer::Nothing);
+        let (one, other) = (boxes.get(one), boxes.get(other));
+        let Some(both) = meet(alloc, &boxes.shape, one, other)? else {
+            return Ok(None);
         };
-        match self.searched(alloc, both.as_slice(), before, steps)? {
-            Ok(Some(part)) => Ok(match self.packet_in(alloc, part.as_slice())? {
-                Some(packet) => Answer::Packet(packet),
-                None => return Err(anyhow!("no packet")),
-            }),
-            Ok(None) => Ok(Answer::Nothing),
-            Err(Stopped::Spent) => Ok(Answer::Spent),
-            Err(stopped) => Err(stopped.into()),
-        }
-    }
-
-    fn searched(
-        &self,
-        alloc: Global,
-        words: &[u64],
-        before: &[usize],
-        steps: &mut Steps,
-    ) -> Result<Result<Option<Vec<u64>>, Stopped>> {
-        let mut numbers = Vec::new(alloc);
-        for number in before {
-            if *number >= self.boxes.count {
-                return Err(anyhow!("no box"));
-            }
-            numbers.push(*number)?;
-        }
-        if words.len() != self.boxes.shape.words() {
-            return Err(anyhow!("no box"));
-        }
-        Ok(outside(alloc, &self.boxes, words, numbers.as_slice(), steps))
+        let Some(part) = searched(alloc, boxes, both.as_slice(), before, steps)? else {
+            return Ok(None);
+        };
+        self.packet_in(alloc, part.as_slice())
     }
 
     /// The words of the box that has this cell alone.
@@ -158,6 +118,26 @@ impl Cells {
         }
         Ok(classes)
     }
+}
+
+/// A part of the words outside the boxes of these numbers, as far as there are any.
+fn searched(
+    alloc: Global,
+    boxes: &Boxes,
+    words: &[u64],
+    before: &[usize],
+    steps: &mut Steps,
+) -> Result<Option<Vec<u64>>, Stopped> {
+    let mut numbers = Vec::new(alloc);
+    for number in before {
+        if *number < boxes.count {
+            numbers.push(*number)?;
+        }
+    }
+    if words.len() != boxes.shape.words() {
+        return Ok(None);
+    }
+    outside(alloc, boxes, words, numbers.as_slice(), steps)
 }
 
 fn has_bit(words: &[u64], at: usize, bit: usize) -> bool {

@@ -1,40 +1,37 @@
 // Where two configurations differ, by a search among their boxes.
-use crate::cells::{Answer, Cells};
+ghost use Rattle.npf_products_tests.specs.Cells.{AreCells};
+
+use crate::cells::Cells;
 use crate::decided::decided;
 use crate::products::{Deciders, Products};
-use anyhow::{Result, anyhow};
 use npf_products::{CellPacket, kinds};
 use npf_ruleset::Config;
-use npf_steps::Steps;
+use npf_steps::{Steps, Stopped};
 use std::alloc::Global;
 
-/// The rules of both with different effects, by number, that decide on one packet, in order; none where the steps were spent. Each pair was
-/// shown by a packet on which the two decide.
+/// The rules of both with different effects, by number, that decide on one packet, in order. A pair is what decides on the packet that was
+/// found for it.
 pub fn differing(
     alloc: Global,
     old: &Config,
     new: &Config,
     steps: &mut Steps,
-) -> Result<Option<Vec<(usize, usize)>>> {
+) -> Result<Vec<(usize, usize)>, Stopped> {
     let mut products = Products::new(alloc);
     let of_old = products.add_deciders(alloc, old)?;
     let of_new = products.add_deciders(alloc, new)?;
     let mut pairs = Vec::new(alloc);
     for kind in &kinds() {
-        let Some(cells) = Cells::new(alloc, *kind, &products, steps)? else {
-            return Ok(None);
-        };
+        let cells = Cells::new(alloc, *kind, &products, steps)?;
         let search = Search {
             cells: &cells,
             old: &of_old,
             new: &of_new,
         };
-        if !search.add_pairs(alloc, (old, new), &mut pairs, steps)? {
-            return Ok(None);
-        }
+        search.add_pairs(alloc, (old, new), &mut pairs, steps)?;
     }
     pairs.sort_unstable();
-    Ok(Some(pairs))
+    Ok(pairs)
 }
 
 /// The deciders of both among the boxes of a kind.
@@ -46,34 +43,48 @@ struct Search<'a> {
 }
 
 impl Search<'_> {
-    /// Adds the pairs that weren't found yet; false where the steps were spent.
+    /// Adds the pairs that weren't found yet.
     fn add_pairs(
         &self,
         alloc: Global,
         configs: (&Config, &Config),
         pairs: &mut Vec<(usize, usize)>,
         steps: &mut Steps,
-    ) -> Result<bool> {
-        for (i, (one, effect)) in self.old.list.iter().enumerate() {
-            for (j, (other, changed)) in self.new.list.iter().enumerate() {
-                if effect == changed || pairs.contains(&(*one, *other)) {
-                    continue;
-                }
-                match self.ask(alloc, i, j, steps)? {
-                    Answer::Nothing => {}
-                    Answer::Spent => return Ok(false),
-                    Answer::Packet(packet) => {
-                        check(configs, (*one, *other), &packet)?;
-                        pairs.push((*one, *other))?;
+    ) -> Result<(), Stopped>
+        requires { AreCells self.now.cells.now }
+    {
+        for i in 0..self.old.list.len() {
+            for j in 0..self.new.list.len() {
+                if self.is_asked(i, j, pairs.as_slice()) {
+                    if let Some(packet) = self.ask(alloc, i, j, steps)? {
+                        pairs.push(decided_by_both(configs, &packet))?;
                     }
                 }
             }
         }
-        Ok(true)
+        Ok(())
+    }
+
+    /// Whether the effects of the deciders at these places differ, and they aren't among the pairs.
+    fn is_asked(&self, i: usize, j: usize, pairs: &[(usize, usize)]) -> bool {
+        match (self.old.list.get(i), self.new.list.get(j)) {
+            (Some((one, effect)), Some((other, changed))) => {
+                effect != changed && !pairs.contains(&(*one, *other))
+            }
+            _ => false,
+        }
     }
 
     /// A packet on which the deciders at these places decide.
-    fn ask(&self, alloc: Global, i: usize, j: usize, steps: &mut Steps) -> Result<Answer> {
+    fn ask(
+        &self,
+        alloc: Global,
+        i: usize,
+        j: usize,
+        steps: &mut Steps,
+    ) -> Result<Option<CellPacket>, Stopped>
+        requires { AreCells self.now.cells.now }
+    {
         let boxes = self.cells.boxes.count;
         let mut before = Vec::new(alloc);
         for at in 0..i {
@@ -83,17 +94,15 @@ impl Search<'_> {
             before.push(self.new.number(at, boxes))?;
         }
         let (one, other) = (self.old.number(i, boxes), self.new.number(j, boxes));
-        self.cells.decided_by(alloc, one, other, before.as_slice(), steps)
+        self.cells
+            .decided_by(alloc, one, other, before.as_slice(), steps)
     }
 }
 
-/// That the two decide on the packet.
-fn check(configs: (&Config, &Config), pair: (usize, usize), packet: &CellPacket) -> Result<()> {
+/// The numbers of the rules that decide on the packet.
+fn decided_by_both(configs: (&Config, &Config), packet: &CellPacket) -> (usize, usize) {
     let (old, new) = configs;
     let (one, _) = decided(old, packet);
     let (other, _) = decided(new, packet);
-    if (one, other) != pair {
-        return Err(anyhow!("others decide on {packet:?}"));
-    }
-    Ok(())
+    (one, other)
 }

@@ -2,7 +2,7 @@
 use crate::cells::Cells;
 use crate::every_packet::{PLENTY, agrees};
 use crate::products::Products;
-use anyhow::{Context, Result};
+use anyhow::Result;
 use npf_products::{PacketKind, kinds};
 use npf_ruleset::Config;
 use npf_steps::Steps;
@@ -21,7 +21,7 @@ pub fn each_has_packet(alloc: Global, config: &Config) -> Result<bool> {
 fn each_of_kind(alloc: Global, config: &Config, kind: PacketKind) -> Result<bool> {
     let mut products = Products::new(alloc);
     products.add_all(alloc, config)?;
-    let cells = Cells::new(alloc, kind, &products, &mut Steps::new(PLENTY))?.context("no steps")?;
+    let cells = Cells::new(alloc, kind, &products, &mut Steps::new(PLENTY))?;
     let whole = Whole::new(alloc, &cells)?;
     let mut counts = vec![in alloc; 0u64; products.list.len()]?;
     for number in 0..whole.count() {

@@ -4,7 +4,7 @@ use crate::meaning::{applies, describes, matches};
 use crate::packets::{Extent, Packets};
 use crate::probe::{Classes, probes};
 use crate::products::Products;
-use anyhow::{Context, Result};
+use anyhow::Result;
 use npf_products::{CellPacket, PacketKind, Subject, kinds};
 use npf_ruleset::Config;
 use npf_steps::Steps;
@@ -39,7 +39,7 @@ fn counted_of_kind(alloc: Global, config: &Config, kind: PacketKind) -> Result<O
     products.add_all(alloc, config)?;
     let count = products.list.len();
     products.add_rules(probes.as_slice())?;
-    let cells = Cells::new(alloc, kind, &products, &mut Steps::new(PLENTY))?.context("no steps")?;
+    let cells = Cells::new(alloc, kind, &products, &mut Steps::new(PLENTY))?;
     let classes = Classes::new(alloc, &cells, &packets, count)?;
     let mut counts = vec![in alloc; 0u64; count]?;
     for number in 0..packets.count() {

@@ -1,11 +1,10 @@
 // Rules and maps of configurations as products.
-use anyhow::Result;
 use npf_model::Rule;
 use npf_precedence::in_order;
 use npf_products::{Product, Subject, TableSpan};
 use npf_ruleset::Config;
 use npf_treatment::{NO_RULE, RuleEffect, rule_effect};
-use npf_types::{Dir, List, Prefix};
+use npf_types::{Dir, List, NoMemory, Prefix};
 use std::alloc::Global;
 
 /// Products, and the tables of the configurations that they are of.
@@ -44,7 +43,7 @@ impl<'a> Products<'a> {
     }
 
     /// Puts a configuration's tables behind the others.
-    fn add_tables(&mut self, alloc: Global, config: &Config) -> Result<TableSpan> {
+    fn add_tables(&mut self, alloc: Global, config: &Config) -> Result<TableSpan, NoMemory> {
         let tables = TableSpan {
             first: self.tables.len(),
             count: config.tables().len(),
@@ -56,7 +55,7 @@ impl<'a> Products<'a> {
     }
 
     /// Puts a configuration's rules behind the others.
-    pub fn add_deciders(&mut self, alloc: Global, config: &'a Config) -> Result<Deciders> {
+    pub fn add_deciders(&mut self, alloc: Global, config: &'a Config) -> Result<Deciders, NoMemory> {
         let tables = self.add_tables(alloc, config)?;
         let first = self.list.len();
         let mut list = Vec::new(alloc);
@@ -74,7 +73,7 @@ impl<'a> Products<'a> {
     }
 
     /// Puts all of a configuration behind the others: its rules, each map outwards and inwards, and each rule by itself.
-    pub fn add_all(&mut self, alloc: Global, config: &'a Config) -> Result<()> {
+    pub fn add_all(&mut self, alloc: Global, config: &'a Config) -> Result<(), NoMemory> {
         let tables = self.add_deciders(alloc, config)?.tables;
         for map in config.model().maps.as_slice() {
             self.add(Subject::Map(map, Dir::Out), tables)?;
@@ -87,7 +86,7 @@ impl<'a> Products<'a> {
     }
 
     /// Puts rules behind the others, of which none asks for a table.
-    pub fn add_rules(&mut self, rules: &'a [Rule]) -> Result<()> {
+    pub fn add_rules(&mut self, rules: &'a [Rule]) -> Result<(), NoMemory> {
         let tables = TableSpan { first: 0, count: 0 };
         for rule in rules {
             self.add(Subject::Rule(rule), tables)?;
@@ -95,7 +94,7 @@ impl<'a> Products<'a> {
         Ok(())
     }
 
-    fn add(&mut self, subject: Subject<'a>, tables: TableSpan) -> Result<()> {
+    fn add(&mut self, subject: Subject<'a>, tables: TableSpan) -> Result<(), NoMemory> {
         self.list.push(Product { subject, tables })?;
         Ok(())
     }

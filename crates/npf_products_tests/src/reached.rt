@@ -1,31 +1,29 @@
 // Which rules some packet reaches, by a search among their boxes.
-use crate::cells::{Answer, Cells};
+ghost use Rattle.npf_products_tests.specs.Cells.{AreCells};
+
+use crate::cells::Cells;
 use crate::decided::decided;
 use crate::products::{Deciders, Products};
-use anyhow::{Result, anyhow};
 use npf_products::kinds;
 use npf_ruleset::Config;
-use npf_steps::Steps;
+use npf_steps::{Steps, Stopped};
 use std::alloc::Global;
 
-/// The rules, by number, that decide on some packet, in order, 0 among them where none decides on one; none where the steps were spent.
-pub fn reached(alloc: Global, config: &Config, steps: &mut Steps) -> Result<Option<Vec<usize>>> {
+/// The rules, by number, that decide on some packet, in order, 0 among them where none decides on one. A number is that of what decides on the
+/// packet that was found.
+pub fn reached(alloc: Global, config: &Config, steps: &mut Steps) -> Result<Vec<usize>, Stopped> {
     let mut products = Products::new(alloc);
     let deciders = products.add_deciders(alloc, config)?;
     let mut numbers = Vec::new(alloc);
     for kind in &kinds() {
-        let Some(cells) = Cells::new(alloc, *kind, &products, steps)? else {
-            return Ok(None);
-        };
-        if !add_reached(alloc, config, &cells, &deciders, &mut numbers, steps)? {
-            return Ok(None);
-        }
+        let cells = Cells::new(alloc, *kind, &products, steps)?;
+        add_reached(alloc, config, &cells, &deciders, &mut numbers, steps)?;
     }
     numbers.sort_unstable();
-    Ok(Some(numbers))
+    Ok(numbers)
 }
 
-/// Adds those that weren't reached yet; false where the steps were spent.
+/// Adds those that weren't reached yet.
 fn add_reached(
     alloc: Global,
     config: &Config,
@@ -33,23 +31,19 @@ fn add_reached(
     deciders: &Deciders,
     numbers: &mut Vec<usize>,
     steps: &mut Steps,
-) -> Result<bool> {
+) -> Result<(), Stopped>
+    requires { AreCells cells.now }
+{
     let mut before = Vec::new(alloc);
     for (at, (decider, _)) in deciders.list.iter().enumerate() {
         let number = deciders.number(at, cells.boxes.count);
         if !numbers.contains(decider) {
-            match cells.decided_by(alloc, number, number, before.as_slice(), steps)? {
-                Answer::Nothing => {}
-                Answer::Spent => return Ok(false),
-                Answer::Packet(packet) => {
-                    if decided(config, &packet).0 != *decider {
-                        return Err(anyhow!("another decides on {packet:?}"));
-                    }
-                    numbers.push(*decider)?;
-                }
+            if let Some(packet) = cells.decided_by(alloc, number, number, before.as_slice(), steps)? {
+                let (reached, _) = decided(config, &packet);
+                numbers.push(reached)?;
             }
         }
         before.push(number)?;
     }
-    Ok(true)
+    Ok(())
 }

@@ -11,7 +11,7 @@ use crate::reached::reached;
 use anyhow::{Context, Result, anyhow};
 use npf_precedence::in_order;
 use npf_ruleset::Config;
-use npf_steps::Steps;
+use npf_steps::{Steps, Stopped};
 use std::alloc::Global;
 use std::fmt::Write;
 
@@ -60,9 +60,7 @@ fn rules(alloc: Global, config: &Config) -> Result<String> {
 
 /// The numbers of the rules that no packet reaches.
 fn dead(alloc: Global, config: &Config) -> Result<String> {
-    let Some(reached) = reached(alloc, config, &mut Steps::new(PLENTY))? else {
-        return Ok(String::from_str(alloc, "spent")?);
-    };
+    let reached = reached(alloc, config, &mut Steps::new(PLENTY))?;
     if deciding(alloc, config)?.iter().any(|number| !reached.contains(number)) {
         return Ok(String::from_str(alloc, "wrong")?);
     }
@@ -81,9 +79,7 @@ fn dead(alloc: Global, config: &Config) -> Result<String> {
 
 /// The pairs that differ. Those that differ on a packet of the small space are among them.
 fn pair(alloc: Global, old: &Config, new: &Config) -> Result<String> {
-    let Some(found) = differing(alloc, old, new, &mut Steps::new(PLENTY))? else {
-        return Ok(String::from_str(alloc, "spent")?);
-    };
+    let found = differing(alloc, old, new, &mut Steps::new(PLENTY))?;
     let decided = decided_pairs(alloc, old, new, Extent::All)?;
     if decided.iter().any(|pair| !found.contains(pair)) {
         return Ok(String::from_str(alloc, "wrong")?);
@@ -107,14 +103,14 @@ fn told(alloc: Global, pairs: &[(usize, usize)]) -> Result<String> {
 
 /// Whether ever more steps, each twice as many, are spent until they are enough for the right answer.
 fn limits(alloc: Global, old: &Config, new: &Config) -> Result<String> {
-    let Some(right) = differing(alloc, old, new, &mut Steps::new(PLENTY))? else {
-        return Ok(String::from_str(alloc, "spent")?);
-    };
+    let right = differing(alloc, old, new, &mut Steps::new(PLENTY))?;
     let mut spent = 0u32;
     for power in 0..27u32 {
-        match differing(alloc, old, new, &mut Steps::new(1u64.checked_shl(power).unwrap_or(0)))? {
-            None => spent = spent.saturating_add(1),
-            Some(found) => {
+        let most = 1u64.checked_shl(power).unwrap_or(0);
+        match differing(alloc, old, new, &mut Steps::new(most)) {
+            Err(Stopped::Spent) => spent = spent.saturating_add(1),
+            Err(stopped) => return Err(stopped.into()),
+            Ok(found) => {
                 if found != right || spent == 0 {
                     return Ok(String::from_str(alloc, "wrong")?);
                 }
@@ -132,10 +128,11 @@ fn grid(alloc: Global, rest: &str) -> Result<String> {
     };
     let config = load(alloc, grid_text(alloc, count.parse()?, left_out.parse()?)?.as_str())?;
     let last = in_order(alloc, config.model().groups.as_slice())?.len();
-    let answer = match reached(alloc, &config, &mut Steps::new(steps.parse()?))? {
-        None => "spent",
-        Some(reached) if reached.contains(&last) => "reached",
-        Some(_) => "dead",
+    let answer = match reached(alloc, &config, &mut Steps::new(steps.parse()?)) {
+        Err(Stopped::Spent) => "spent",
+        Err(stopped) => return Err(stopped.into()),
+        Ok(reached) if reached.contains(&last) => "reached",
+        Ok(_) => "dead",
     };
     Ok(String::from_str(alloc, answer)?)
 }
@@ -168,9 +165,7 @@ fn drawn(alloc: Global, seed: u32) -> Result<String> {
     }
     let new_text = drawn.text(alloc)?;
     let (old, new) = (load(alloc, &old_text)?, load(alloc, &new_text)?);
-    let Some(found) = differing(alloc, &old, &new, &mut Steps::new(PLENTY))? else {
-        return Err(anyhow!("spent"));
-    };
+    let found = differing(alloc, &old, &new, &mut Steps::new(PLENTY))?;
     let decided = decided_pairs(alloc, &old, &new, Extent::Few)?;
     let answer = if found == decided {
         told(alloc, found.as_slice())?
