@@ -92,9 +92,11 @@ impl Cells {
     }
 
     fn has_cell(&self, words: &[u64], cell: &[usize; 6]) -> bool {
-        cell.iter()
-            .zip(&self.boxes.shape.starts)
-            .all(|(class, start)| has_bit(words, start.saturating_add(*class / 64), *class % 64))
+        cell.iter().zip(&self.boxes.shape.starts).all(|(class, start)| has_bit(
+            words,
+            start.saturating_add(*class / 64),
+            *class % 64,
+        ))
     }
 
     /// The classes of a dimension that the box of this number has.

@@ -4,9 +4,13 @@ use std::alloc::Global;
 use std::fmt::Write;
 
 const DECISIONS: [&str; 5] = ["pass", "pass stateful", "block", "block return-rst", "pass"];
+
 const DIRECTIONS: [&str; 4] = ["", " in", " out", ""];
+
 const INTERFACES: [&str; 5] = ["", "", "", " on wm0", " on wm1"];
+
 const BOUNDS: [&str; 5] = ["", " in", " on wm0", " in on wm0", " out on wm1"];
+
 const FAMILIES: [&str; 4] = ["", "", " family inet4", " family inet6"];
 // Protocols whose packets have ports, or may have them, and then others.
 const PROTOCOLS: [&str; 12] = [
@@ -23,7 +27,9 @@ const PROTOCOLS: [&str; 12] = [
     " proto { gre, 58 }",
     " proto 2",
 ];
+
 const WITH_PORTS: u32 = 7;
+
 const PORTS: [&str; 9] = [
     "",
     "",
@@ -45,6 +51,7 @@ const ANY: [&str; 7] = [
     "{ 10.0.0.0, 2001:db8::1 }",
     "! { 10.0.0.1, 2001:db8::1 }",
 ];
+
 const INET4: [&str; 9] = [
     "any",
     "any",
@@ -56,6 +63,7 @@ const INET4: [&str; 9] = [
     "! 10.0.0.1",
     "! { 10.0.0.0, <one> }",
 ];
+
 const INET6: [&str; 9] = [
     "any",
     "any",
@@ -108,7 +116,9 @@ impl Draws {
         let number = self.below(12);
         let protocol = PROTOCOLS.get(number as usize).copied().unwrap_or("");
         let (from, to) = (self.addresses(family), self.addresses(family));
-        let mut text = format!(in alloc; "{decision}{dir}{last}{on}{family}{protocol} from {from}")?;
+        let mut text = format!(in alloc;
+            "{decision}{dir}{last}{on}{family}{protocol} from {from}"
+        )?;
         if number < WITH_PORTS {
             let (first, second) = (self.one_of(&PORTS), self.one_of(&PORTS));
             write!(text, "{first} to {to}{second}")?;

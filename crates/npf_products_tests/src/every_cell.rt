@@ -30,7 +30,14 @@ fn each_of_kind(alloc: Global, config: &Config, kind: PacketKind) -> Result<bool
         let Some(packet) = cells.packet_in(alloc, words.as_slice())? else {
             return Ok(false);
         };
-        if !agrees(config, &products, &cells, &cell, &packet, counts.as_mut_slice()) {
+        if !agrees(
+            config,
+            &products,
+            &cells,
+            &cell,
+            &packet,
+            counts.as_mut_slice(),
+        ) {
             return Ok(false);
         }
     }

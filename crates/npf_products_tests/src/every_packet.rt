@@ -45,7 +45,14 @@ fn counted_of_kind(alloc: Global, config: &Config, kind: PacketKind) -> Result<O
     for number in 0..packets.count() {
         let choice = packets.choice(number);
         let packet = packets.packet(&choice);
-        if !agrees(config, &products, &cells, &classes.cell(&choice), &packet, &mut counts) {
+        if !agrees(
+            config,
+            &products,
+            &cells,
+            &classes.cell(&choice),
+            &packet,
+            &mut counts,
+        ) {
             return Ok(None);
         }
     }

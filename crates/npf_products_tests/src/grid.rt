@@ -15,7 +15,10 @@ pub fn grid_text(alloc: Global, count: u32, left_out: u32) -> Result<String> {
         // 7 has no divisor in common with the counts of the rows, so that this is each cell once, in no order.
         let mixed = cell.wrapping_mul(7) % cells.max(1);
         let (from, to, port) = (mixed % side, mixed / side % side, mixed / side / side);
-        write!(text, "block final proto tcp from 10.0.0.{from} to 10.0.0.{to} port {port}; ")?;
+        write!(
+            text,
+            "block final proto tcp from 10.0.0.{from} to 10.0.0.{to} port {port}; "
+        )?;
     }
     let last = side.saturating_sub(1);
     write!(text, "pass final proto tcp from ")?;

@@ -30,8 +30,9 @@ pub fn load(alloc: Global, line: &str) -> Result<Config> {
     for (name, text) in &FILES {
         files.put_file(name, text.as_bytes())?;
     }
-    npf_config::load(alloc, text.as_slice(), &interfaces(alloc)?, &mut files)
-        .map_err(|fault| anyhow!("{fault:?}"))
+    npf_config::load(alloc, text.as_slice(), &interfaces(alloc)?, &mut files).map_err(
+        |fault| anyhow!("{fault:?}"),
+    )
 }
 
 fn interfaces(alloc: Global) -> Result<Ifaces> {

@@ -71,7 +71,8 @@ pub fn applies(config: &Config, map: &Map, dir: Dir, packet: &CellPacket) -> boo
         }
         && match dir {
             Dir::Out => {
-                map.arrow != Arrow::ToInside && is_on_side(&map.inside, facts.src, source(&facts.l4))
+                map.arrow != Arrow::ToInside
+                    && is_on_side(&map.inside, facts.src, source(&facts.l4))
             }
             Dir::In => {
                 map.arrow != Arrow::ToOutside
@@ -120,7 +121,11 @@ fn has_flags(rule: &Rule, l4: &L4) -> bool {
         (Some((wanted, mask)), L4::Tcp { seg, .. }) => seg.flags & mask == wanted,
         (Some(_), _) => false,
         (None, L4::Tcp { seg, .. }) => {
-            !opens || seg.flags & 2 != 0 && seg.flags & 1 == 0 && seg.flags & 4 == 0 && seg.flags & 16 == 0
+            !opens
+                || seg.flags & 2 != 0
+                    && seg.flags & 1 == 0
+                    && seg.flags & 4 == 0
+                    && seg.flags & 16 == 0
         }
         (None, _) => true,
     }

@@ -11,6 +11,7 @@ const INET4: [u32; 6] = [
     0x0a00_0004,
     u32::MAX,
 ];
+
 const INET6: [u128; 6] = [
     0x2001_0db8_0000_0000_0000_0000_0000_0000,
     0x2001_0db8_0000_0000_0000_0000_0000_0001,
@@ -23,10 +24,13 @@ const INET6: [u128; 6] = [
 const PORTS: [u16; 5] = [79, 80, 81, 65535, 0];
 // None, S, FS, A, SA, which are those of the smaller space, and all.
 const CONTROL: [u8; 6] = [0, 2, 3, 16, 18, 255];
+
 const TYPES: [u8; 3] = [0, 8, 255];
+
 const CODES: [u8; 3] = [0, 1, 255];
 // What isn't looked into: `ipv6-icmp` over IPv4 and `icmp` over IPv6 aren't.
 const PROTOCOLS4: [u8; 6] = [47, 58, 2, 0, 51, 255];
+
 const PROTOCOLS6: [u8; 6] = [47, 1, 2, 50, 59, 255];
 
 /// How many packets of a kind are looked at: all, or those that are enough for what is drawn.

@@ -4,7 +4,7 @@ use crate::packets::Packets;
 use anyhow::{Context, Result, anyhow};
 use npf_model::{AddrItem, Ends, OnIf, Rule, StateOpt};
 use npf_products::CellPacket;
-use npf_types::{Addr, Decision, IfId, L4, List, Name, Prefix};
+use npf_types::{Addr, Decision, Facts, IfId, L4, List, Name, Prefix};
 use std::alloc::Global;
 
 /// For each number of each dimension, dimension by dimension, a rule that asks for it alone; for a place without an interface of the run, one
@@ -34,29 +34,44 @@ fn probe(alloc: Global, dimension: usize, packet: &CellPacket) -> Result<Rule> {
         }
         1 => rule.from.addrs = Some(one_item(alloc, facts.src)?),
         2 => rule.to.addrs = Some(one_item(alloc, facts.dst)?),
-        3 => match facts.l4 {
-            L4::Tcp { sport, .. } | L4::Udp { sport, .. } => {
-                rule.from.ports = Some(one_port(alloc, sport)?);
-            }
-            L4::Icmp { kind, .. } | L4::Icmp6 { kind, .. } => rule.icmp = Some((kind, None)),
-            L4::Other => rule.protos = List::of_vec(vec![in alloc; facts.proto]?),
-        },
-        4 => match facts.l4 {
-            L4::Tcp { dport, .. } | L4::Udp { dport, .. } => {
-                rule.to.ports = Some(one_port(alloc, dport)?);
-            }
-            L4::Icmp { kind, code, .. } | L4::Icmp6 { kind, code, .. } => {
-                rule.icmp = Some((kind, Some(code)));
-            }
-            L4::Other => {}
-        },
-        _ => {
-            if let L4::Tcp { seg, .. } = facts.l4 {
-                rule.flags = Some((seg.flags, 255));
-            }
-        }
+        3 => ask_first(alloc, &mut rule, facts)?,
+        4 => ask_second(alloc, &mut rule, facts.l4)?,
+        _ => ask_control(&mut rule, facts.l4),
     }
     Ok(rule)
+}
+
+/// Asks for the source port, the type, or the protocol of what isn't looked into.
+fn ask_first(alloc: Global, rule: &mut Rule, facts: &Facts) -> Result<()> {
+    match facts.l4 {
+        L4::Tcp { sport, .. } | L4::Udp { sport, .. } => {
+            rule.from.ports = Some(one_port(alloc, sport)?);
+        }
+        L4::Icmp { kind, .. } | L4::Icmp6 { kind, .. } => rule.icmp = Some((kind, None)),
+        L4::Other => rule.protos = List::of_vec(vec![in alloc; facts.proto]?),
+    }
+    Ok(())
+}
+
+/// Asks for the destination port, or the code with the type.
+fn ask_second(alloc: Global, rule: &mut Rule, l4: L4) -> Result<()> {
+    match l4 {
+        L4::Tcp { dport, .. } | L4::Udp { dport, .. } => {
+            rule.to.ports = Some(one_port(alloc, dport)?);
+        }
+        L4::Icmp { kind, code, .. } | L4::Icmp6 { kind, code, .. } => {
+            rule.icmp = Some((kind, Some(code)));
+        }
+        L4::Other => {}
+    }
+    Ok(())
+}
+
+/// Asks for the control bits of a segment.
+fn ask_control(rule: &mut Rule, l4: L4) {
+    if let L4::Tcp { seg, .. } = l4 {
+        rule.flags = Some((seg.flags, 255));
+    }
 }
 
 /// A rule that asks for nothing.
@@ -151,7 +166,10 @@ fn own_class(set: &[usize], sets: &[Vec<usize>]) -> Option<usize> {
     }
     let mut own = None;
     for class in set {
-        if !sets.iter().any(|other| other.as_slice() == [*class].as_slice()) {
+        if !sets
+            .iter()
+            .any(|other| other.as_slice() == [*class].as_slice())
+        {
             if own.is_some() {
                 return None;
             }

@@ -55,7 +55,11 @@ impl<'a> Products<'a> {
     }
 
     /// Puts a configuration's rules behind the others.
-    pub fn add_deciders(&mut self, alloc: Global, config: &'a Config) -> Result<Deciders, NoMemory> {
+    pub fn add_deciders(
+        &mut self,
+        alloc: Global,
+        config: &'a Config,
+    ) -> Result<Deciders, NoMemory> {
         let tables = self.add_tables(alloc, config)?;
         let first = self.list.len();
         let mut list = Vec::new(alloc);

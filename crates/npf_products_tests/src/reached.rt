@@ -38,7 +38,13 @@ fn add_reached(
     for (at, (decider, _)) in deciders.list.iter().enumerate() {
         let number = deciders.number(at, cells.boxes.count);
         if !numbers.contains(decider) {
-            if let Some(packet) = cells.decided_by(alloc, number, number, before.as_slice(), steps)? {
+            if let Some(packet) = cells.decided_by(
+                alloc,
+                number,
+                number,
+                before.as_slice(),
+                steps,
+            )? {
                 let (reached, _) = decided(config, &packet);
                 numbers.push(reached)?;
             }

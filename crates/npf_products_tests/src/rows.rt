@@ -61,7 +61,10 @@ fn rules(alloc: Global, config: &Config) -> Result<String> {
 /// The numbers of the rules that no packet reaches.
 fn dead(alloc: Global, config: &Config) -> Result<String> {
     let reached = reached(alloc, config, &mut Steps::new(PLENTY))?;
-    if deciding(alloc, config)?.iter().any(|number| !reached.contains(number)) {
+    if deciding(alloc, config)?
+        .iter()
+        .any(|number| !reached.contains(number))
+    {
         return Ok(String::from_str(alloc, "wrong")?);
     }
     let mut text = String::new(alloc);
@@ -126,7 +129,10 @@ fn grid(alloc: Global, rest: &str) -> Result<String> {
     let [count, left_out, steps] = words.as_slice() else {
         return Err(anyhow!("not three numbers"));
     };
-    let config = load(alloc, grid_text(alloc, count.parse()?, left_out.parse()?)?.as_str())?;
+    let config = load(
+        alloc,
+        grid_text(alloc, count.parse()?, left_out.parse()?)?.as_str(),
+    )?;
     let last = in_order(alloc, config.model().groups.as_slice())?.len();
     let answer = match reached(alloc, &config, &mut Steps::new(steps.parse()?)) {
         Err(Stopped::Spent) => "spent",
