@@ -80,10 +80,17 @@ pub fn settings<'a>(alloc: Global) -> Result<Vec<&'a [u8]>, NoMemory>
     ensures { IfOk result (λ names. map (λ name. name.now) names.items ≡ setting_names) }
 {
     let mut names = parameter_names(alloc)?;
+    add_idle(&mut names)?;
+    Ok(names)
+}
+
+fn add_idle<'a>(names: &mut Vec<&'a [u8]>) -> Result<(), NoMemory>
+    ensures { OnOk result (map (λ name. name.now) names.new.items ≡ map (λ name. name.now) names.old.items ++ idle_settings) }
+{
     for name in &IDLE_SETTINGS {
         names.push(name.as_bytes())?;
     }
-    Ok(names)
+    Ok(())
 }
 
 fn parameter_names<'a>(alloc: Global) -> Result<Vec<&'a [u8]>, NoMemory>
