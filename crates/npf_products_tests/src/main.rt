@@ -1,9 +1,9 @@
 // What no clause says of products: that their definitions mean what npf.conf(5) says, packet by packet, and that a search among their boxes
 // tells where two configurations differ, as a look at every packet of a small space does.
 //
-// Standard input has a row a line; in a configuration `\n` ends a line of it. Each row is printed with its answer. What a row of written
-// configurations wants was found by hand; what a drawn one wants is what a plain reading finds of each packet, and the program says `wrong`
-// where the boxes say otherwise.
+// Standard input has a row a line; in a configuration `\n` ends a line of it. Each is printed with its answer, of drawn ones their number.
+// What a written configuration wants was found by hand, and what a drawn one wants by another program that reads it word by word. The program
+// says `wrong` where the boxes don't agree with a plain reading of every packet.
 #![tactic(auto)]
 
 mod cells;

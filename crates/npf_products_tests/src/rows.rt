@@ -159,8 +159,8 @@ fn drawn_rows(alloc: Global, rest: &str) -> Result<String> {
     Ok(text)
 }
 
-/// A pair of which the second is the first after an edit or two, or is drawn too: exactly those rules differ that do on a packet of the
-/// smaller space.
+/// A pair of which the second is the first after an edit or two: exactly those rules differ that do on a packet of the smaller space. A wrong
+/// answer has the pair.
 fn drawn(alloc: Global, seed: u32) -> Result<String> {
     let mut draws = Draws::new(seed);
     let mut drawn = Drawn::new(alloc, &mut draws)?;
@@ -172,11 +172,10 @@ fn drawn(alloc: Global, seed: u32) -> Result<String> {
     let new_text = drawn.text(alloc)?;
     let (old, new) = (load(alloc, &old_text)?, load(alloc, &new_text)?);
     let found = differing(alloc, &old, &new, &mut Steps::new(PLENTY))?;
-    let decided = decided_pairs(alloc, &old, &new, Extent::Few)?;
-    let answer = if found == decided {
-        told(alloc, found.as_slice())?
+    let answer = told(alloc, found.as_slice())?;
+    if found == decided_pairs(alloc, &old, &new, Extent::Few)? {
+        Ok(answer)
     } else {
-        String::from_str(alloc, "wrong")?
-    };
-    Ok(format!(in alloc; "{old_text} | {new_text} -> {answer}")?)
+        Ok(format!(in alloc; "wrong {answer}: {old_text} | {new_text}")?)
+    }
 }
