@@ -62,7 +62,8 @@ module _ (words : List (List ℕ)) (before after : Moment) (A : Type 0) (ComesTo
       by _ (MeetsFault.in_saving {run = run} {plan = plan} {outputs = outputs} {outcomes = outcomes} fails passed) at =
           never (is.front (reported_front words before after run plan fails.said outputs outcomes fails.reports))
       by _ (MeetsFault.in_memory put kept) at = inr at
-      by other (MeetsFault.in_explaining why) at = same other (is.loads why.said refl (explained_loads before.files after.files (given_text why.load.ifaces) why.load.conf.now other why.text why.explains)) at
+      by other (MeetsFault.in_explaining why) at =
+          same other (is.loads why.said refl (explained_loads before.files after.files (given_text why.load.ifaces) why.load.conf.now other why.text why.explains)) at
       by _ (MeetsFault.in_saying why) at = inr at
 
     -- no fault can be told, unless the table has no node for a connection that a run loads

@@ -21,7 +21,7 @@ use Rattle.npf_ctl_words.specs.declared.command.RunWords.{RunWords}
 use Rattle.npf_ctl_words.specs.CommandLine.{SaysCommand, given_text, is_command_line}
 use Rattle.npf_ctl.specs.Commands.{loaded_by, names_of_run}
 use Rattle.npf_ctl.specs.Generated.{HoldsWorkload, PreparesOf}
-use Rattle.npf_ctl.specs.Reasons.{Explains, is_explained}
+use Rattle.npf_ctl.specs.Reasons.{ExplainsFirst, is_explained}
 use Rattle.npf_ctl.specs.Run.{Moment, IsReported, WritesPassed}
 use Rattle.npf_ctl.specs.Starting.{StartsRun}
 use Rattle.npf_ctl.specs.Texts.{TextOf}
@@ -59,7 +59,7 @@ module _ (words : List (List ℕ)) (before after : Moment) where
     pub load : Load
     pub said : SaysCommand words (Why load)
     pub text : List ℕ
-    pub explains : Explains before.files after.files (given_text load.ifaces) load.conf.now fault text
+    pub explains : ExplainsFirst before.files after.files (given_text load.ifaces) load.conf.now fault text
     pub put : PutsLine before.out after.out text
     pub flushed : (after.out.waiting ≡ 0) ⊎ Rose before.out.faults after.out.faults
     pub files : ChangesNoFile before after

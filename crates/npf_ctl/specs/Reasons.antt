@@ -26,18 +26,18 @@ is_explained _ fault = false
 
 module _ (before after : FilesMoment) (ifaces : Option (List ℕ)) (conf : List ℕ) where
   -- the explanation of the first fault by the text that has it: of the configuration, with the interfaces that were read; or of their file
-  pub data Explains (fault : CommandFault) (out : List ℕ) : Type 0 where
+  pub data ExplainsFirst (fault : CommandFault) (out : List ℕ) : Type 0 where
     of_configuration : {given : List Iface} {text : List ℕ} → is_placed fault ≡ true → ReadsInterfaces before after ifaces (Ok given) →
         ReadsFile before after conf MAX_TEXT_BYTES (Ok text) → LoadsText before after given conf text (Err fault) →
-        IsExplanation given fault (Some text) out → Explains fault out
+        IsExplanation given fault (Some text) out → ExplainsFirst fault out
     of_interfaces : {file text : List ℕ} → is_placed fault ≡ true → ifaces ≡ Some file → ReadsFile before after file MAX_TEXT_BYTES (Ok text) →
-        NamesInterfaces file text (Err fault) → IsExplanation [] fault (Some text) out → Explains fault out
+        NamesInterfaces file text (Err fault) → IsExplanation [] fault (Some text) out → ExplainsFirst fault out
 
   -- what the search for a fault comes to: there is none; one is explained; one is of a file that isn't read, or is too long; or memory is
   -- wanting
   pub data FindsReason : Result (Option Reason) CommandFault → Type 0 where
     nothing : {config : Loaded} → LoadsAlone before after ifaces conf (Ok config) → FindsReason (Ok None)
-    explained : {reason : Reason} → Explains reason.fault reason.said.items → FindsReason (Ok (Some reason))
+    explained : {reason : Reason} → ExplainsFirst reason.fault reason.said.items → FindsReason (Ok (Some reason))
     unplaced : {fault : CommandFault} → is_placed fault ≡ false → LoadsAlone before after ifaces conf (Err fault) → FindsReason (Err fault)
     memory : FindsReason (Err NoMemory)
 

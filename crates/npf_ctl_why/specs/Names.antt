@@ -13,7 +13,7 @@ use Rattle.npf_model.specs.declared.iface.Iface.{Iface}
 use Rattle.npf_syntax.specs.declared.stmt.Tree.{Tree}
 use Rattle.npf_why.specs.Known.{given_by, iface_text, setting_names}
 use Rattle.npf_why.specs.declared.known.GivenNames.{GivenNames}
-use Rattle.npf_why.specs.LookedUp.{looked_up}
+use Rattle.npf_why.specs.NameTable.{looked_up}
 use Rattle.npf_why.specs.Nearest.{nearest}
 use Rattle.npf_ctl_why.specs.declared.listed.Marks.{Marks}
 use Rattle.npf_ctl_why.specs.declared.listed.Marks.TheVariants as Mark

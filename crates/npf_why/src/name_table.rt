@@ -2,8 +2,8 @@
 ghost use Rattle.std.specs.Prelude.{◌≡◌, ◌++◌, IfOk, None, OnOk, map, option_map};
 ghost use Rattle.npf_names.specs.Icmp.{types_of};
 ghost use Rattle.npf_names.specs.Protocol.{protocols};
-ghost use Rattle.npf_why.specs.declared.looked_up.Table.TheVariants.{Unknown};
-ghost use Rattle.npf_why.specs.LookedUp.{code_table, looked_up, name_texts, names_of_number, names_of_table, number_said, table_at_code, table_behind, table_behind_word, table_from};
+ghost use Rattle.npf_why.specs.declared.name_table.NameTable.TheVariants.{Unknown};
+ghost use Rattle.npf_why.specs.NameTable.{code_table, looked_up, name_texts, names_of_number, names_of_table, number_said, table_at_code, table_behind, table_behind_word, table_from};
 
 use npf_lexer::{Sign, Token, TokenKind};
 use npf_names::{IcmpNames, IcmpTable, protocol_number, protocol_rows, service_rows};
@@ -12,7 +12,7 @@ use std::alloc::Global;
 
 /// Among which names a word is looked up.
 #[derive(Clone, Copy, Debug, PartialEq, Eq)]
-enum Table {
+enum NameTable {
     /// The uses of a definition decide.
     Unknown,
     Services,
@@ -27,18 +27,18 @@ pub fn looked_up<'a>(alloc: Global, before: &[Token]) -> Result<Vec<&'a [u8]>, N
     names_of_table(alloc, table_before(before))
 }
 
-fn names_of_table<'a>(alloc: Global, table: Table) -> Result<Vec<&'a [u8]>, NoMemory>
+fn names_of_table<'a>(alloc: Global, table: NameTable) -> Result<Vec<&'a [u8]>, NoMemory>
     ensures { IfOk result (λ names. map (λ name. name.now) names.items ≡ names_of_table table) }
 {
     let mut names = Vec::new(alloc);
     match table {
-        Table::Unknown => {
+        NameTable::Unknown => {
             add_names(&mut names, service_rows())?;
             add_names(&mut names, protocol_rows())?;
         }
-        Table::Services => add_names(&mut names, service_rows())?,
-        Table::Protocols => add_names(&mut names, protocol_rows())?,
-        Table::Messages(table) => add_names(&mut names, table.rows())?,
+        NameTable::Services => add_names(&mut names, service_rows())?,
+        NameTable::Protocols => add_names(&mut names, protocol_rows())?,
+        NameTable::Messages(table) => add_names(&mut names, table.rows())?,
     }
     Ok(names)
 }
@@ -54,10 +54,10 @@ fn add_names<'a>(names: &mut Vec<&'a [u8]>, rows: &[(&'a str, u16)]) -> Result<(
 }
 
 /// The table that the last of these tokens which names one does.
-fn table_before(tokens: &[Token]) -> Table
+fn table_before(tokens: &[Token]) -> NameTable
     ensures { result ≡ table_from Unknown None tokens.now }
 {
-    let mut table = Table::Unknown;
+    let mut table = NameTable::Unknown;
     let mut last = None;
     for token in tokens {
         table = table_behind(table, last, &token.kind);
@@ -67,25 +67,25 @@ fn table_before(tokens: &[Token]) -> Table
 }
 
 /// The table behind a token, by that before it and by the token that stands before it.
-fn table_behind(table: Table, last: Option<&TokenKind>, kind: &TokenKind) -> Table
-    ensures { result ≡ table_behind table (option_map (λ kind. kind.now) last) kind.now }
+fn table_behind(table: NameTable, last: Option<&TokenKind>, kind: &TokenKind) -> NameTable
+    ensures { result ≡ table_behind table (option_map (λ kind. kind.now) last.entry) kind.now }
 {
     match kind {
-        TokenKind::Sign(Sign::Equals) => Table::Unknown,
+        TokenKind::Sign(Sign::Equals) => NameTable::Unknown,
         TokenKind::Word(word) => table_behind_word(table, last, word.as_slice()),
         _ => table,
     }
 }
 
-fn table_behind_word(table: Table, last: Option<&TokenKind>, word: &[u8]) -> Table
-    ensures { result ≡ table_behind_word table (option_map (λ kind. kind.now) last) word.now }
+fn table_behind_word(table: NameTable, last: Option<&TokenKind>, word: &[u8]) -> NameTable
+    ensures { result ≡ table_behind_word table (option_map (λ kind. kind.now) last.entry) word.now }
 {
     if word == "port".as_bytes() {
-        Table::Services
+        NameTable::Services
     } else if word == "proto".as_bytes() {
-        Table::Protocols
+        NameTable::Protocols
     } else if word == "icmp-type".as_bytes() {
-        Table::Messages(IcmpTable::Types(names_of_number(protocol_said(last))))
+        NameTable::Messages(IcmpTable::Types(names_of_number(protocol_said(last))))
     } else if word == "code".as_bytes() {
         table_at_code(table, last)
     } else {
@@ -104,12 +104,12 @@ fn names_of_number(protocol: Option<u8>) -> IcmpNames
     }
 }
 
-fn table_at_code(table: Table, last: Option<&TokenKind>) -> Table
-    ensures { result ≡ table_at_code table (option_map (λ kind. kind.now) last) }
+fn table_at_code(table: NameTable, last: Option<&TokenKind>) -> NameTable
+    ensures { result ≡ table_at_code table (option_map (λ kind. kind.now) last.entry) }
 {
     match table {
-        Table::Messages(IcmpTable::Types(names)) => {
-            Table::Messages(code_table(names, type_said(names, last)))
+        NameTable::Messages(IcmpTable::Types(names)) => {
+            NameTable::Messages(code_table(names, type_said(names, last)))
         }
         _ => table,
     }
@@ -126,7 +126,7 @@ fn code_table(names: IcmpNames, kind: Option<u8>) -> IcmpTable
 
 /// The protocol that a token says.
 fn protocol_said(last: Option<&TokenKind>) -> Option<u8>
-    ensures { result ≡ number_said protocols (option_map (λ kind. kind.now) last) }
+    ensures { result ≡ number_said protocols (option_map (λ kind. kind.now) last.entry) }
 {
     match last {
         Some(TokenKind::Word(word)) => protocol_number(word.as_slice()),
@@ -137,7 +137,7 @@ fn protocol_said(last: Option<&TokenKind>) -> Option<u8>
 
 /// The type that a token says.
 fn type_said(names: IcmpNames, last: Option<&TokenKind>) -> Option<u8>
-    ensures { result ≡ number_said (types_of names) (option_map (λ kind. kind.now) last) }
+    ensures { result ≡ number_said (types_of names) (option_map (λ kind. kind.now) last.entry) }
 {
     match last {
         Some(TokenKind::Word(word)) => IcmpTable::Types(names).number_named(word.as_slice()),

@@ -1,6 +1,6 @@
 use Rattle.std.proofs.Common.{◌≡◌, ◌++◌, map, take}
-use Rattle.npf_why.specs.LookedUp.{name_texts}
-use Rattle.npf_why.proofs.looked_up.add_names.Given as goal
+use Rattle.npf_why.specs.NameTable.{name_texts}
+use Rattle.npf_why.proofs.name_table.add_names.Given as goal
 
 abbrev pub invariant-loop-row : goal.invariant-loop-row
 invariant-loop-row l = record {

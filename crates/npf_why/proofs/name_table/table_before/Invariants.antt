@@ -1,6 +1,6 @@
 use Rattle.std.proofs.Common.{◌≡◌, None, drop, option_map}
-use Rattle.npf_why.specs.{declared.looked_up.Table.TheVariants.Unknown, LookedUp.table_from}
-use Rattle.npf_why.proofs.looked_up.table_before.Given as goal
+use Rattle.npf_why.specs.{declared.name_table.NameTable.TheVariants.Unknown, NameTable.table_from}
+use Rattle.npf_why.proofs.name_table.table_before.Given as goal
 
 abbrev pub invariant-loop-token : goal.invariant-loop-token
 invariant-loop-token l = record {

@@ -15,13 +15,13 @@ use Rattle.npf_names.specs.declared.icmp.IcmpNames.{IcmpNames}
 use Rattle.npf_names.specs.declared.icmp.IcmpNames.TheVariants.{OfIcmp, OfIcmp6, OfNeither}
 use Rattle.npf_names.specs.declared.icmp.IcmpTable.{IcmpTable}
 use Rattle.npf_names.specs.declared.icmp.IcmpTable.TheVariants.{Types, Codes}
-use Rattle.npf_why.specs.declared.looked_up.Table.{Table}
-use Rattle.npf_why.specs.declared.looked_up.Table.TheVariants.{Unknown, Services, Protocols, Messages}
+use Rattle.npf_why.specs.declared.name_table.NameTable.{NameTable}
+use Rattle.npf_why.specs.declared.name_table.NameTable.TheVariants.{Unknown, Services, Protocols, Messages}
 
 abbrev pub name_texts : Names → List (List ℕ)
 name_texts rows = map (λ row. row.0) rows
 
-abbrev pub names_of_table : Table → List (List ℕ)
+abbrev pub names_of_table : NameTable → List (List ℕ)
 names_of_table Unknown = name_texts services ++ name_texts protocols
 names_of_table Services = name_texts services
 names_of_table Protocols = name_texts protocols
@@ -43,11 +43,11 @@ code_table names None = Types OfNeither
 code_table names (Some kind) = Codes names kind
 
 -- the codes of the type that the token before `code` says
-abbrev pub table_at_code : Table → Option TokenKind → Table
+abbrev pub table_at_code : NameTable → Option TokenKind → NameTable
 table_at_code (Messages (Types names)) last = Messages (code_table names (number_said (types_of names) last))
 table_at_code table last = table
 
-abbrev pub table_behind_word : Table → Option TokenKind → List ℕ → Table
+abbrev pub table_behind_word : NameTable → Option TokenKind → List ℕ → NameTable
 table_behind_word table last word =
     if bytes_eq word (codes "port") then Services
     else if bytes_eq word (codes "proto") then Protocols
@@ -55,13 +55,13 @@ table_behind_word table last word =
     else if bytes_eq word (codes "code") then table_at_code table last else table
 
 -- the table behind a token, by that before it and by the token before it
-abbrev pub table_behind : Table → Option TokenKind → TokenKind → Table
+abbrev pub table_behind : NameTable → Option TokenKind → TokenKind → NameTable
 table_behind table last (Kind.Sign Equals) = Unknown
 table_behind table last (Kind.Word word) = table_behind_word table last word
 table_behind table last _ = table
 
 -- the table behind some tokens
-abbrev pub table_from : Table → Option TokenKind → List Token → Table
+abbrev pub table_from : NameTable → Option TokenKind → List Token → NameTable
 table_from table last [] = table
 table_from table last (token ∷ tokens) = table_from (table_behind table last token.kind) (Some token.kind) tokens
 
