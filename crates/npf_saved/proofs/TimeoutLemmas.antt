@@ -44,16 +44,12 @@ module _ (text word : List ℕ) (times : Timeouts) (is : text ≡ word ++ timeou
     by true is = ap (after_first (λ byte. byte == 32)) (is ∙ append-nil word) ∙ none_after 32 word lack
     by false is = rest_behind 32 text word (codes "timeouts" ++ 32 ∷ times_text times) is lack
 
-pub no_length : (words : List ℕ) → length words ≡ 0 → words ≡ []
-no_length [] none = refl
-no_length (x ∷ words) none = cc
-
 -- where nothing stands behind the word the times are those that hold without a statement
-pub nothing_behind : (words : List ℕ) (times : Timeouts) → words ≡ [] → words ≡ timeouts_behind times → default_timeouts ≡ times
+pub nothing_behind : (words : List ℕ) (times : Timeouts) → length words ≡ 0 → words ≡ timeouts_behind times → default_timeouts ≡ times
 nothing_behind words times none is = by (are_default times) refl is where
   by : (same : Bool) → are_default times ≡ same → words ≡ (if same then [] else codes "timeouts" ++ 32 ∷ times_text times) → default_timeouts ≡ times
   by true same is = sym (default_is times same)
-  by false same is = cc
+  by false same is = let long = ap length is in absurd (omega (arith, none, long))
 
 -- and else what stands behind its first space is their text
 pub something_behind : (words : List ℕ) (times : Timeouts) → words ≢ [] → words ≡ timeouts_behind times → after_first (λ byte. byte == 32) words ≡ times_text times
