@@ -1,5 +1,5 @@
 // The command that explains the first fault of a configuration.
-ghost use Rattle.std.specs.Prelude.{◌≡◌, ◌≤◌, ℕ, List, Ok, length, option_map};
+ghost use Rattle.std.specs.Prelude.{◌≡◌, ◌≤◌, ℕ, List, [], Ok, Option, Some, length, option_map};
 ghost use Rattle.npf_config.specs.Reading.{OnlyReads};
 ghost use Rattle.npf_connections.specs.Pass.{Pass};
 ghost use Rattle.npf_ctl_input.specs.Around.{Around};
@@ -8,7 +8,6 @@ ghost use Rattle.npf_ctl_words.specs.CommandLine.{SaysCommand};
 ghost use Rattle.npf_ctl_words.specs.declared.command.Invocation.TheVariants.{Why};
 ghost use Rattle.npf_engine.specs.Histories.{FlowEntry};
 ghost use Rattle.npf_outside.specs.Files.{FilesMoment, SameFiles};
-ghost use Rattle.npf_types.specs.declared.limits.TheConstants.{MAX_TEXT_BYTES as MAX_BYTES};
 ghost use Rattle.npf_ctl.specs.Ends.{AnswersReason, EndsIn};
 ghost use Rattle.npf_ctl.specs.Reasons.{FindsReason, TellsReason, is_placed};
 ghost use Rattle.npf_ctl.specs.Run.{moment};
@@ -19,7 +18,7 @@ use npf_ctl_messages::CommandFault;
 use npf_ctl_output::put_text;
 use npf_ctl_why::explanation;
 use npf_ctl_words::Load;
-use npf_model::{Iface, Ifaces};
+use npf_model::Ifaces;
 use npf_outside::{Files, Sink, SinkFault};
 use npf_types::List;
 use npf_types::limits::MAX_TEXT_BYTES;
@@ -43,7 +42,8 @@ pub(crate) fn explain<F: Files, O: Sink>(
         (moment (F.moment files.old) (O.moment out.old) pass) (moment (F.moment files.new) (O.moment out.new) pass) result }
     ensures files { SameFiles (F.moment files.old).contents (F.moment files.new).contents }
 {
-    match find_reason(alloc, load, files)? {
+    let found = find_reason(alloc, load, files)?;
+    match found {
         None => put_text(&[], out),
         Some(reason) => Err(put_reason(reason, out)),
     }
@@ -54,7 +54,8 @@ fn put_reason<O: Sink>(reason: Reason, out: &mut O) -> CommandFault
     ensures { AnswersReason (O.moment out.old) (O.moment out.new) reason result }
 {
     match put_flushed(reason.said.as_slice(), out) {
-        Ok(()) | Err(SinkFault::Failed) => reason.fault,
+        Ok(()) => reason.fault,
+        Err(SinkFault::Failed) => reason.fault,
         Err(SinkFault::NoMemory) => CommandFault::NoMemory,
     }
 }
@@ -68,16 +69,32 @@ fn find_reason<F: Files>(
     ensures found { FindsReason (F.moment files.old) (F.moment files.new) (option_map (λ name. name.now) load.entry.ifaces) load.entry.conf.now result }
     ensures reads { OnlyReads (F.moment files.old) (F.moment files.new) }
 {
-    let Some(file) = load.ifaces else {
-        let none = Ifaces {
-            list: List::of_vec(Vec::new(alloc)),
-        };
-        return find_in(alloc, load.conf, &none, files);
+    let none = Ifaces {
+        list: List::of_vec(Vec::new(alloc)),
     };
-    let text = read_file(alloc, file, MAX_TEXT_BYTES as u64, files)?;
-    match interfaces_of(alloc, file, text.as_slice()) {
-        Ok(ifaces) => find_in(alloc, load.conf, &ifaces, files),
-        Err(fault) => reason_of(alloc, fault, text.as_slice(), &[]),
+    match load.ifaces {
+        None => find_in(alloc, load.conf, &none, files),
+        Some(file) => find_with(alloc, load.conf, file, &none, files),
+    }
+}
+
+/// The same with the interfaces of a file; a fault of that file is told for a run with none.
+fn find_with<F: Files>(
+    alloc: Global,
+    conf: &str,
+    file: &str,
+    none: &Ifaces,
+    files: &mut F,
+) -> Result<Option<Reason>, CommandFault>
+    requires { none.now.list ≡ [] }
+    ensures found { FindsReason (F.moment files.old) (F.moment files.new) (Some file.now) conf.now result }
+    ensures reads { OnlyReads (F.moment files.old) (F.moment files.new) }
+{
+    let bytes = read_file(alloc, file, MAX_TEXT_BYTES as u64, files)?;
+    let text = bytes.as_slice();
+    match interfaces_of(alloc, file, text) {
+        Ok(ifaces) => find_in(alloc, conf, &ifaces, files),
+        Err(fault) => reason_of(alloc, fault, text, none),
     }
 }
 
@@ -92,10 +109,11 @@ fn find_in<F: Files>(
         → ReadsInterfaces before after given (Ok ifaces.now.list) → FindsReason before after given conf.now result }
     ensures reads { OnlyReads (F.moment files.old) (F.moment files.new) }
 {
-    let text = read_file(alloc, conf, MAX_TEXT_BYTES as u64, files)?;
-    match load_text(alloc, ifaces, conf, text.as_slice(), files) {
+    let bytes = read_file(alloc, conf, MAX_TEXT_BYTES as u64, files)?;
+    let text = bytes.as_slice();
+    match load_text(alloc, ifaces, conf, text, files) {
         Ok(_) => Ok(None),
-        Err(fault) => reason_of(alloc, fault, text.as_slice(), ifaces.list.as_slice()),
+        Err(fault) => reason_of(alloc, fault, text, ifaces),
     }
 }
 
@@ -104,10 +122,10 @@ fn reason_of(
     alloc: Global,
     fault: CommandFault,
     text: &[u8],
-    ifaces: &[Iface],
+    ifaces: &Ifaces,
 ) -> Result<Option<Reason>, CommandFault>
-    requires { length text.now ≤ MAX_BYTES }
-    ensures { TellsReason ifaces.now text.now fault.entry result }
+    requires { length text.now ≤ MAX_TEXT_BYTES }
+    ensures { TellsReason ifaces.now.list text.now fault result }
 {
     if !is_placed(&fault) {
         return Err(fault);

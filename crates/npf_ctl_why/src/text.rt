@@ -6,7 +6,7 @@ ghost use Rattle.npf_ctl_why.specs.Text.{IsExplanation};
 use crate::excerpt::write_excerpt;
 use crate::reason::write_reason;
 use npf_ctl_messages::{CommandFault, message};
-use npf_model::Iface;
+use npf_model::Ifaces;
 use npf_types::NoMemory;
 use std::alloc::Global;
 
@@ -16,15 +16,15 @@ pub fn explanation(
     alloc: Global,
     told: &CommandFault,
     text: Option<&[u8]>,
-    ifaces: &[Iface],
+    ifaces: &Ifaces,
 ) -> Result<Vec<u8>, NoMemory>
     requires { IfSome text (λ text. length text.now ≤ MAX_TEXT_BYTES) }
-    ensures { IfOk result (λ out. IsExplanation ifaces.now told.now (option_map (λ text. text.now) text.entry) out.items) }
+    ensures { IfOk result (λ out. IsExplanation ifaces.now.list told.now (option_map (λ text. text.now) text.entry) out.items) }
 {
     let mut into = message(alloc, told)?;
     if let (CommandFault::Configuration { fault, .. }, Some(text)) = (told, text) {
         write_excerpt(&mut into, text, fault.span)?;
-        write_reason(alloc, &mut into, text, ifaces, fault)?;
+        write_reason(alloc, &mut into, text, ifaces.list.as_slice(), fault)?;
         return Ok(into);
     }
     Ok(into)

@@ -99,7 +99,7 @@ fn answer(
         Err(LoadFault::Conf(fault)) => {
             let file = List::of_vec(b"c".as_slice().to_vec(alloc)?);
             let told = CommandFault::Configuration { file, fault };
-            let said = explanation(alloc, &told, Some(text), ifaces.list.as_slice())?;
+            let said = explanation(alloc, &told, Some(text), ifaces)?;
             println!(rt; "{}", str::from_utf8(said.as_slice())?)?;
         }
         Err(_) => println!(rt; "unread\n")?,

@@ -17,7 +17,7 @@ returns-in_err-config-clause-ends g c =
     let same : c.from_residual.result ≡ Err fault = search rules in
     rw same (λ texts pass said. early texts (moment first out pass) (moment last out pass) (λ why. LoadsAlone first last (given_text load.ifaces) load.conf.now (Err why))
     (λ why comes. MeetsFault.in_loading said (look_loads c.args.look load) (look_explains c.args.look load why) comes
-        (record { put = nothing_put out; files = only_read first last c.load_alone.ensures.reads; idle = refl }))
+    (record { put = nothing_put out; files = only_read first last c.load_alone.ensures.reads; idle = refl }))
     (nothing_put out) (only_read first last c.load_alone.ensures.reads) fault (c.in_err-config.ensures.comes first last (around_work first last last (read_on last))))
 
 pub returns-in_err-text-clause-ends : goal.returns-in_err-text-clause-ends
