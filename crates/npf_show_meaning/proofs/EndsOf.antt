@@ -1,6 +1,6 @@
 -- The ends of a rule, written and read again.
 use Rattle.std.proofs.Common.{◌≡◌, ◌<◌, inl, inr, ℕ, Bool, true, false, is_some, ◌||◌, if◌then◌else◌, Option, Some, None, IfSome, List, [], ◌∷◌, ◌++◌}
-use Rattle.std.proofs.{Common.{length, flat_map, filter_map, codes, refl, sym, ap, ap₂, subst, ◌∙◌, arith, append-nil}, lemmas.Grind.flat_map-append}
+use Rattle.std.proofs.{Common.{length, flat_map, filter_map, codes, refl, sym, ap, subst, ◌∙◌, arith, append-nil}, lemmas.Grind.flat_map-append}
 use Rattle.std.{proofs.lemmas.List.Elements.filter_map-append, specs.{List.All, Prelude.slice_get}}
 use Rattle.npf_types.specs.declared.span.Span.{Span}
 use Rattle.npf_lexer.specs.declared.token.Sign.TheVariants as Signs

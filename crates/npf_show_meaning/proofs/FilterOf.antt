@@ -1,23 +1,24 @@
 -- The filter of a rule, written and read again.
 use Rattle.std.proofs.Common.{◌≡◌, ◌≤◌, ◌<◌, ◌^◌, inl, inr, ℕ, ◌+◌, ◌==◌, nat_lt, Bool, true, false, if◌then◌else◌, Option, Some, None, IfSome, option_map, List}
 use Rattle.std.proofs.{Common.{[], ◌∷◌, ◌++◌, length, flat_map, filter_map, codes, refl, sym, ap, ap₂, subst, ◌∙◌, arith}, lemmas.Bool.and_parts}
-use Rattle.std.{proofs.lemmas.{Bool.Decides.nat_tests, List.{Elements.{All-head, All-tail}, Sums.sum_by-append}}, specs.{List.{All, list_all}, Prelude.bit_and}}
+use Rattle.std.{proofs.lemmas.{Bool.Decides.nat_tests, List.{Elements.{All-head, All-tail}, Sums.sum_by-append}}, specs.{List.{All, list_all, list_any}, Prelude.bit_and}}
 use Rattle.npf_types.specs.declared.{decision.Decision.TheVariants.Pass, span.Span.Span}
 use Rattle.npf_lexer.specs.declared.token.Sign.TheVariants as Signs
 use Rattle.npf_lexer.specs.declared.token.TokenKind.{TokenKind}
 use Rattle.npf_lexer.specs.declared.token.TokenKind.TheVariants as Kind
+use Rattle.npf_faults.specs.declared.fault.ConfFault.{ConfFault}
 use Rattle.npf_syntax.specs.declared.filter.{Detail.Detail, Family.Family, Filter.Filter, ProtoPart.ProtoPart, Protocols.Protocols, Where.Where}
 use Rattle.npf_syntax.specs.declared.{value.{One.One, OneList.OneList}, word.{Number.Number, Word.Word}}
 use Rattle.npf_model.specs.{declared.{iface.Iface.Iface, model.Model.Model, rule.{Rule.Rule, StateOpt.TheVariants.Not}}, Count.elements_of}
 use Rattle.npf_phrase.specs.Grammar.{optional, preceded}
 use Rattle.npf_parser_values.specs.{Token.{sign, number, number_to, flags, is_flag, quoted, span_of}, Value.{one, ones, one_list, protocols}}
 use Rattle.npf_parser.specs.Filter.{family, detail, proto_part, filter}
-use Rattle.npf_expand_values.specs.{Atom.{Atom, NumberAtom}, Protocol.{one_binding, protocol_of, protocol_faults, protocols_faults, spliced_ones, protocols_of}}
+use Rattle.npf_expand_values.specs.{Atom.{Atom, NumberAtom}, Protocol.{one_binding, protocol_of, protocol_faults, protocols_faults, spliced_ones, protocols_of, written_ones}}
 use Rattle.npf_expand_values.specs.Message.{icmp_names, message_faults, message_number}
 use Rattle.npf_names.specs.{declared.icmp.IcmpNames.IcmpNames, Icmp.{codes_of, types_of}, Names.Names}
 use Rattle.npf_expand_values.specs.{Use.{element_count, atoms_of, count_of, then_faults}, Variable.alone_binding, Source.declared_of}
 use Rattle.npf_expand.specs.Rule.{is_inet6, flag_bits, flags_of_detail, icmp_of_detail, icmp_of_part, with_code, code_of, code_faults, detail_faults}
-use Rattle.npf_expand.specs.Rule.{detail_of_part, part_faults, part_protocols, part_count, filter_faults, filter_rule, filter_count}
+use Rattle.npf_expand.specs.Rule.{detail_faults_beside, detail_of_part, gives_atom, part_faults, part_protocols, part_count, filter_faults, filter_rule, filter_count}
 use Rattle.npf_show.specs.Ends.{where_pieces}
 use Rattle.npf_show.specs.Filter.{family_pieces, protocol_pieces, protocols_pieces, letters_of_bits, letter_if_set, flag_text, flags_pieces, code_pieces, icmp_pieces, filter_pieces}
 use Rattle.npf_show.specs.Piece.{Piece, glued, spaced, optional_pieces, comma_list, list_pieces}
@@ -217,11 +218,16 @@ module _ (ifaces : List Iface) where
     flags_are : flags_of_detail (detail_of_part o) ≡ flags
     icmp_is : icmp_of_part (nameless ifaces) o ≡ icmp
 
+  none_where : (test : Bool) (faults : List ConfFault) → faults ≡ [] → (if test then faults else []) ≡ []
+  none_where true faults none = none
+  none_where false faults none = refl
+
   says_part : (protos : List ℕ) (flags : Option (ℕ × ℕ)) (icmp : Option (ℕ × Option ℕ)) (tree : Protocols) (o : Option Detail) (span : Span) → SaysProtocols protos tree → SaysDetail flags icmp o
       → SaysPart protos flags icmp (Some (record { protocols = tree; detail = o; span = span }))
   says_part protos flags icmp tree o span is more =
       let names = icmp_names (spliced_ones (nameless ifaces) tree) in record {
-        faults = ap (λ fs. then_faults fs (detail_faults (nameless ifaces) names o)) is.faults ∙ more.none names;
+        faults = ap (λ fs. then_faults fs (detail_faults_beside (nameless ifaces) (written_ones tree) o)) is.faults
+            ∙ none_where (list_any (gives_atom (nameless ifaces)) (written_ones tree)) (detail_faults (nameless ifaces) names o) (more.none names);
         gives = is.gives;
         count = is.count;
         flags_are = more.flags_are;

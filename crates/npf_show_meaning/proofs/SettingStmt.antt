@@ -1,8 +1,7 @@
 -- The statements of settings and of the gateway of ICMP.
-use Rattle.std.proofs.Common.{◌≡◌, ℕ, Bool, true, false, if◌then◌else◌, Option, Some, None, option_and_then, option_map, option_to_list, List, [], ◌∷◌, ◌++◌, codes, refl, ap, ◌∙◌}
+use Rattle.std.proofs.Common.{◌≡◌, ℕ, Bool, true, false, if◌then◌else◌, Some, None, option_and_then, option_map, option_to_list, List, [], ◌∷◌, ◌++◌, codes, refl, ap, ◌∙◌}
 use Rattle.npf_types.specs.declared.span.Span.{Span}
 use Rattle.npf_lexer.specs.declared.token.TokenKind.{TokenKind}
-use Rattle.npf_lexer.specs.declared.token.TokenKind.TheVariants as Kind
 use Rattle.npf_syntax.specs.declared.{stmt.{Setting.Setting, Stmt.Stmt}, word.{Str.Str, Word.Word}}
 use Rattle.npf_model.specs.declared.{iface.Iface.Iface, model.Model.Model, settings.{Choice.Choice, Parameter.Parameter}}
 use Rattle.npf_timeouts.specs.{declared.timeouts.Timeout.TheVariants.TcpNew, Timeouts.is_timeout}
