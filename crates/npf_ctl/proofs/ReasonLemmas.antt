@@ -1,5 +1,5 @@
 -- What is said of the first fault of a configuration.
-use Rattle.std.proofs.{Common.{◌≡◌, ◌⊎◌, inl, ℕ, true, false, Option, Some, None, Ok, Err, Result, List, [], refl, sym, subst}, lemmas.Bool.false≢true}
+use Rattle.std.proofs.{Common.{◌≡◌, inl, ℕ, true, false, Option, Some, None, Ok, Err, Result, List, [], refl, sym, subst}, lemmas.Bool.false≢true}
 use Rattle.npf_types.specs.{Stages.{goes_on, stops}, declared.limits.TheConstants.MAX_TEXT_BYTES}
 use Rattle.npf_model.specs.{Configuration.Configuration, declared.iface.Iface.Iface}
 use Rattle.npf_outside.specs.Files.{FilesMoment}

@@ -1,4 +1,4 @@
-use Rattle.std.proofs.Common.{rules, ap, Ok, None}
+use Rattle.std.proofs.Common.{rules, None}
 use Rattle.npf_ctl_input.proofs.AroundLemmas.{around_itself}
 use Rattle.npf_ctl.proofs.reasons.find_reason.Goals as goal
 
