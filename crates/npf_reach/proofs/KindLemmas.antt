@@ -1,6 +1,7 @@
 -- The kind of a packet, and its cell among the kind's.
 use Rattle.std.proofs.Common.{◌≡◌, ℕ, zero, suc, ◌+◌, ◌<◌, ◌≤◌, ◌==◌, ◌&&◌, Bool, true, false, List, [], ◌∷◌, Some, length, get_or, slice_get, refl, sym, ap, ◌∙◌, arith}
 use Rattle.std.proofs.lemmas.Bool.{and_from, and_parts, and_right, eq-eqb, eqb-true}
+use Rattle.std.proofs.Math.Bool.{and-true, and_assoc}
 use Rattle.npf_types.specs.declared.{direction.Dir.Dir, facts.Facts.Facts, interface.IfId.IfId}
 use Rattle.npf_boxes.specs.Cell.{box_at}
 use Rattle.npf_search.specs.{declared.{decider.Decider.Decider, region.Region.Region}, Region.{decides, has_box, region_has}}
@@ -64,21 +65,13 @@ pub when : (k x y : Bool) → (k ≡ true → x ≡ y) → (k && x) ≡ (k && y)
 when true x y same = same refl
 when false x y same = refl
 
-and_true : (k : Bool) → (k && true) ≡ k
-and_true true = refl
-and_true false = refl
-
-and_assoc : (x y z : Bool) → ((x && y) && z) ≡ (x && (y && z))
-and_assoc true y z = refl
-and_assoc false y z = refl
-
 module _ (cells : KindCells) (facts : Facts) (ifid : IfId) (dir : Dir) (packet : IsPacket facts ifid) where
   -- all packets of the kind have a cell of it
   pub all_of_kind : (region : Region) → region_has cells.boxes region (packet_cell cells.space facts ifid dir)
       ≡ has_box cells.boxes (packet_cell cells.space facts ifid dir) (product_count cells.space)
       → (is_of_kind (cells_kind cells) facts && region_has cells.boxes region (packet_cell cells.space facts ifid dir)) ≡ is_of_kind (cells_kind cells) facts
   all_of_kind region same =
-      when _ _ true (λ is. same ∙ cells.boxes_of.whole facts ifid dir (of_kind (cells_kind cells) facts ifid packet is)) ∙ and_true _
+      when _ _ true (λ is. same ∙ cells.boxes_of.whole facts ifid dir (of_kind (cells_kind cells) facts ifid packet is)) ∙ and-true _
 
   met_same : (decider : Decider) → decider.first + decider.count ≤ product_count cells.space → is_of_kind (cells_kind cells) facts ≡ true
       → decides (has_box cells.boxes (packet_cell cells.space facts ifid dir)) decider ≡ decides (is_met_by cells facts ifid dir) decider

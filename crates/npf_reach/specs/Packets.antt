@@ -9,15 +9,15 @@ use Rattle.npf_model.specs.Describes.{Tables}
 use Rattle.npf_products.specs.declared.product.Product.{Product}
 use Rattle.npf_products.specs.Space.{packet_cell}
 use Rattle.npf_reach.specs.declared.packets.Packets.{Packets}
-use Rattle.npf_reach.specs.declared.part.Part.{Part}
+use Rattle.npf_reach.specs.declared.part.KindPart.{KindPart}
 use Rattle.npf_reach.specs.Kinds.{IsKindOf, cells_kind, is_of_kind}
 
 -- the packet is of the part's kind, and its cell is one of the region's
-abbrev pub part_has : Part → Facts → IfId → Dir → Bool
+abbrev pub part_has : KindPart → Facts → IfId → Dir → Bool
 part_has part facts ifid dir =
     is_of_kind (cells_kind part.cells.now) facts && region_has part.cells.now.boxes part.region (packet_cell part.cells.now.space facts ifid dir)
 
-abbrev pub parts_have : List Part → Facts → IfId → Dir → Bool
+abbrev pub parts_have : List KindPart → Facts → IfId → Dir → Bool
 parts_have parts facts ifid dir = list_any (λ part. part_has part facts ifid dir) parts
 
 abbrev pub has_packet : Packets → Facts → IfId → Dir → Bool

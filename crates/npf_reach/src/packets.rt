@@ -1,6 +1,6 @@
 // Packets of all kinds.
 use crate::kind_cells::KindCells;
-use crate::part::Part;
+use crate::part::KindPart;
 use npf_products::{CellPacket, Product};
 use npf_search::Decider;
 use npf_steps::{Steps, Stopped};
@@ -12,7 +12,7 @@ use std::alloc::Global;
 pub struct Packets<'a> {
     pub(crate) tables: &'a [List<Prefix>],
     pub(crate) products: &'a [Product<'a>],
-    pub(crate) parts: Vec<Part<'a>>,
+    pub(crate) parts: Vec<KindPart<'a>>,
 }
 
 impl<'a> Packets<'a> {
@@ -41,7 +41,7 @@ impl<'a> Packets<'a> {
     {
         let mut parts = Vec::new(alloc);
         for kind in cells {
-            parts.push(Part::new(alloc, kind)?)?;
+            parts.push(KindPart::new(alloc, kind)?)?;
         }
         Ok(Packets {
             tables,

@@ -11,14 +11,14 @@ use std::alloc::Global;
 
 /// The packets of a kind whose cells are those of a region.
 #[derive(Drop)]
-pub(crate) struct Part<'a> {
+pub(crate) struct KindPart<'a> {
     pub cells: &'a KindCells,
     pub region: Region,
     ghost of: { IsRegionOf cells.now.boxes region },
     ghost within: { IsWithinKind cells.now region },
 }
 
-impl<'a> Part<'a> {
+impl<'a> KindPart<'a> {
     ghost use Rattle.std.specs.Prelude.{◌≡◌, ◌≤◌, ◌+◌, ◌&&◌, true, false, IfOk, IfSome, IsErrOf, Ok, None};
     ghost use Rattle.npf_types.specs.declared.direction.Dir.{Dir};
     ghost use Rattle.npf_types.specs.declared.facts.Facts.{Facts};
@@ -30,13 +30,13 @@ impl<'a> Part<'a> {
     ghost use Rattle.npf_reach.specs.Packets.{part_has};
 
     /// All packets of the kind.
-    pub fn new(alloc: Global, cells: &'a KindCells) -> Result<Part<'a>, NoMemory>
+    pub fn new(alloc: Global, cells: &'a KindCells) -> Result<KindPart<'a>, NoMemory>
         ensures cells { IfOk result (λ part. part.cells.now ≡ cells.now) }
         ensures all { IfOk result (λ part. (facts : Facts) (ifid : IfId) (dir : Dir) → IsPacket facts ifid
             → part_has part facts ifid dir ≡ is_of_kind (cells_kind cells.now) facts) }
     {
         let last = cells.boxes.count - 1;
-        Ok(Part {
+        Ok(KindPart {
             cells,
             region: Region::new(alloc, &cells.boxes, last)?,
         })
@@ -48,7 +48,7 @@ impl<'a> Part<'a> {
         alloc: Global,
         decider: Decider,
         steps: &mut Steps,
-    ) -> Result<Option<Part<'a>>, Stopped>
+    ) -> Result<Option<KindPart<'a>>, Stopped>
         requires { decider.first + decider.count ≤ product_count self.now.cells.now.space }
         ensures none { result ≡ Ok None → (facts : Facts) (ifid : IfId) (dir : Dir) → IsPacket facts ifid
             → (part_has self.now facts ifid dir && decides (is_met_by self.now.cells.now facts ifid dir) decider) ≡ false }
@@ -63,7 +63,7 @@ impl<'a> Part<'a> {
         let Some(region) = self.region.narrow(alloc, &cells.boxes, decider, steps)? else {
             return Ok(None);
         };
-        Ok(Some(Part { cells, region }))
+        Ok(Some(KindPart { cells, region }))
     }
 
     /// One of the packets; none exactly where there is none.

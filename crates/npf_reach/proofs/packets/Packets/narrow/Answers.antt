@@ -1,7 +1,7 @@
 use Rattle.std.proofs.Common.{◌≡◌, ◌<◌, ◌++◌, ◌∷◌, [], Ok, length, get_or, sym, subst, ap, ◌∙◌, arith}
 use Rattle.std.specs.Prelude.{All}
 use Rattle.std.proofs.lemmas.List.Elements.{All-get_or, All-push}
-use Rattle.npf_reach.specs.declared.part.Part.{Part}
+use Rattle.npf_reach.specs.declared.part.KindPart.{KindPart}
 use Rattle.npf_reach.specs.Kinds.{IsKindOf}
 use Rattle.npf_reach.specs.Packets.{parts_have}
 use Rattle.npf_reach.proofs.PacketsLemmas.{narrowed_more, narrowed_none}
@@ -17,7 +17,7 @@ loop-part-preserved c =
     let part = c.part-item.result in
     let parts = c.loop-part.parts.items in
     let inv = c.loop-part.invariant in
-    let P : Part → Type 0 = λ it. IsKindOf tables products it.cells.now in
+    let P : KindPart → Type 0 = λ it. IsKindOf tables products it.cells.now in
     let xs_is = c.deref-part-items.ensures.value in
     let low : i < length old = omega (arith, c.loop-part-test.true, ap length xs_is) in
     let is : part ≡ get_or old i part = c.part-item.is ∙ ap (λ xs. get_or xs i part) xs_is in

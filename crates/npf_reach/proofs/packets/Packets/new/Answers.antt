@@ -1,7 +1,7 @@
 use Rattle.std.proofs.Common.{sym, subst, ap, ◌∙◌}
 use Rattle.std.specs.Prelude.{All}
 use Rattle.std.proofs.lemmas.List.Elements.{All-get_or, All-push}
-use Rattle.npf_reach.specs.declared.{kind_cells.KindCells.KindCells, part.Part.Part}
+use Rattle.npf_reach.specs.declared.{kind_cells.KindCells.KindCells, part.KindPart.KindPart}
 use Rattle.npf_reach.specs.Kinds.{IsKindOf}
 use Rattle.npf_reach.specs.Packets.{parts_have}
 use Rattle.npf_reach.proofs.PacketsLemmas.{whole_last, whole_more}
@@ -16,9 +16,9 @@ loop-kind-preserved c =
     let one = c.kind-item.result in
     let part = c.in_ok-new.field-0 in
     let parts = c.loop-kind.parts.items in
-    let P : Part → Type 0 = λ it. IsKindOf tables products it.cells.now in
+    let P : KindPart → Type 0 = λ it. IsKindOf tables products it.cells.now in
     let own : IsKindOf tables products one = subst (IsKindOf tables products) (sym c.kind-item.is)
-        (All-get_or (IsKindOf tables products) cells i one c.loop-kind-test.true c.requires.each) in
+    (All-get_or (IsKindOf tables products) cells i one c.loop-kind-test.true c.requires.each) in
     let here : P part = subst (IsKindOf tables products) (sym c.in_ok-new.ensures.cells) own in
     record {
       of = subst (All P) (sym c.in_ok-push.ensures.items) (All-push P parts part c.loop-kind.invariant.of here);

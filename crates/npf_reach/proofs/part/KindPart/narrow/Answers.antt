@@ -4,7 +4,7 @@ use Rattle.npf_search.specs.Region.{region_has}
 use Rattle.npf_products.specs.Space.{packet_cell}
 use Rattle.npf_reach.specs.Kinds.{cells_kind, is_of_kind}
 use Rattle.npf_reach.proofs.KindLemmas.{narrowed_kind}
-use Rattle.npf_reach.proofs.part.Part.narrow.Goals as goal
+use Rattle.npf_reach.proofs.part.KindPart.narrow.Goals as goal
 
 pub returns-in_default-clause-none : goal.returns-in_default-clause-none
 returns-in_default-clause-none c = λ _ facts ifid dir packet.
