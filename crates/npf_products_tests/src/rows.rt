@@ -68,8 +68,8 @@ fn dead(alloc: Global, config: &Config) -> Result<String> {
         return Ok(String::from_str(alloc, "wrong")?);
     }
     let mut text = String::new(alloc);
-    for entry in in_order(alloc, config.model().groups.as_slice())? {
-        let number = entry.place.saturating_add(1);
+    let count = in_order(alloc, config.model().groups.as_slice())?.len();
+    for number in 1..=count {
         if !reached.contains(&number) {
             write!(text, "{number} ")?;
         }
