@@ -134,11 +134,15 @@ fn grid(alloc: Global, rest: &str) -> Result<String> {
         grid_text(alloc, count.parse()?, left_out.parse()?)?.as_str(),
     )?;
     let last = in_order(alloc, config.model().groups.as_slice())?.len();
-    let answer = match reached(alloc, &config, &mut Steps::new(steps.parse()?)) {
-        Err(Stopped::Spent) => "spent",
+    let reached = match reached(alloc, &config, &mut Steps::new(steps.parse()?)) {
+        Err(Stopped::Spent) => return Ok(String::from_str(alloc, "spent")?),
         Err(stopped) => return Err(stopped.into()),
-        Ok(reached) if reached.contains(&last) => "reached",
-        Ok(_) => "dead",
+        Ok(reached) => reached,
+    };
+    let answer = if reached.contains(&last) {
+        "reached"
+    } else {
+        "dead"
     };
     Ok(String::from_str(alloc, answer)?)
 }
