@@ -18,7 +18,7 @@ loop-kind-preserved c =
     let parts = c.loop-kind.parts.items in
     let P : Part → Type 0 = λ it. IsKindOf tables products it.cells.now in
     let own : IsKindOf tables products one = subst (IsKindOf tables products) (sym c.kind-item.is)
-        (All-get_or (IsKindOf tables products) cells i one c.loop-kind-test.true c.requires.each) in
+    (All-get_or (IsKindOf tables products) cells i one c.loop-kind-test.true c.requires.each) in
     let here : P part = subst (IsKindOf tables products) (sym c.in_ok-new.ensures.cells) own in
     record {
       of = subst (All P) (sym c.in_ok-push.ensures.items) (All-push P parts part c.loop-kind.invariant.of here);
