@@ -5,7 +5,8 @@
 // `finding` finds what a name names. `entries` changes a table; `addition` and `removal` change a ruleset: `reading` reads a rule's
 // text, `limit` counts for the limits, `change` says what becomes of the rules, in a copy of the model, `programs` keeps the
 // programs of those that stay, and `next` lays both out. `shared` shares the tables. `laws`: each change comes to one answer. A
-// configuration that takes over rules (npf_config_reload) finds tables, counts elements and shares tables by the same calls.
+// configuration that takes over rules (npf_config_reload) finds tables, counts elements and shares tables by the same calls,
+// and a class of packets is read by those of `text`.
 //
 // The contract in words: a change gives exactly the configuration that specs/Entries, specs/Additions and specs/Changes say, in which
 // all else is as it was, or is refused for the first of its stages that has a fault; want of memory says nothing.
@@ -30,3 +31,4 @@ pub use fault::ChangeFault;
 pub use limit::model_elements;
 pub use removal::{rule_flush, rule_rem};
 pub use ruleset::table_place;
+pub use text::{mean_rule, read_rule};

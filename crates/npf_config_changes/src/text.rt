@@ -13,8 +13,8 @@ use npf_syntax::RuleTree;
 use npf_types::limits::MAX_TEXT_BYTES;
 use std::alloc::Global;
 
-/// The tree of the one rule that the text is, or the first fault of its tokens or of the grammar.
-pub(crate) fn read_rule(alloc: Global, text: &[u8]) -> Result<RuleTree, ChangeFault>
+/// The tree of the one rule that the text is, of at most `MAX_TEXT_BYTES` bytes, or the first fault of its tokens or of the grammar.
+pub fn read_rule(alloc: Global, text: &[u8]) -> Result<RuleTree, ChangeFault>
     requires { length text.now ≤ MAX_TEXT_BYTES }
     ensures ok { IfOk result (λ tree. ReadsRule text.now (Ok tree)) }
     ensures err { IfErr result (EndsUnlessMemory (ReadsRule text.now)) }
@@ -23,8 +23,8 @@ pub(crate) fn read_rule(alloc: Global, text: &[u8]) -> Result<RuleTree, ChangeFa
     Ok(parse_rule(alloc, &tokens)?)
 }
 
-/// What the rule means, or the first fault of its meaning or of the checks.
-pub(crate) fn mean_rule(
+/// What the rule means beside the model, or the first fault of its meaning or of the checks.
+pub fn mean_rule(
     alloc: Global,
     tree: &RuleTree,
     model: &Model,

@@ -24,8 +24,8 @@ pub fn in_order<'a>(alloc: Global, groups: &'a [Group]) -> Result<Vec<RuleEntry<
     Ok(order)
 }
 
-// The rules of a group in the order of inspection, of which the first has this place.
-fn rules_of<'a>(
+/// The rules of a group in the order of inspection, of which the first has this place, counted from 0 in all groups.
+pub fn rules_of<'a>(
     alloc: Global,
     group: &'a Group,
     first: usize,

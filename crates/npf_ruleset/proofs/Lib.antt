@@ -5,6 +5,7 @@ mod DescribesLemmas
 mod FinalLemmas
 mod LayoutLemmas
 mod MatchLemmas
+pub mod MisfitLemmas
 mod NumberLemmas
 mod NumberedLemmas
 pub mod PairLemmas

@@ -4,6 +4,8 @@ pub mod Configuration
 pub mod Flat
 pub mod Invariant
 pub mod Layout
+pub mod Misfit
+pub mod MisfitLaw
 pub mod Numbered
 pub mod Packet
 pub mod Place

@@ -54,7 +54,8 @@ impl Binding {
     }
 }
 
-fn fits_dir(asked: Option<Dir>, dir: Dir) -> bool
+/// Whether the direction is the one that is asked for, or none is.
+pub fn fits_dir(asked: Option<Dir>, dir: Dir) -> bool
     ensures { result ≡ fits_dir asked dir }
 {
     match asked {
@@ -69,8 +70,8 @@ fn fit_dir(one: Option<Dir>, other: Option<Dir>, dir: Dir) -> bool
     fits_dir(one, dir) && fits_dir(other, dir)
 }
 
-// An interface that the run doesn't know, whose number is 0, is no packet's.
-fn fits_on(asked: Option<OnIf>, ifid: IfId) -> bool
+/// Whether the interface is the one that is asked for, or none is. One that the run doesn't know, whose number is 0, is no packet's.
+pub fn fits_on(asked: Option<OnIf>, ifid: IfId) -> bool
     ensures { result ≡ fits_on asked ifid }
 {
     match asked {

@@ -33,7 +33,7 @@ pub(crate) fn fits_family(v6: Option<bool>, addr: Addr) -> bool
     }
 }
 
-fn fits_protocol(protos: &[u8], proto: u8) -> bool
+pub(crate) fn fits_protocol(protos: &[u8], proto: u8) -> bool
     ensures { result ≡ fits_protocol protos.now proto }
 {
     protos.is_empty() || lists_protocol(protos, proto)
@@ -45,7 +45,12 @@ fn lists_protocol(protos: &[u8], proto: u8) -> bool
     protos.iter().any(|listed| *listed == proto)
 }
 
-fn fits_flags(flags: Option<(u8, u8)>, decision: Decision, state: StateOpt, l4: &L4) -> bool
+pub(crate) fn fits_flags(
+    flags: Option<(u8, u8)>,
+    decision: Decision,
+    state: StateOpt,
+    l4: &L4,
+) -> bool
     ensures { result ≡ fits_flags flags decision state l4.now }
 {
     match flags {
@@ -84,7 +89,7 @@ fn shows_flags(l4: &L4, wanted: u8, mask: u8) -> bool
     }
 }
 
-fn fits_icmp(asked: Option<(u8, Option<u8>)>, l4: &L4) -> bool
+pub(crate) fn fits_icmp(asked: Option<(u8, Option<u8>)>, l4: &L4) -> bool
     ensures { result ≡ fits_icmp asked l4.now }
 {
     match (asked, l4) {
@@ -114,7 +119,7 @@ fn fits_ends(ends: &Ends, tables: &[Arc<Table>], addr: Addr, port: Option<u16>) 
     fits_addrs(ends, tables, addr) && fits_ports(&ends.ports, port)
 }
 
-fn fits_addrs(ends: &Ends, tables: &[Arc<Table>], addr: Addr) -> bool
+pub(crate) fn fits_addrs(ends: &Ends, tables: &[Arc<Table>], addr: Addr) -> bool
     ensures { result ≡ fits_addrs ends.now.excluded ends.now.addrs (entries tables.now) addr }
 {
     match &ends.addrs {
@@ -152,7 +157,7 @@ fn item_has(item: &AddrItem, tables: &[Arc<Table>], addr: Addr) -> bool
     }
 }
 
-fn fits_ports(ports: &Option<List<(u16, u16)>>, port: Option<u16>) -> bool
+pub(crate) fn fits_ports(ports: &Option<List<(u16, u16)>>, port: Option<u16>) -> bool
     ensures { result ≡ fits_ports ports.now port }
 {
     match (ports, port) {

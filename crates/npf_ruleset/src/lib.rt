@@ -12,8 +12,11 @@
 // others downwards, so that the first match ends it (npf.conf(5), "Groups" and "Rules"). A group
 // that doesn't apply is one step.
 //
+// Why a rule doesn't match a packet `misfit` tells: the first of its parts that the packet doesn't fit.
+//
 // The contract in words: a walk gives the place of the rule that decides on the packet by the
-// configuration's meaning, and none exactly where no rule matches. Each program is valid. A
+// configuration's meaning, and none exactly where no rule matches; and no part of a rule is told as
+// unfit exactly where the rule matches. Each program is valid. A
 // configuration is refused exactly for its first rule whose weight passes 4,096, or else exactly
 // where the instructions of all its programs pass 524,288, with their number.
 #![tactic(auto)]
@@ -30,6 +33,7 @@ mod fault;
 mod flat;
 mod layout;
 mod map_choice;
+mod misfit;
 mod numbers;
 mod packet;
 mod place;
@@ -39,10 +43,12 @@ mod row;
 mod tables;
 mod walks;
 
+pub use binding::{fits_dir, fits_on};
 pub use builder::{assemble, build, instructions};
 pub use config::Config;
 pub use fault::BuildFault;
 pub use flat::FlatRule;
 pub use map_choice::map_for;
-pub use place::count_of;
+pub use misfit::{Part, applies_without_misfit, map_misfit, matches_without_misfit, rule_misfit};
+pub use place::{Placed, count_of};
 pub use walks::walk;

@@ -36,13 +36,13 @@ fn applies(map: &Map, tables: &[Arc<Table>], facts: &Facts, ifid: IfId, dir: Dir
         && fits_segment(map, facts, dir)
 }
 
-fn is_on(on: &OnIf, ifid: IfId) -> bool
+pub(crate) fn is_on(on: &OnIf, ifid: IfId) -> bool
     ensures { result ≡ is_on on.now ifid }
 {
     on.id == ifid && on.id != IfId::UNKNOWN
 }
 
-fn fits_protocol(asked: Option<u8>, proto: u8) -> bool
+pub(crate) fn fits_protocol(asked: Option<u8>, proto: u8) -> bool
     ensures { result ≡ fits_map_protocol asked proto }
 {
     match asked {
@@ -73,7 +73,7 @@ fn fits_segment(map: &Map, facts: &Facts, dir: Dir) -> bool
     }
 }
 
-fn goes_outside(arrow: Arrow) -> bool
+pub(crate) fn goes_outside(arrow: Arrow) -> bool
     ensures { result ≡ goes_outside arrow }
 {
     match arrow {
@@ -82,7 +82,7 @@ fn goes_outside(arrow: Arrow) -> bool
     }
 }
 
-fn comes_inside(arrow: Arrow) -> bool
+pub(crate) fn comes_inside(arrow: Arrow) -> bool
     ensures { result ≡ comes_inside arrow }
 {
     match arrow {

@@ -17,10 +17,10 @@ pub(crate) struct RulePlace {
 
 /// A rule at its place, with the direction and the interface of its ruleset.
 #[derive(Clone, Copy)]
-pub(crate) struct Placed<'a> {
-    pub(crate) within_dir: Option<Dir>,
-    pub(crate) within_on: Option<OnIf>,
-    pub(crate) rule: &'a Rule,
+pub struct Placed<'a> {
+    pub within_dir: Option<Dir>,
+    pub within_on: Option<OnIf>,
+    pub rule: &'a Rule,
 }
 
 pub(crate) fn placed_at(groups: &[Group], place: RulePlace) -> Placed<'_>

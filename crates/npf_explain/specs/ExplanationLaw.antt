@@ -1,0 +1,1 @@
+-- What an explanation says is so, and all that is so is said.

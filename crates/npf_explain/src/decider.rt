@@ -1,0 +1,46 @@
+// The rule that decides on a packet.
+ghost use Rattle.std.specs.Prelude.{◌≡◌, IfOk, find};
+ghost use Rattle.npf_model.specs.Configuration.{verdict_of};
+ghost use Rattle.npf_ruleset.specs.Configuration.{configuration};
+ghost use Rattle.npf_explain.specs.Asked.{HasTablesOf, entry_decider, entry_meets};
+ghost use Rattle.npf_explain.specs.Explanation.{decider_of};
+ghost use Rattle.std.specs.Option.{option_map};
+
+use crate::asked::Asked;
+use npf_precedence::{RuleEntry, in_order};
+use npf_ruleset::Config;
+use npf_types::NoMemory;
+use std::alloc::Global;
+
+/// The place of a rule that decides, and whether it is `final`.
+#[derive(Clone, Copy, Debug, PartialEq, Eq)]
+pub(crate) struct Decider {
+    pub(crate) place: usize,
+    pub(crate) last: bool,
+}
+
+pub(crate) fn decider(
+    alloc: Global,
+    config: &Config,
+    asked: &Asked<'_>,
+) -> Result<Option<Decider>, NoMemory>
+    requires { HasTablesOf config.now asked.now }
+    ensures { IfOk result (λ found. found ≡ decider_of config.now.model (verdict_of (configuration config.now) asked.now.facts.now asked.now.ifid asked.now.dir)) }
+{
+    let order = in_order(alloc, config.model().groups.as_slice())?;
+    Ok(first_match(order.as_slice(), asked))
+}
+
+fn first_match(order: &[RuleEntry<'_>], asked: &Asked<'_>) -> Option<Decider>
+    ensures { result ≡ option_map entry_decider (find (entry_meets asked.now) order.now) }
+{
+    for entry in order {
+        if asked.meets(entry) {
+            return Some(Decider {
+                place: entry.place,
+                last: entry.rule.last,
+            });
+        }
+    }
+    None
+}

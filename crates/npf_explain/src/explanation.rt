@@ -1,0 +1,43 @@
+// What a configuration says of a packet.
+ghost use Rattle.std.specs.Prelude.{◌≡◌, IfOk};
+ghost use Rattle.npf_ruleset.specs.Configuration.{configuration};
+ghost use Rattle.npf_explain.specs.Explanation.{explanation};
+
+use crate::asked::Asked;
+use crate::decider::decider;
+use crate::maps::maps_told;
+use crate::rules::groups_told;
+use crate::told::Explanation;
+use npf_ruleset::{Config, map_for};
+use npf_types::{Dir, Facts, IfId, List, NoMemory};
+use std::alloc::Global;
+
+/// What the configuration says of a packet with these facts that passes there: of each group and each rule in the order of inspection, and of each
+/// map in the order of the text.
+pub fn explain(
+    alloc: Global,
+    config: &Config,
+    facts: &Facts,
+    ifid: IfId,
+    dir: Dir,
+) -> Result<Explanation, NoMemory>
+    ensures { IfOk result (λ told. told ≡ explanation (configuration config.now) facts.now ifid dir) }
+{
+    let asked = Asked {
+        tables: config.tables(),
+        facts,
+        ifid,
+        dir,
+    };
+    let model = config.model();
+    let decider = decider(alloc, config, &asked)?;
+    let groups = groups_told(alloc, model.groups.as_slice(), &asked, decider)?;
+    let map = map_for(config, facts, &[], ifid, dir);
+    let maps = maps_told(alloc, model.maps.as_slice(), &asked, map)?;
+    Ok(Explanation {
+        decider: decider.map(|decider| decider.place),
+        groups: List::of_vec(groups),
+        map,
+        maps: List::of_vec(maps),
+    })
+}
