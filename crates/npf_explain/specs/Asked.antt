@@ -24,8 +24,5 @@ entry_misfit asked entry = rule_misfit (ordered_rule entry).placed (entries aske
 abbrev pub entry_meets : Asked → RuleEntry → Bool
 entry_meets asked entry = meets (entries asked.tables.now) asked.facts.now asked.ifid asked.dir (ordered_rule entry)
 
-abbrev pub entry_decider : RuleEntry → Decider
-entry_decider entry = record { place = entry.place; last = entry.rule.now.last }
-
 abbrev pub entry_told : Asked → Option Decider → GroupTold → RuleEntry → RuleTold
 entry_told asked decider group entry = rule_told (entries asked.tables.now) asked.facts.now asked.ifid asked.dir decider group (ordered_rule entry)

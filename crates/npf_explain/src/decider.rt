@@ -2,9 +2,8 @@
 ghost use Rattle.std.specs.Prelude.{◌≡◌, IfOk, find};
 ghost use Rattle.npf_model.specs.Configuration.{verdict_of};
 ghost use Rattle.npf_ruleset.specs.Configuration.{configuration};
-ghost use Rattle.npf_explain.specs.Asked.{HasTablesOf, entry_decider, entry_meets};
+ghost use Rattle.npf_explain.specs.Asked.{HasTablesOf, entry_meets};
 ghost use Rattle.npf_explain.specs.Explanation.{decider_of};
-ghost use Rattle.std.specs.Option.{option_map};
 
 use crate::asked::Asked;
 use npf_precedence::{RuleEntry, in_order};
@@ -19,7 +18,7 @@ pub(crate) struct Decider {
     pub(crate) last: bool,
 }
 
-pub(crate) fn decider(
+pub(crate) fn find_decider(
     alloc: Global,
     config: &Config,
     asked: &Asked<'_>,
@@ -28,19 +27,17 @@ pub(crate) fn decider(
     ensures { IfOk result (λ found. found ≡ decider_of config.now.model (verdict_of (configuration config.now) asked.now.facts.now asked.now.ifid asked.now.dir)) }
 {
     let order = in_order(alloc, config.model().groups.as_slice())?;
-    Ok(first_match(order.as_slice(), asked))
+    match first_match(order.as_slice(), asked) {
+        Some(entry) => Ok(Some(Decider {
+            place: entry.place,
+            last: entry.rule.last,
+        })),
+        None => Ok(None),
+    }
 }
 
-fn first_match(order: &[RuleEntry<'_>], asked: &Asked<'_>) -> Option<Decider>
-    ensures { result ≡ option_map entry_decider (find (entry_meets asked.now) order.now) }
+fn first_match<'a>(order: &[RuleEntry<'a>], asked: &Asked<'_>) -> Option<RuleEntry<'a>>
+    ensures { result ≡ find (entry_meets asked.now) order.now }
 {
-    for entry in order {
-        if asked.meets(entry) {
-            return Some(Decider {
-                place: entry.place,
-                last: entry.rule.last,
-            });
-        }
-    }
-    None
+    order.iter().copied().find(|entry| asked.meets(entry))
 }

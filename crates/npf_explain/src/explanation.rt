@@ -1,10 +1,12 @@
 // What a configuration says of a packet.
 ghost use Rattle.std.specs.Prelude.{◌≡◌, IfOk};
+ghost use Rattle.std.specs.Option.{option_map};
 ghost use Rattle.npf_ruleset.specs.Configuration.{configuration};
+ghost use Rattle.npf_explain.specs.declared.decider.Decider.{Decider};
 ghost use Rattle.npf_explain.specs.Explanation.{explanation};
 
 use crate::asked::Asked;
-use crate::decider::decider;
+use crate::decider::{Decider, find_decider};
 use crate::maps::maps_told;
 use crate::rules::groups_told;
 use crate::told::Explanation;
@@ -30,14 +32,23 @@ pub fn explain(
         dir,
     };
     let model = config.model();
-    let decider = decider(alloc, config, &asked)?;
+    let decider = find_decider(alloc, config, &asked)?;
     let groups = groups_told(alloc, model.groups.as_slice(), &asked, decider)?;
     let map = map_for(config, facts, &[], ifid, dir);
     let maps = maps_told(alloc, model.maps.as_slice(), &asked, map)?;
     Ok(Explanation {
-        decider: decider.map(|decider| decider.place),
+        decider: place_of(decider),
         groups: List::of_vec(groups),
         map,
         maps: List::of_vec(maps),
     })
+}
+
+fn place_of(decider: Option<Decider>) -> Option<usize>
+    ensures { result ≡ option_map (λ (d : Decider). d.place) decider }
+{
+    match decider {
+        Some(decider) => Some(decider.place),
+        None => None,
+    }
 }

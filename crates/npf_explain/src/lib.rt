@@ -13,9 +13,13 @@
 mod asked;
 mod decider;
 mod explanation;
+mod laws;
 mod maps;
 mod rules;
 mod told;
 
 pub use explanation::explain;
+pub use laws::{
+    decides_exactly, map_applies_exactly, misfits_exactly, overridden_exactly, reached_exactly,
+};
 pub use told::{Explanation, GroupTold, MapTold, RuleTold, ToldGroup, Unasked};

@@ -30,6 +30,10 @@ never : (a : Bool) → (a && false) ≡ false
 never true = refl
 never false = refl
 
+never_first : (a x : Bool) → (a && false && x) ≡ false
+never_first true x = refl
+never_first false x = refl
+
 never_behind : (a b c : Bool) → (a && b && c && false) ≡ false
 never_behind false b c = refl
 never_behind true false c = refl
@@ -64,7 +68,7 @@ out_parts : (w on pr f p fl i s sp t tp net port : Bool)
     → (on && pr && (f && p && fl && i && (s && sp) && (t && tp)) && (w && (net && port))) ≡ fits_all (w && true) (on && true) f (pr && p) fl i (net && s) (port && sp) t tp
 out_parts false on pr f p fl i s sp t tp net port = never_behind on pr (f && p && fl && i && (s && sp) && (t && tp))
 out_parts true false pr f p fl i s sp t tp net port = refl
-out_parts true true pr false p fl i s sp t tp net port = never pr
+out_parts true true pr false p fl i s sp t tp net port = never_first pr (net && port)
 out_parts true true false true p fl i s sp t tp net port = refl
 out_parts true true true true false fl i s sp t tp net port = refl
 out_parts true true true true true false i s sp t tp net port = refl
@@ -81,7 +85,7 @@ in_parts : (w on pr f p fl i s sp t tp net port : Bool)
     → (on && pr && (f && p && fl && i && (s && sp) && (t && tp)) && (w && (net && port))) ≡ fits_all (w && true) (on && true) f (pr && p) fl i s sp (net && t) (port && tp)
 in_parts false on pr f p fl i s sp t tp net port = never_behind on pr (f && p && fl && i && (s && sp) && (t && tp))
 in_parts true false pr f p fl i s sp t tp net port = refl
-in_parts true true pr false p fl i s sp t tp net port = never pr
+in_parts true true pr false p fl i s sp t tp net port = never_first pr (net && port)
 in_parts true true false true p fl i s sp t tp net port = refl
 in_parts true true true true false fl i s sp t tp net port = refl
 in_parts true true true true true false i s sp t tp net port = refl

@@ -59,10 +59,7 @@ pub fn rule_misfit(
 ) -> Option<Part>
     ensures { result ≡ rule_misfit (placed_rule placed.now) (entries tables.now) facts.now ifid dir }
 {
-    Part::ALL
-        .iter()
-        .copied()
-        .find(|part| !fits_rule_part(placed, tables, facts, ifid, dir, *part))
+    Part::ALL.iter().copied().find(|part| !fits_rule_part(placed, tables, facts, ifid, dir, *part))
 }
 
 fn fits_rule_part(
@@ -109,10 +106,7 @@ pub fn map_misfit(
 ) -> Option<Part>
     ensures { result ≡ map_misfit map.now (entries tables.now) facts.now ifid dir }
 {
-    Part::ALL
-        .iter()
-        .copied()
-        .find(|part| !fits_map_part(map, tables, facts, ifid, dir, *part))
+    Part::ALL.iter().copied().find(|part| !fits_map_part(map, tables, facts, ifid, dir, *part))
 }
 
 fn fits_map_part(
@@ -128,12 +122,7 @@ fn fits_map_part(
     fits_own_part(map, facts, ifid, dir, part) && fits_filter_part(&map.filter, tables, facts, part)
 }
 
-fn fits_filter_part(
-    filter: &Option<Rule>,
-    tables: &[Arc<Table>],
-    facts: &Facts,
-    part: Part,
-) -> bool
+fn fits_filter_part(filter: &Option<Rule>, tables: &[Arc<Table>], facts: &Facts, part: Part) -> bool
     ensures { result ≡ fits_filter_part filter.now (entries tables.now) facts.now part }
 {
     match filter {

@@ -1,0 +1,4 @@
+mod DeciderLemmas
+mod FoundLemmas
+mod GroupLemmas
+mod LawLemmas
