@@ -418,19 +418,22 @@ module _ (config : Configuration) (facts : Facts) (ifid : IfId) (dir : Dir) (fro
       ap (option_map (λ (told : ToldGroup). told.told)) told_group_is ∙ rw before refl
 
 pub decides_exactly_lem : DecidesExactly
-decides_exactly_lem config facts ifid dir front group k placed has =
-    (told_decides config facts ifid dir front group has.within.behind has.within.are k placed has.rule,
-    decides_told config facts ifid dir front group has.within.behind has.within.are k placed has.rule)
+decides_exactly_lem config facts ifid dir front group k placed has = (
+  told_decides config facts ifid dir front group has.within.behind has.within.are k placed has.rule,
+  decides_told config facts ifid dir front group has.within.behind has.within.are k placed has.rule,
+)
 
 pub overridden_exactly_lem : OverriddenExactly
-overridden_exactly_lem config facts ifid dir front group k placed by has =
-    (told_overridden config facts ifid dir front group has.within.behind has.within.are k placed has.rule by,
-    overridden_told config facts ifid dir front group has.within.behind has.within.are k placed has.rule by)
+overridden_exactly_lem config facts ifid dir front group k placed by has = (
+  told_overridden config facts ifid dir front group has.within.behind has.within.are k placed has.rule by,
+  overridden_told config facts ifid dir front group has.within.behind has.within.are k placed has.rule by,
+)
 
 pub misfits_exactly_lem : MisfitsExactly
-misfits_exactly_lem config facts ifid dir front group k placed part has =
-    (told_misfits config facts ifid dir front group has.within.behind has.within.are k placed has.rule part,
-    misfits_told config facts ifid dir front group has.within.behind has.within.are k placed has.rule part)
+misfits_exactly_lem config facts ifid dir front group k placed part has = (
+  told_misfits config facts ifid dir front group has.within.behind has.within.are k placed has.rule part,
+  misfits_told config facts ifid dir front group has.within.behind has.within.are k placed has.rule part,
+)
 
 pub reached_exactly_lem : ReachedExactly
 reached_exactly_lem config facts ifid dir front group has =
