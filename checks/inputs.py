@@ -95,7 +95,7 @@ def conf(rng):
         f'table <t> type {rng.choice(["ipset", "lpm", "const"])} file "t.txt"', "table <u> type lpm",
         'procedure "proc" { ' + rng.choice(["log: npflog0", 'normalize: "min-ttl" 64, "max-mss" 1000, "no-df"', 'log: npflog0; normalize: "no-df"']) + " }",
         *rng.sample(['alg "icmp"', "set state.tcp.strict_order_rst on", "set state.key.interface off", "set bpf.jit on", "set portmap.min_port 40000",
-                      "set portmap.max_port 50000", "set ip6.reassembly on"], rng.randint(0, 4)),
+                      "set portmap.max_port 50000", "set ip6.reassembly on", "set state.tcp.timeout.half_close 7", "set state.generic.timeout.new 4294967"], rng.randint(0, 4)),
         *(map_statement(rng) for _ in range(rng.randint(0, 3))),
     ]
     for number in range(rng.randint(0, 2)):

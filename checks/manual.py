@@ -32,7 +32,7 @@ OUTCOME = re.compile(
 REPORT_LINE = re.compile(rb"(\d+) [A-Za-z][A-Za-z0-9._-]{0,14} (?:in|out) (.*)")
 TOTAL = "packets {} pass {} block {} drop {} skip {} malformed {}\n"
 WRITTEN_HEADER = struct.pack("<IHHiIII", 0xA1B23C4D, 2, 4, 0, 0, 262144, 101)
-SAVED_LINE = re.compile(rb"conn ([0-9a-f.]{84}) (?:-|[0-9a-f.]{84}) (?:-|[0-9a-f.]{84}) \S+ \d+ \S+ \S+ \S+\n")
+SAVED_LINE = re.compile(rb"conn ([0-9a-f.]{84}) (?:-|[0-9a-f.]{84}) (?:-|[0-9a-f.]{84}) \S+ \d+ \S+ \S+ \S+(?: timeouts(?: \d+){7})?\n")
 
 
 def page(name):

@@ -6,6 +6,21 @@
 # Where a fault is told, `said` is its line without the program's name. The script sets `page5` and `page8`, the files of the manual pages.
 # shellcheck disable=SC2034,SC2154 # words.bash has what reads and sets the rest
 
+# Behind a fault of a configuration what `why` says of it below its line, where its file and that of the interfaces can be read again. The fault
+# of a run whose captures bring interfaces of their own may be another.
+tell_why() {
+  local status=$1 said program=$3 command=${4-} conf files ifaces load write workers spread wrong
+  said=$(cat "$2")
+  shift 3
+  [ "$status" -eq 3 ] && [ "$command" != why ] && [[ ${said#npfctl: } =~ ^(.*):[0-9]+:[0-9]+:' ' ]] || return 0
+  conf=${BASH_REMATCH[1]}
+  read_words "$@"
+  [ "$conf" != "$ifaces" ] || conf=${files[0]}
+  [ -f "$conf" ] && [ -f "${ifaces:-$conf}" ] || return 0
+  "$program" why ${ifaces:+"--ifaces=$ifaces"} -- "$conf" 2>/dev/null |
+    line=$said awk 'NR == 1 && $0 != ENVIRON["line"] { exit } NR > 1' >&2
+}
+
 # Some bytes of a file in hexadecimal, from a place on. Pipes and devices aren't read again.
 bytes_of() {
   [ ! -f "$1" ] || od -An -v -tx1 -j "$2" -N "$3" -- "$1" 2>/dev/null | tr -d ' \n'

@@ -53,7 +53,7 @@ near_options() {
 
 is_command() {
   case $1 in
-    run | validate | show | debug | gen) ;;
+    run | validate | show | debug | why | gen) ;;
     *) return 1 ;;
   esac
 }
@@ -63,7 +63,7 @@ ask_for_help() {
   local word
   case ${1-} in
     help | --help | -h) return ;;
-    run | validate | show | debug | gen | version | install) ;;
+    run | validate | show | debug | why | gen | version | install) ;;
     *) return 1 ;;
   esac
   for word in "${@:2}"; do
@@ -197,6 +197,7 @@ hint_command() {
     check | test | verify | -n | -f | -nf) other='validate says whether a configuration is accepted, and run what becomes of packets' ;;
     replay | simulate | trace | read | -r) other='run says what becomes of the packets of captures' ;;
     print | dump | rules) other='show prints what a configuration means' ;;
+    explain | hint | hints | lint) other='why says what is wrong with a configuration' ;;
     diff | compare) other='npfctl(8), EXAMPLES, compares what two configurations do to the same packets' ;;
   esac
   if [ -n "$here" ]; then
@@ -209,7 +210,7 @@ hint_command() {
   elif [[ $1 == -* ]]; then
     hint "there is no command $word: options stand behind the command, as in npfctl run CONF SCRIPT --ifaces FILE"
   else
-    near=$(nearest "$1" run validate show debug gen help version install)
+    near=$(nearest "$1" run validate show debug why gen help version install)
     hint "there is no command $word${near:+; the nearest is $near}"
   fi
   hint 'npfctl help has the commands'

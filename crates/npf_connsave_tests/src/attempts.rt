@@ -1,7 +1,7 @@
 // Packets of UDP as rows have them.
 use anyhow::{Context, Result};
 use npf_engine_opening::Attempt;
-use npf_flow::FlowArg;
+use npf_flow::{FlowArg, FlowSettings};
 use npf_nat::MapPlan;
 use npf_types::{Action, Addr, Change, Facts, IfId, L4};
 
@@ -56,7 +56,7 @@ pub fn attempt_of(text: &str) -> Result<Attempt> {
             seg: None,
             peek: false,
         },
-        strict: false,
+        settings: FlowSettings::DEFAULT,
         action: NO_ACTION,
         plan,
     })

@@ -2,9 +2,10 @@
 
 use crate::segments::{nothing_seen, parse_phase};
 use crate::words::{parse_segment, parse_way};
-use anyhow::{Result, anyhow};
+use anyhow::{Context, Result, anyhow};
 use npf_core::Law;
-use npf_flow::{Flow, FlowArg, FlowKind, FlowLaw, FlowReply, due, open_flow};
+use npf_flow::{Flow, FlowArg, FlowKind, FlowLaw, FlowReply, FlowSettings, due, open_flow};
+use npf_timeouts::{Timeout, Timeouts};
 use npf_types::{Action, Addr, Change, End, Segment, Way};
 use std::alloc::Global;
 
@@ -41,22 +42,42 @@ const ACTION: Action = Action {
     log: None,
 };
 
+/// What a configuration says that asks for resets in order.
+const STRICT: FlowSettings = FlowSettings {
+    strict: true,
+    ..FlowSettings::DEFAULT
+};
+
+/// The timeouts, as a row has them.
+const TIMEOUTS: [Timeout; 7] = [
+    Timeout::TcpNew,
+    Timeout::TcpEstablished,
+    Timeout::TcpHalfClose,
+    Timeout::TcpTimeWait,
+    Timeout::TcpClose,
+    Timeout::OtherNew,
+    Timeout::OtherEstablished,
+];
+
 pub fn answer(alloc: Global, flow: &mut Flow, words: &[&str]) -> Result<String> {
     match *words {
         ["open", "strict", ref packet @ ..] => {
-            *flow = opened_flow(parse_arg(packet)?, true);
+            *flow = opened_flow(parse_arg(packet)?, STRICT);
             kind_text(alloc, flow)
         }
         ["open", ref packet @ ..] => {
-            *flow = opened_flow(parse_arg(packet)?, false);
+            *flow = opened_flow(parse_arg(packet)?, FlowSettings::DEFAULT);
             kind_text(alloc, flow)
         }
-        ["due", kind, ref times @ ..] => {
-            let flow = Flow {
-                kind: parse_kind(kind)?,
-                ..opened_flow(bare_packet(100 * SECOND), false)
+        ["due", "under", seconds, kind, ref times @ ..] => {
+            let settings = FlowSettings {
+                timeouts: parse_timeouts(seconds)?,
+                ..FlowSettings::DEFAULT
             };
-            due_text(alloc, &flow, times)
+            due_text(alloc, &flow_of(kind, settings)?, times)
+        }
+        ["due", kind, ref times @ ..] => {
+            due_text(alloc, &flow_of(kind, FlowSettings::DEFAULT)?, times)
         }
         ["peek", way, ref packet @ ..] => {
             let arg = FlowArg {
@@ -71,8 +92,29 @@ pub fn answer(alloc: Global, flow: &mut Flow, words: &[&str]) -> Result<String> 
 }
 
 /// The flow that packet 7 opens by this.
-pub fn opened_flow(arg: FlowArg, strict: bool) -> Flow {
-    open_flow(arg, strict, 7, THERE, BACK, ACTION)
+pub fn opened_flow(arg: FlowArg, settings: FlowSettings) -> Flow {
+    open_flow(arg, settings, 7, THERE, BACK, ACTION)
+}
+
+/// A flow of this kind, opened under these settings, whose last packet came at 100 s.
+fn flow_of(kind: &str, settings: FlowSettings) -> Result<Flow> {
+    Ok(Flow {
+        kind: parse_kind(kind)?,
+        ..opened_flow(bare_packet(100 * SECOND), settings)
+    })
+}
+
+/// Seven numbers of seconds, parted by commas.
+fn parse_timeouts(text: &str) -> Result<Timeouts> {
+    let mut seconds = text.split(',');
+    let mut times = Timeouts::DEFAULT;
+    for timeout in &TIMEOUTS {
+        times = times.with(
+            *timeout,
+            seconds.next().context("seven times")?.parse::<u32>()?,
+        );
+    }
+    Ok(times)
 }
 
 /// What a packet without a segment brings at this time.

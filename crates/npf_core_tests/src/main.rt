@@ -19,7 +19,7 @@ mod words;
 use anyhow::{Context, Result, anyhow};
 use datagrams::Talk;
 use flows::{bare_packet, opened_flow};
-use npf_flow::Flow;
+use npf_flow::{Flow, FlowSettings};
 use npf_oneturn_store::Store;
 use npf_tcp::{TcpPhase, TcpState};
 use segments::nothing_seen;
@@ -39,7 +39,7 @@ fn main(rt: HostRuntime) -> Result<()> {
     let alloc = rt.alloc();
     let mut machines = Machines {
         connection: nothing_seen(TcpPhase::Closed),
-        flow: opened_flow(bare_packet(0), false),
+        flow: opened_flow(bare_packet(0), FlowSettings::DEFAULT),
         store: Store::new(alloc, 0)?,
     };
     for (index, line) in BufReader::new(alloc, rt.reader())?.lines(alloc).enumerate() {

@@ -1,11 +1,11 @@
 -- What the program answers, by how the work on its words ended.
-use Rattle.std.proofs.{Common.{◌≡◌, ◌≢◌, ◌⊎◌, ◌∙◌, inl, inr, ℕ, false, List, [], refl, sym, ap, subst, arith}, lemmas.Bool.false≢true}
+use Rattle.std.proofs.{Common.{◌≡◌, ◌≢◌, ◌⊎◌, ⊎_elim, ◌∙◌, inl, inr, ℕ, false, List, [], refl, sym, ap, subst, arith}, lemmas.Bool.false≢true}
 use Rattle.npf_outside.specs.Sink.{Appends, SinkMoment}
 use Rattle.npf_ctl_messages.specs.declared.fault.CommandFault.{CommandFault}
 use Rattle.npf_ctl_messages.specs.declared.fault.CommandFault.TheVariants.{Usage, Configuration, Unread, Long, Saved, Capture, Line, Many, Unwritten, OutputUnwritten, NoMemory}
 use Rattle.npf_ctl_messages.specs.Message.{status_of_fault}
 use Rattle.npf_ctl_words.specs.CommandLine.{is_command_line}
-use Rattle.npf_ctl.specs.{Ends.{AnswersWords, SaysFault}, Faults.{ChangesNoFile, IsFaulted, IsUntouched, LeavesFiles, MeetsFault, PutsFront, PutsNothing}}
+use Rattle.npf_ctl.specs.{Ends.{AnswersWords, SaysFault}, Faults.{ChangesNoFile, IsFaulted, IsUntouched, LeavesFiles, MeetsFault, PutsFront, PutsNoText, PutsNothing, SaysWhy}}
 use Rattle.npf_ctl.{specs.{Run.Moment, Top.{HasStatus, DoesWords, IsQuiet, RanOutOfNodes}}, proofs.EndLemmas.reported_front}
 
 -- no fault has the status of work that was done
@@ -23,52 +23,63 @@ never_zero OutputUnwritten e = omega (arith, e)
 never_zero NoMemory e = omega (arith, e)
 
 module _ (words : List (List ℕ)) (before after : Moment) where
-  -- nothing or a front was put before any fault
-  pub put_before : (fault : CommandFault) → MeetsFault words before after fault → PutsNothing before after ⊎ PutsFront words before after
-  put_before _ (MeetsFault.in_words not untouched) = inl untouched.put
-  put_before _ (MeetsFault.in_run said comes untouched) = inl untouched.put
-  put_before _ (MeetsFault.in_nodes said named prepared lacks put same) = inl put
-  put_before _ (MeetsFault.in_loading said loaded comes untouched) = inl untouched.put
-  put_before _ (MeetsFault.in_workload said holds comes untouched) = inl untouched.put
-  put_before _ (MeetsFault.in_output rose same front) = inr front
+  -- nothing or a front was put before any fault, or what is said of one
+  pub put_before : (fault : CommandFault) → MeetsFault words before after fault →
+      (PutsNothing before after ⊎ PutsFront words before after) ⊎ ((why : CommandFault) × SaysWhy words before after why)
+  put_before _ (MeetsFault.in_words not untouched) = inl (inl untouched.put)
+  put_before _ (MeetsFault.in_run said comes untouched) = inl (inl untouched.put)
+  put_before _ (MeetsFault.in_nodes said named prepared lacks put same) = inl (inl put)
+  put_before _ (MeetsFault.in_loading said loaded plain comes untouched) = inl (inl untouched.put)
+  put_before _ (MeetsFault.in_workload said holds comes untouched) = inl (inl untouched.put)
+  put_before _ (MeetsFault.in_output rose same front) = inl (inr front)
   put_before _ (MeetsFault.in_writing {run = run} {plan = plan} {outputs = outputs} {outcomes = outcomes} fails reports passed) =
-      inr (reported_front words before after run plan fails.said outputs outcomes reports)
+      inl (inr (reported_front words before after run plan fails.said outputs outcomes reports))
   put_before _ (MeetsFault.in_saving {run = run} {plan = plan} {outputs = outputs} {outcomes = outcomes} fails passed) =
-      inr (reported_front words before after run plan fails.said outputs outcomes fails.reports)
-  put_before _ (MeetsFault.in_memory put kept) = put
+      inl (inr (reported_front words before after run plan fails.said outputs outcomes fails.reports))
+  put_before _ (MeetsFault.in_memory put kept) = inl put
+  put_before _ (MeetsFault.in_explaining {fault = fault} why) = inr (fault, why)
+  put_before _ (MeetsFault.in_saying {fault = fault} why) = inr (fault, why)
 
   -- nor did a file change before any, unless a write failed, or memory ran out between two, and then the status is 1
   pub leaves : (status : ℕ) (fault : CommandFault) → MeetsFault words before after fault → (fault ≡ NoMemory → status ≡ 1) → LeavesFiles words before after status
   leaves status _ (MeetsFault.in_words not untouched) memory = LeavesFiles.unchanged untouched.files
   leaves status _ (MeetsFault.in_run said comes untouched) memory = LeavesFiles.unchanged untouched.files
   leaves status _ (MeetsFault.in_nodes said named prepared lacks put same) memory = LeavesFiles.unchanged same
-  leaves status _ (MeetsFault.in_loading said loaded comes untouched) memory = LeavesFiles.unchanged untouched.files
+  leaves status _ (MeetsFault.in_loading said loaded plain comes untouched) memory = LeavesFiles.unchanged untouched.files
   leaves status _ (MeetsFault.in_workload said holds comes untouched) memory = LeavesFiles.unchanged untouched.files
   leaves status _ (MeetsFault.in_output rose same front) memory = LeavesFiles.unchanged same
   leaves status _ (MeetsFault.in_writing fails reports passed) memory = LeavesFiles.at_first fails
   leaves status _ (MeetsFault.in_saving fails passed) memory = LeavesFiles.at_second fails
   leaves status _ (MeetsFault.in_memory put kept) memory = subst (LeavesFiles words before after) (sym (memory refl)) kept
+  leaves status _ (MeetsFault.in_explaining why) memory = LeavesFiles.unchanged why.files
+  leaves status _ (MeetsFault.in_saying why) memory = LeavesFiles.unchanged why.files
 
-  -- with a quiet status nothing was put, no file changed, and the table of connections was asked nothing, unless it had no node
+  -- memory was wanting for a fault's line
+  wants_memory : (fault : CommandFault) → MeetsFault words before after fault → MeetsFault words before after NoMemory
+  wants_memory fault cause = ⊎_elim (λ put. MeetsFault.in_memory put (leaves 1 fault cause (λ e. refl))) (λ why. MeetsFault.in_saying why.1) (put_before fault cause)
+
+  -- with a quiet status no text was put, no file changed, and the table of connections was asked nothing, unless it had no node
   pub record StaysQuiet (status : ℕ) : Type 0 where
-    pub put : PutsNothing before after
+    pub put : PutsNoText words before after
     pub files : ChangesNoFile before after
     pub idle : (after.pass ≡ before.pass) ⊎ RanOutOfNodes before.pass after.pass status
 
   stays_quiet : {status : ℕ} → IsUntouched before after → StaysQuiet status
-  stays_quiet untouched = record { put = untouched.put; files = untouched.files; idle = inl untouched.idle }
+  stays_quiet untouched = record { put = inl untouched.put; files = untouched.files; idle = inl untouched.idle }
 
   quiet_by : (status : ℕ) (fault : CommandFault) → MeetsFault words before after fault → status ≡ status_of_fault fault → IsQuiet status → StaysQuiet status
   quiet_by status _ (MeetsFault.in_words not untouched) is quiet = stays_quiet untouched
   quiet_by status _ (MeetsFault.in_run said comes untouched) is quiet = stays_quiet untouched
   quiet_by status _ (MeetsFault.in_nodes said named prepared lacks put same) is quiet =
-      record { put = put; files = same; idle = inr (record { status_is = is; sweeps = lacks.lacks.2.sweeps }) }
-  quiet_by status _ (MeetsFault.in_loading said loaded comes untouched) is quiet = stays_quiet untouched
+      record { put = inl put; files = same; idle = inr (record { status_is = is; sweeps = lacks.lacks.2.sweeps }) }
+  quiet_by status _ (MeetsFault.in_loading said loaded plain comes untouched) is quiet = stays_quiet untouched
   quiet_by status _ (MeetsFault.in_workload said holds comes untouched) is quiet = stays_quiet untouched
   quiet_by status _ (MeetsFault.in_output rose same front) is quiet = absurd (quiet.2 is)
   quiet_by status _ (MeetsFault.in_writing fails reports passed) is quiet = absurd (quiet.2 is)
   quiet_by status _ (MeetsFault.in_saving fails passed) is quiet = absurd (quiet.2 is)
   quiet_by status _ (MeetsFault.in_memory put kept) is quiet = absurd (quiet.1 is)
+  quiet_by status _ (MeetsFault.in_explaining {fault = fault} why) is quiet = record { put = inr (fault, why); files = why.files; idle = inl why.idle }
+  quiet_by status _ (MeetsFault.in_saying why) is quiet = absurd (quiet.1 is)
 
   module _ (old new : SinkMoment) (status : ℕ) where
     -- what was said of a fault with its cause is an answer
@@ -78,7 +89,7 @@ module _ (words : List (List ℕ)) (before after : Moment) where
     said_fault fault cause (SaysFault.untold memory put) = AnswersWords.refused (record {
       fault = NoMemory;
       status_is = memory;
-      cause = MeetsFault.in_memory (put_before fault cause) (leaves 1 fault cause (λ e. refl));
+      cause = wants_memory fault cause;
       line = inr (record { memory = memory; put = put });
       flushed = λ not. absurd (not memory);
     })
@@ -107,9 +118,11 @@ module _ (words : List (List ℕ)) (before after : Moment) where
       by _ (MeetsFault.in_words not_either untouched) is = inl is
       by _ (MeetsFault.in_run said comes untouched) is = absurd (false≢true (sym not ∙ said.taken))
       by _ (MeetsFault.in_nodes said named prepared lacks put same) is = absurd (false≢true (sym not ∙ said.taken))
-      by _ (MeetsFault.in_loading said loaded comes untouched) is = absurd (false≢true (sym not ∙ said.taken))
+      by _ (MeetsFault.in_loading said loaded plain comes untouched) is = absurd (false≢true (sym not ∙ said.taken))
       by _ (MeetsFault.in_workload said holds comes untouched) is = absurd (false≢true (sym not ∙ said.taken))
       by _ (MeetsFault.in_output rose same front) is = absurd (false≢true (sym not ∙ front.said.taken))
       by _ (MeetsFault.in_writing fails reports passed) is = absurd (false≢true (sym not ∙ fails.said.taken))
       by _ (MeetsFault.in_saving fails passed) is = absurd (false≢true (sym not ∙ fails.said.taken))
       by _ (MeetsFault.in_memory put kept) is = inr is
+      by _ (MeetsFault.in_explaining why) is = absurd (false≢true (sym not ∙ why.said.taken))
+      by _ (MeetsFault.in_saying why) is = inr is

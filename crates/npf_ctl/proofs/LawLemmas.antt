@@ -15,7 +15,7 @@ use Rattle.npf_ctl_words.specs.Laws.{IsSameCommand, IsSameLoad, IsSameRun, OneCo
 use Rattle.npf_ctl.specs.{Commands.{loaded_by, names_of_run, spread_said}, Generated.{HoldsWorkload, PreparesOf, generated_names}, Ends.AnswersWords}
 use Rattle.npf_ctl.specs.{Faults.{MeetsFault, PutsFront}, Run.{Moment, PlaysWords}, Starting.StartsRun, Texts.TextOf}
 use Rattle.npf_ctl.{specs.Top.{HasStatus, CanDo, DoesCommand, DoesWords, IsOk, MustRefuse, RanOutOfNodes}, proofs.EndLemmas.reported_front}
-use Rattle.npf_ctl.proofs.{OneStartLemmas.{HaveOneStatus, one_start, told_alike}, StartLemmas.{started, started_without, starts_of_contents}}
+use Rattle.npf_ctl.proofs.{ReasonLemmas.explained_loads, OneStartLemmas.{HaveOneStatus, one_start, told_alike}, StartLemmas.{started, started_without, starts_of_contents}}
 
 -- what a reading that came to something agrees with came to something
 ok_of : {A : Type 0} (Same : A → A → Type 0) (a : A) (result : Result A CommandFault) → AreOne Same HaveOneStatus (Ok a) result → IsOk result
@@ -54,7 +54,7 @@ module _ (words : List (List ℕ)) (before after : Moment) (A : Type 0) (ComesTo
       by other (MeetsFault.in_run said comes untouched) at = same other (is.runs said comes) at
       by _ (MeetsFault.in_nodes {run = run} {file = file} {plan = plan} said named prepared lacks put unchanged) at =
           never (is.nodes said (started_without (names_of_run run) (given_text run.load) file before.files after.files before.pass after.pass plan named prepared lacks))
-      by other (MeetsFault.in_loading said loaded comes untouched) at = same other (is.loads said loaded comes) at
+      by other (MeetsFault.in_loading said loaded plain comes untouched) at = same other (is.loads said loaded comes) at
       by other (MeetsFault.in_workload said holds comes untouched) at = same other (is.generated said holds comes) at
       by _ (MeetsFault.in_output rose unchanged front) at = never (is.front front)
       by _ (MeetsFault.in_writing {run = run} {plan = plan} {outputs = outputs} {outcomes = outcomes} fails reports passed) at =
@@ -62,6 +62,9 @@ module _ (words : List (List ℕ)) (before after : Moment) (A : Type 0) (ComesTo
       by _ (MeetsFault.in_saving {run = run} {plan = plan} {outputs = outputs} {outcomes = outcomes} fails passed) at =
           never (is.front (reported_front words before after run plan fails.said outputs outcomes fails.reports))
       by _ (MeetsFault.in_memory put kept) at = inr at
+      by other (MeetsFault.in_explaining why) at =
+          same other (is.loads why.said refl (explained_loads before.files after.files (given_text why.load.ifaces) why.load.conf.now other why.text why.explains)) at
+      by _ (MeetsFault.in_saying why) at = inr at
 
     -- no fault can be told, unless the table has no node for a connection that a run loads
     none : (Lacks : Type 0) → ((run : RunWords) → SaysCommand words (Words.Run run) → RanOutOfNodes before.pass after.pass status → Lacks) →
@@ -77,12 +80,15 @@ module _ (words : List (List ℕ)) (before after : Moment) (A : Type 0) (ComesTo
       by _ (MeetsFault.in_words not untouched) at = absurd (false≢true (sym not ∙ is.taken))
       by other (MeetsFault.in_run said comes untouched) at = absurd (can (Err other) (is.runs said comes))
       by _ (MeetsFault.in_nodes {run = run} said named prepared lacks put unchanged) at = inr (lacking run said (record { status_is = at; sweeps = lacks.lacks.2.sweeps }))
-      by other (MeetsFault.in_loading said loaded comes untouched) at = absurd (can (Err other) (is.loads said loaded comes))
+      by other (MeetsFault.in_loading said loaded plain comes untouched) at = absurd (can (Err other) (is.loads said loaded comes))
       by other (MeetsFault.in_workload said holds comes untouched) at = absurd (can (Err other) (is.generated said holds comes))
       by _ (MeetsFault.in_output rose same front) at = absurd (omega (arith, rose, puts.0, puts.1))
       by _ (MeetsFault.in_writing {run = run} fails reports passed) at = absurd (unfailed run fails.said fails.failed)
       by _ (MeetsFault.in_saving {run = run} fails passed) at = absurd (unfailed run fails.said fails.failed)
       by _ (MeetsFault.in_memory put kept) at = inl (inr at)
+      by other (MeetsFault.in_explaining why) at =
+          absurd (can (Err other) (is.loads why.said refl (explained_loads before.files after.files (given_text why.load.ifaces) why.load.conf.now other why.text why.explains)))
+      by _ (MeetsFault.in_saying why) at = inl (inr at)
 
 module _ (words : List (List ℕ)) (before after : Moment) (tree : Tree) (told : before.files.contents ≡ Some tree) (well : ReadsWell before.files after.files) (one : OneCommand) where
   module _ (of_runs : RunsAreOfContents) (of_files : FilesAreOfContents) (run : RunWords) (said : SaysCommand words (Words.Run run)) where
@@ -113,6 +119,7 @@ module _ (words : List (List ℕ)) (before after : Moment) (tree : Tree) (told :
     run_text _ _ said_b (TextOf.count {load = load} loads) = absurd (one words (Words.Run run) (Words.Validate load) said said_b)
     run_text _ _ said_b (TextOf.model {load = load} loads) = absurd (one words (Words.Run run) (Words.Show load) said said_b)
     run_text _ _ said_b (TextOf.programs {load = load} loads within) = absurd (one words (Words.Run run) (Words.Debug load) said said_b)
+    run_text _ _ said_b (TextOf.sound {load = load} loads) = absurd (one words (Words.Run run) (Words.Why load) said said_b)
     run_text _ _ said_b (TextOf.total {number = number} holds plays) = absurd (one words (Words.Run run) (Words.Gen number) said said_b)
 
     run_does : (command : Invocation) → SaysCommand words command → DoesCommand command before after → (plan : RunPlan) × OfRun (Ok plan)
@@ -120,6 +127,7 @@ module _ (words : List (List ℕ)) (before after : Moment) (tree : Tree) (told :
     run_does (Words.Validate load) said_b does = run_text _ _ said_b does.of
     run_does (Words.Show load) said_b does = run_text _ _ said_b does.of
     run_does (Words.Debug load) said_b does = run_text _ _ said_b does.of
+    run_does (Words.Why load) said_b does = run_text _ _ said_b does.of
     run_does (Words.Gen number) said_b does = run_text _ _ said_b does.of
 
     no_loads : {X : Type 0} (command : Invocation) (load : Load) → SaysCommand words command → loaded_by command ≡ Some load → X
@@ -127,6 +135,7 @@ module _ (words : List (List ℕ)) (before after : Moment) (tree : Tree) (told :
     no_loads (Words.Validate l) load said_b loaded = absurd (one words (Words.Run run) (Words.Validate l) said said_b)
     no_loads (Words.Show l) load said_b loaded = absurd (one words (Words.Run run) (Words.Show l) said said_b)
     no_loads (Words.Debug l) load said_b loaded = absurd (one words (Words.Run run) (Words.Debug l) said said_b)
+    no_loads (Words.Why l) load said_b loaded = absurd (one words (Words.Run run) (Words.Why l) said said_b)
     no_loads (Words.Gen number) load said_b loaded = cc
 
     run_told : IsToldBy words before after RunPlan OfRun
@@ -149,6 +158,7 @@ module _ (words : List (List ℕ)) (before after : Moment) (tree : Tree) (told :
     same_loaded (Words.Validate l) (Words.Validate m) same e other f = let p : l ≡ load = cc in let q : m ≡ other = cc in subst (λ x. IsSameLoad x other) p (subst (IsSameLoad l) q same)
     same_loaded (Words.Show l) (Words.Show m) same e other f = let p : l ≡ load = cc in let q : m ≡ other = cc in subst (λ x. IsSameLoad x other) p (subst (IsSameLoad l) q same)
     same_loaded (Words.Debug l) (Words.Debug m) same e other f = let p : l ≡ load = cc in let q : m ≡ other = cc in subst (λ x. IsSameLoad x other) p (subst (IsSameLoad l) q same)
+    same_loaded (Words.Why l) (Words.Why m) same e other f = let p : l ≡ load = cc in let q : m ≡ other = cc in subst (λ x. IsSameLoad x other) p (subst (IsSameLoad l) q same)
     same_loaded (Words.Run l) b same e other f = cc
     same_loaded (Words.Gen l) b same e other f = cc
     same_loaded _ _ same e other f = absurd same
@@ -169,6 +179,7 @@ module _ (words : List (List ℕ)) (before after : Moment) (tree : Tree) (told :
       by (Words.Validate l) (Words.Validate m) same e f = cc
       by (Words.Show l) (Words.Show m) same e f = cc
       by (Words.Debug l) (Words.Debug m) same e f = cc
+      by (Words.Why l) (Words.Why m) same e f = cc
       by _ _ same e f = absurd same
 
     load_text : (b : Invocation) (text : List ℕ) → SaysCommand words b → TextOf before after b text → (config : Configuration) × OfLoad (Ok config)
@@ -176,6 +187,7 @@ module _ (words : List (List ℕ)) (before after : Moment) (tree : Tree) (told :
     load_text _ _ said_b (TextOf.count {load = l} {config = config} loads) = (config, loads_so (Words.Validate l) l said_b refl (Ok config) loads.loads)
     load_text _ _ said_b (TextOf.model {load = l} {config = config} loads) = (config, loads_so (Words.Show l) l said_b refl (Ok config) loads.loads)
     load_text _ _ said_b (TextOf.programs {load = l} {config = config} loads within) = (config, loads_so (Words.Debug l) l said_b refl (Ok config) loads.loads)
+    load_text _ _ said_b (TextOf.sound {load = l} {config = config} loads) = (config, loads_so (Words.Why l) l said_b refl (Ok config) loads.loads)
     load_text _ _ said_b (TextOf.total {number = number} holds plays) = not_other (Words.Gen number) said_b refl
 
     load_does : (b : Invocation) → SaysCommand words b → DoesCommand b before after → (config : Configuration) × OfLoad (Ok config)
@@ -183,6 +195,7 @@ module _ (words : List (List ℕ)) (before after : Moment) (tree : Tree) (told :
     load_does (Words.Validate l) said_b does = load_text _ _ said_b does.of
     load_does (Words.Show l) said_b does = load_text _ _ said_b does.of
     load_does (Words.Debug l) said_b does = load_text _ _ said_b does.of
+    load_does (Words.Why l) said_b does = load_text _ _ said_b does.of
     load_does (Words.Gen number) said_b does = load_text _ _ said_b does.of
 
     load_told : IsToldBy words before after Configuration OfLoad
@@ -229,6 +242,7 @@ module _ (words : List (List ℕ)) (before after : Moment) (one : OneCommand) (n
     by (Words.Validate l) same not = absurd same
     by (Words.Show l) same not = absurd same
     by (Words.Debug l) same not = absurd same
+    by (Words.Why l) same not = absurd same
 
   holds_so : (other : ℕ) → SaysCommand words (Words.Gen other) → (held : Tree) → HoldsWorkload other held → HoldsWorkload number held
   holds_so other said_b held holds =
@@ -239,6 +253,7 @@ module _ (words : List (List ℕ)) (before after : Moment) (one : OneCommand) (n
   generated_text _ _ said_b (TextOf.count {load = load} loads) = no_other (Words.Validate load) said_b (λ other e. cc)
   generated_text _ _ said_b (TextOf.model {load = load} loads) = no_other (Words.Show load) said_b (λ other e. cc)
   generated_text _ _ said_b (TextOf.programs {load = load} loads within) = no_other (Words.Debug load) said_b (λ other e. cc)
+  generated_text _ _ said_b (TextOf.sound {load = load} loads) = no_other (Words.Why load) said_b (λ other e. cc)
   generated_text _ _ said_b (TextOf.total {number = other} {tree = held} {plan = plan} holds plays) = (plays.read, (held, holds_so other said_b held holds, plays.prepared))
 
   generated_does : (command : Invocation) → SaysCommand words command → DoesCommand command before after → (plan : RunPlan) × OfGenerated (Ok plan)
@@ -246,6 +261,7 @@ module _ (words : List (List ℕ)) (before after : Moment) (one : OneCommand) (n
   generated_does (Words.Validate load) said_b does = generated_text _ _ said_b does.of
   generated_does (Words.Show load) said_b does = generated_text _ _ said_b does.of
   generated_does (Words.Debug load) said_b does = generated_text _ _ said_b does.of
+  generated_does (Words.Why load) said_b does = generated_text _ _ said_b does.of
   generated_does (Words.Gen other) said_b does = generated_text _ _ said_b does.of
 
   not_loading : {X : Type 0} (command : Invocation) (load : Load) → SaysCommand words command → loaded_by command ≡ Some load → X

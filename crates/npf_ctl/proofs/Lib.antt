@@ -8,6 +8,7 @@ pub mod ListingLemmas
 pub mod LookLemmas
 pub mod OneStartLemmas
 pub mod ReadyLemmas
+pub mod ReasonLemmas
 pub mod RunLemmas
 pub mod SaveLemmas
 pub mod StartLemmas

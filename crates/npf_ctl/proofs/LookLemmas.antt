@@ -1,14 +1,21 @@
 -- Commands that only look at a configuration.
-use Rattle.std.proofs.Common.{◌≡◌, ℕ, List, Some, refl, sym, subst}
+use Rattle.std.proofs.Common.{◌≡◌, ℕ, false, List, Some, refl, sym, subst}
+use Rattle.npf_ctl_messages.specs.declared.fault.CommandFault.{CommandFault}
 use Rattle.npf_model.specs.Configuration.{Configuration}
 use Rattle.npf_ctl_words.specs.declared.command.Load.{Load}
 use Rattle.npf_ctl.specs.{declared.inspection.ConfigText.{ConfigText, TheVariants.{Count, Model, Programs}}, Commands.loaded_by}
-use Rattle.npf_ctl.specs.{Inspection.{IsLookText, looking_command}, Run.Moment, Texts.{IsLoadedFor, TextOf}, Top.{DoesCommand, PutsText}}
+use Rattle.npf_ctl.specs.{Inspection.{IsLookText, looking_command}, Reasons.is_explained, Run.Moment, Texts.{IsLoadedFor, TextOf}, Top.{DoesCommand, PutsText}}
 
 pub look_loads : (look : ConfigText) (load : Load) → loaded_by (looking_command look load) ≡ Some load
 look_loads Count load = refl
 look_loads Model load = refl
 look_loads Programs load = refl
+
+-- and explains nothing
+pub look_explains : (look : ConfigText) (load : Load) (fault : CommandFault) → is_explained (looking_command look load) fault ≡ false
+look_explains Count load fault = refl
+look_explains Model load fault = refl
+look_explains Programs load fault = refl
 
 module _ (before after : Moment) (load : Load) where
   pub look_does : (look : ConfigText) → PutsText (looking_command look load) before after → DoesCommand (looking_command look load) before after

@@ -24,6 +24,7 @@ use Rattle.npf_ctl_words.specs.CommandLine.{given_text}
 use Rattle.npf_ctl.specs.Commands.{spread_said}
 use Rattle.npf_ctl.specs.Faults.{IsFaulted, MeetsFault, PutsLine}
 use Rattle.npf_ctl.specs.Generated.{HoldsWorkload, PreparesOf}
+use Rattle.npf_ctl.specs.declared.reasons.Reason.{Reason}
 use Rattle.npf_ctl.specs.Run.{IsWrittenTo, Moment}
 use Rattle.npf_ctl.specs.Top.{DoesWords}
 
@@ -87,6 +88,12 @@ pub data SaysFault (old new : SinkMoment) (fault : CommandFault) (status : ℕ) 
   told : status ≡ status_of_fault fault → PutsLine old new (message_line fault) → (new.waiting ≡ 0) ⊎ Rose old.faults new.faults →
       SaysFault old new fault status
   untold : status ≡ 1 → Appends old.held new.held [] → SaysFault old new fault status
+
+-- what is said of a fault was put and flushed, or a front of it where the output failed, and the fault is answered; or memory was wanting, and
+-- nothing was put
+pub data AnswersReason (old new : SinkMoment) (reason : Reason) : CommandFault → Type 0 where
+  said : PutsLine old new reason.said.items → (new.waiting ≡ 0) ⊎ Rose old.faults new.faults → AnswersReason old new reason reason.fault
+  unsaid : Appends old.held new.held [] → AnswersReason old new reason NoMemory
 
 -- the words were answered with this status
 pub data AnswersWords (words : List (List ℕ)) (before after : Moment) (old new : SinkMoment) (status : ℕ) : Type 0 where

@@ -15,17 +15,18 @@ use Rattle.npf_ctl_messages.specs.declared.fault.CommandFault.TheVariants.{Usage
 use Rattle.npf_ctl_messages.specs.declared.fault.SavedRefusal.TheVariants.{SavedNoNode}
 use Rattle.npf_ctl_messages.specs.Message.{message_line, status_of_fault}
 use Rattle.npf_ctl_words.specs.declared.command.Invocation.{Invocation}
-use Rattle.npf_ctl_words.specs.declared.command.Invocation.TheVariants.{Run, Gen}
+use Rattle.npf_ctl_words.specs.declared.command.Invocation.TheVariants.{Run, Why, Gen}
 use Rattle.npf_ctl_words.specs.declared.command.Load.{Load}
 use Rattle.npf_ctl_words.specs.declared.command.RunWords.{RunWords}
 use Rattle.npf_ctl_words.specs.CommandLine.{SaysCommand, given_text, is_command_line}
 use Rattle.npf_ctl.specs.Commands.{loaded_by, names_of_run}
 use Rattle.npf_ctl.specs.Generated.{HoldsWorkload, PreparesOf}
+use Rattle.npf_ctl.specs.Reasons.{ExplainsFirst, is_explained}
 use Rattle.npf_ctl.specs.Run.{Moment, IsReported, WritesPassed}
 use Rattle.npf_ctl.specs.Starting.{StartsRun}
 use Rattle.npf_ctl.specs.Texts.{TextOf}
 
--- The line was put on the error sink; or a front of it, where the sink's own count rose.
+-- The text was put on the sink; or a front of it, where the sink's own count rose.
 abbrev pub PutsLine : SinkMoment → SinkMoment → List ℕ → Type 0
 PutsLine old new line = Appends old.held new.held line ⊎ (Rose old.faults new.faults × AppendsFront old.held new.held line)
 
@@ -52,6 +53,21 @@ module _ (words : List (List ℕ)) (before after : Moment) where
     pub text : List ℕ
     pub of : TextOf before after command text
     pub front : AppendsFront before.out.held after.out.held text
+
+  -- what is said of a fault was put on the output, or a front of it where that failed; no file changed, and the table was asked nothing
+  pub record SaysWhy (fault : CommandFault) : Type 0 where
+    pub load : Load
+    pub said : SaysCommand words (Why load)
+    pub text : List ℕ
+    pub explains : ExplainsFirst before.files after.files (given_text load.ifaces) load.conf.now fault text
+    pub put : PutsLine before.out after.out text
+    pub flushed : (after.out.waiting ≡ 0) ⊎ Rose before.out.faults after.out.faults
+    pub files : ChangesNoFile before after
+    pub idle : after.pass ≡ before.pass
+
+  -- no command's text was put, and nothing at all but what is said of a fault
+  abbrev pub PutsNoText : Type 0
+  PutsNoText = PutsNothing before after ⊎ ((fault : CommandFault) × SaysWhy fault)
 
   -- a write of the first file failed, to which a run's packets that pass were to be written, and no other file changed
   pub record FailsFirst (run : RunWords) (name : List ℕ) : Type 0 where
@@ -107,7 +123,9 @@ module _ (words : List (List ℕ)) (before after : Moment) where
         LacksNode before.files after.files file (interface_names plan.ifaces) before.pass after.pass → PutsNothing before after →
         ChangesNoFile before after → MeetsFault (Saved file SavedNoNode)
     in_loading : {command : Invocation} {load : Load} {fault : CommandFault} → SaysCommand words command → loaded_by command ≡ Some load →
-        LoadsAlone before.files after.files (given_text load.ifaces) load.conf.now (Err fault) → IsUntouched before after → MeetsFault fault
+        is_explained command fault ≡ false → LoadsAlone before.files after.files (given_text load.ifaces) load.conf.now (Err fault) →
+        IsUntouched before after → MeetsFault fault
+    in_explaining : {fault : CommandFault} → SaysWhy fault → MeetsFault fault
     in_workload : {number : ℕ} {tree : Tree} {fault : CommandFault} → SaysCommand words (Gen number) → HoldsWorkload number tree →
         PreparesOf tree (Err fault) → IsUntouched before after → MeetsFault fault
     in_output : Rose before.out.faults after.out.faults → ChangesNoFile before after → PutsFront → MeetsFault OutputUnwritten
@@ -116,6 +134,7 @@ module _ (words : List (List ℕ)) (before after : Moment) where
     in_saving : {run : RunWords} {name : List ℕ} {plan : RunPlan} {outputs : List Packet} {outcomes : List Outcome} →
         FailsSecond run plan outputs outcomes name → after.out.waiting ≡ 0 → MeetsFault (Unwritten name)
     in_memory : PutsNothing before after ⊎ PutsFront → LeavesFiles 1 → MeetsFault NoMemory
+    in_saying : {fault : CommandFault} → SaysWhy fault → MeetsFault NoMemory
 
   -- with status 1 alone, nothing was put
   pub record PutsNoLine (old new : SinkMoment) (status : ℕ) : Type 0 where

@@ -5,6 +5,7 @@ pub mod Fragments
 pub mod Generated
 pub mod Limits
 pub mod Inspection
+pub mod Reasons
 pub mod Run
 pub mod Starting
 pub mod Texts

@@ -55,6 +55,7 @@ pub data TextOf (before after : Moment) : Invocation → List ℕ → Type 0 whe
   count : {load : Load} {config : Configuration} → IsLoadedFor before after load config → TextOf before after (Words.Validate load) (valid_text config.model)
   model : {load : Load} {config : Configuration} → IsLoadedFor before after load config →
       TextOf before after (Words.Show load) (spelled (model_pieces config.model))
+  sound : {load : Load} {config : Configuration} → IsLoadedFor before after load config → TextOf before after (Words.Why load) []
   programs : {load : Load} {config : Configuration} {programs : List (List Insn)} → IsLoadedFor before after load config →
       IsWithinLimits config.model programs → TextOf before after (Words.Debug load) (programs_text 1 programs)
   total : {number : ℕ} {tree : Tree} {plan : RunPlan} {outputs : List Packet} {outcomes : List Outcome} → HoldsWorkload number tree →

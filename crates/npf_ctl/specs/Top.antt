@@ -50,7 +50,7 @@ KeepsOtherFiles words None None = ⊤
 KeepsOtherFiles words (Some old) (Some new) = (name : List ℕ) → ¬ NamesOutput words name → new name ≡ old name
 KeepsOtherFiles words _ _ = ⊥
 
--- with these statuses nothing is put on the output, and no file changes
+-- with these statuses no command's text is put on the output, and no file changes
 abbrev pub IsQuiet : ℕ → Type 0
 IsQuiet status = (status ≢ 0) × (status ≢ 1) × (status ≢ 5)
 

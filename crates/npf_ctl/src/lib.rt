@@ -2,21 +2,22 @@
 //
 // Each command is a few steps, the first fault of which is answered: `running` prepares a run, puts its fragments together (`fragments`), loads
 // its connections, plays it, puts and writes what it makes, and saves its connections (`saving`);
-// `looking` loads a configuration and puts what is to be seen of it; `generating` runs a generated input from files in memory
-// (`generated_files`); `top` gives
-// the status, and puts the line of a fault.
+// `looking` loads a configuration and puts what is to be seen of it; `reasons` puts what is to be said of its first fault; `generating` runs a
+// generated input from files in memory (`generated_files`); `top` gives the status, and puts the line of a fault.
 //
 // The contract is that of `npfctl_top`. With status 0 what the words say was done (specs/Top): for a run, what its files say was prepared,
 // and played so that the history of the table's pass explains each packet's outcome; its report was put, and what passed was written. Any
 // other status is that of the first fault met, with its cause (specs/Faults), and its line was put on the error sink.
 #![tactic(auto)]
 
+mod flushed;
 mod fragments;
 mod generated_files;
 mod generation;
 mod inspection;
 pub mod laws;
 mod programs;
+mod reasons;
 mod run;
 mod saves;
 mod top;

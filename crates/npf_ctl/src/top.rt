@@ -1,22 +1,24 @@
 // The top call of the program: its words, the files and both sinks, the table of connections, and the status.
-ghost use Rattle.std.specs.Prelude.{◌≡◌, ◌≢◌, ◌⊎◌, ℕ, Some, false, [], IsErrOf, OnOk};
+ghost use Rattle.std.specs.Prelude.{◌≡◌, ◌≢◌, ◌⊎◌, Some, false, []};
 ghost use Rattle.npf_connections.specs.Pass.{all_places};
 ghost use Rattle.npf_connections.specs.Stay.{IsLater, IsOut};
 ghost use Rattle.npf_flow.specs.Flows.{flow_law};
 ghost use Rattle.npf_ctl_messages.specs.declared.fault.CommandFault.{CommandFault as FaultType};
 ghost use Rattle.npf_ctl_messages.specs.Message.{status_of_fault};
-ghost use Rattle.npf_outside.specs.Counts.{Rose, StoodStill};
+ghost use Rattle.npf_outside.specs.Counts.{StoodStill};
 ghost use Rattle.npf_outside.specs.Files.{SameFiles, Tree};
-ghost use Rattle.npf_outside.specs.Sink.{Appends, AppendsFront};
+ghost use Rattle.npf_outside.specs.Sink.{Appends};
 ghost use Rattle.npf_ctl_words.specs.CommandLine.{is_command_line, word_texts};
 ghost use Rattle.npf_ctl_input.specs.File.{ReadsWell};
 ghost use Rattle.npf_ctl.specs.Ends.{EndsIn, AnswersWords, IsFresh, SaysFault};
-ghost use Rattle.npf_ctl.specs.Faults.{IsFaulted, LeavesFiles};
+ghost use Rattle.npf_ctl.specs.Faults.{IsFaulted, LeavesFiles, PutsNoText};
 ghost use Rattle.npf_ctl.specs.Run.{moment};
 ghost use Rattle.npf_ctl.specs.Top.{HasStatus, CanDo, CanGenerate, DoesWords, IsQuiet, KeepsOtherFiles, MustRefuse, RanOutOfNodes};
 
+use crate::flushed::put_flushed;
 use crate::generation::run_generated;
 use crate::inspection::{ConfigText, look_at};
+use crate::reasons::explain;
 use crate::run::run;
 use npf_connections::Connections;
 use npf_ctl_messages::{CommandFault, message};
@@ -39,6 +41,7 @@ pub type Status = u8;
 ///   captures, or of a capture alone, through a configuration of npf.conf(5), and puts a line for each packet and the total line on `out`
 /// - `validate CONF`, `show CONF` and `debug CONF`, each with `[--ifaces FILE]`, put the count of a configuration's rules, its canonical text, and
 ///   the programs of its rules
+/// - `why CONF [--ifaces FILE]` puts what is to be said of a configuration's first fault on `out`, and nothing where there is none
 /// - `gen NUMBER` runs the generated input of this number, and puts the total line
 ///
 /// Where it is refused, the line of the first fault met is put on `err`. The table of connections is new, and `pass` is its first pass.
@@ -89,10 +92,11 @@ pub fn npfctl_top<
     ensures complete_generated { CanGenerate (word_texts words.now)
         → StoodStill (O.moment out.old).faults (O.moment out.new).faults → HasStatus 0 result }
 
-    // With 2, 3, 4, 6, 7, 8 and 9 nothing is put on the output, no file changes, and the table of connections is asked nothing, unless it had no
-    // node for a connection that was to be loaded; with any status but 0 no file changes unless a write failed, or memory ran out at the second
+    // With 2, 3, 4, 6, 7, 8 and 9 nothing is put on the output but what `why` says of a fault, no file changes, and the table of connections is
+    // asked nothing, unless it had no node for a connection that was to be loaded; with any status but 0 no file changes unless a write failed, or memory ran out at the second
     // of two files; and with any at all none but those that are to be written.
-    ensures quiet { IsQuiet result → Appends (O.moment out.old).held (O.moment out.new).held [] }
+    ensures quiet { IsQuiet result → PutsNoText (word_texts words.now)
+        (moment (F.moment files.old) (O.moment out.old) (C.view pass.old)) (moment (F.moment files.new) (O.moment out.new) (C.view pass.new)) }
     ensures same { IsQuiet result → SameFiles (F.moment files.old).contents (F.moment files.new).contents }
     ensures idle { IsQuiet result → (C.view pass.new ≡ C.view pass.old) ⊎ RanOutOfNodes (C.view pass.old) (C.view pass.new) result }
     ensures kept { result ≢ 0 → LeavesFiles (word_texts words.now)
@@ -166,6 +170,7 @@ fn do_words<R: Threads + Wait + Sync, F: Files, O: Sink, C: Connections<FlowLaw>
         Invocation::Validate(load) => look_at(alloc, ConfigText::Count, load, files, out),
         Invocation::Show(load) => look_at(alloc, ConfigText::Model, load, files, out),
         Invocation::Debug(load) => look_at(alloc, ConfigText::Programs, load, files, out),
+        Invocation::Why(load) => explain(alloc, load, files, out),
         Invocation::Gen { number } => run_generated(rt, alloc, number, out, conns, pass, gate),
     }
 }
@@ -183,16 +188,4 @@ fn say<E: Sink>(alloc: Global, fault: &CommandFault, err: &mut E) -> Status
         Ok(()) | Err(SinkFault::Failed) => fault.status(),
         Err(SinkFault::NoMemory) => CommandFault::NoMemory.status(),
     }
-}
-
-// Puts the bytes in one call, and passes them on.
-fn put_flushed<E: Sink>(bytes: &[u8], sink: &mut E) -> Result<(), SinkFault>
-    ensures whole { OnOk result (Appends (E.moment sink.old).held (E.moment sink.new).held bytes.now) }
-    ensures flushed { OnOk result ((E.moment sink.new).waiting ≡ 0) }
-    ensures front { AppendsFront (E.moment sink.old).held (E.moment sink.new).held bytes.now }
-    ensures failed { IsErrOf result SinkFault.Failed → Rose (E.moment sink.old).faults (E.moment sink.new).faults }
-    ensures memory { IsErrOf result SinkFault.NoMemory → Appends (E.moment sink.old).held (E.moment sink.new).held [] }
-{
-    sink.put(bytes)?;
-    sink.flush()
 }

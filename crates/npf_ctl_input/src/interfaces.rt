@@ -39,8 +39,8 @@ pub fn read_interfaces<F: Files>(
     }
 }
 
-/// The interfaces that the text of this file gives.
-fn interfaces_of(alloc: Global, file: &str, text: &[u8]) -> Result<Ifaces, CommandFault>
+/// The interfaces that the text of this file gives. Refused for its first bad line, or for want of memory.
+pub fn interfaces_of(alloc: Global, file: &str, text: &[u8]) -> Result<Ifaces, CommandFault>
     requires { length text.now ≤ MAX_TEXT_BYTES }
     ensures { UnlessMemory (λ ifaces. ifaces.list) result (NamesInterfaces file.now text.now) }
 {

@@ -14,6 +14,6 @@ mod loads;
 mod source;
 
 pub use file::{read_file, text_of};
-pub use interfaces::read_interfaces;
-pub use loads::{load_alone, load_file, told_fault};
+pub use interfaces::{interfaces_of, read_interfaces};
+pub use loads::{load_alone, load_file, load_text, told_fault};
 pub use source::{RunSource, read_source};

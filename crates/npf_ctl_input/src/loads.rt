@@ -39,8 +39,8 @@ pub fn load_file<F: Files>(
     load_text(alloc, ifaces, file, text.as_slice(), files)
 }
 
-/// The configuration of the text of this file.
-fn load_text<F: Files>(
+/// The configuration of the text of this file, for a run with these interfaces. Refused as `load_file` refuses what it read.
+pub fn load_text<F: Files>(
     alloc: Global,
     ifaces: &Ifaces,
     file: &str,

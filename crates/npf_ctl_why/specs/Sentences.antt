@@ -28,6 +28,10 @@ sentence_text sentence shown = codes "  " ++ (words sentence ++ (tail_text sente
 abbrev pub shown_at : List ℕ → Span → List ℕ
 shown_at text span = take span.len (drop span.at text)
 
+-- the tokens before a byte of the text
+abbrev pub tokens_before : ℕ → List Token → List Token
+tokens_before at tokens = take (prefix_len (λ token. nat_lt token.span.at at) tokens) tokens
+
 -- the tokens from a byte of the text on
 abbrev pub tokens_at : ℕ → List Token → List Token
 tokens_at at tokens = drop (prefix_len (λ token. nat_lt token.span.at at) tokens) tokens

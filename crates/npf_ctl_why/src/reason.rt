@@ -4,9 +4,9 @@ ghost use Rattle.std.specs.List.{prefix_len};
 ghost use Rattle.npf_types.specs.Reading.{IsOnly};
 ghost use Rattle.npf_lexer.specs.Lexer.{IsLexed};
 ghost use Rattle.npf_why.specs.Candidate.{candidate_kind};
-ghost use Rattle.npf_ctl_why.specs.Names.{interface_in, known_names, marks, near_text, unknown_word, variable_in, word_in};
+ghost use Rattle.npf_ctl_why.specs.Names.{interface_in, known_names, marks, near_text, setting_in, unknown_word, variable_in, word_in};
 ghost use Rattle.npf_ctl_why.specs.Reason.{PutsBehind, ExplainsExpected, ExplainsFault, ExplainsHalt, ExplainsNamed, NamesNear, byte_sentence, halt_sentence};
-ghost use Rattle.npf_ctl_why.specs.Sentences.{is_hardware_address, is_pair, is_pair_behind_colon, sentence_text, shown_at, tail_text, tokens_at};
+ghost use Rattle.npf_ctl_why.specs.Sentences.{is_hardware_address, is_pair, is_pair_behind_colon, sentence_text, shown_at, tail_text, tokens_at, tokens_before};
 
 use crate::excerpt::{from, write_shown};
 use crate::listed::{Marks, write_names, write_standing};
@@ -19,7 +19,8 @@ use npf_text::{write_number, write_text};
 use npf_types::limits::MAX_TEXT_BYTES;
 use npf_types::{NoMemory, Span};
 use npf_why::{
-    Candidate, GivenNames, Sentence, could_stand, given_names, interfaces, near, sentence_at,
+    Candidate, GivenNames, Sentence, could_stand, given_names, interfaces, looked_up, near,
+    sentence_at, settings,
 };
 use std::alloc::Global;
 
@@ -193,6 +194,13 @@ fn tokens_at(tokens: &[Token], at: u32) -> &[Token]
     tokens.split_at(count_before(tokens, at)).1
 }
 
+/// The tokens before a place.
+fn tokens_before(tokens: &[Token], at: u32) -> &[Token]
+    ensures { result.now ≡ tokens_before at tokens.now }
+{
+    tokens.split_at(count_before(tokens, at)).0
+}
+
 fn count_before(tokens: &[Token], at: u32) -> usize
     ensures count { result ≡ prefix_len (λ token. nat_lt token.span.at at) tokens.now }
     ensures within { result ≤ length tokens.now }
@@ -236,7 +244,7 @@ fn write_near_names(
     let Some(word) = unknown_word(fault.fault, tokens_at(tokens, fault.span.at)) else {
         return Ok(());
     };
-    let known = known_names(alloc, fault, tree, ifaces)?;
+    let known = known_names(alloc, fault, tokens, tree, ifaces)?;
     let names = near(alloc, word, &known)?;
     write_names(into, marks(fault.fault), &names)
 }
@@ -248,8 +256,10 @@ fn unknown_word(fault: Fault, tokens: &[Token]) -> Option<&[u8]>
     match fault {
         Fault::UnknownVariable => variable_in(tokens),
         Fault::UnknownInterface => interface_in(tokens),
+        Fault::UnknownService => word_in(tokens, 0),
         Fault::UnknownTable => word_in(tokens, 1),
         Fault::UnknownProcedure => word_in(tokens, 0),
+        Fault::Unbuilt => setting_in(tokens),
         _ => None,
     }
 }
@@ -263,6 +273,17 @@ fn variable_in(tokens: &[Token]) -> Option<&[u8]>
             _ => None,
         },
         None => None,
+    }
+}
+
+/// What a `set` statement sets; None of another statement.
+fn setting_in(tokens: &[Token]) -> Option<&[u8]>
+    ensures { option_map (λ word. word.now) result ≡ setting_in tokens.now }
+{
+    if word_in(tokens, 0)? == "set".as_bytes() {
+        word_in(tokens, 1)
+    } else {
+        None
     }
 }
 
@@ -295,17 +316,20 @@ fn word_in(tokens: &[Token], place: usize) -> Option<&[u8]>
 fn known_names<'a>(
     alloc: Global,
     fault: &ConfFault,
+    tokens: &[Token],
     tree: &'a Tree,
     ifaces: &'a [Iface],
 ) -> Result<Vec<&'a [u8]>, NoMemory>
-    ensures { IfOk result (λ names. map (λ name. name.now) names.items ≡ known_names ifaces.now tree.now fault.now) }
+    ensures { IfOk result (λ names. map (λ name. name.now) names.items ≡ known_names ifaces.now tokens.now tree.now fault.now) }
 {
     match fault.fault {
         Fault::UnknownVariable => {
             given_names(alloc, tree, GivenNames::VariablesBefore(fault.span.at))
         }
         Fault::UnknownInterface => interfaces(alloc, ifaces),
+        Fault::UnknownService => looked_up(alloc, tokens_before(tokens, fault.span.at)),
         Fault::UnknownTable => given_names(alloc, tree, GivenNames::Tables),
+        Fault::Unbuilt => settings(alloc),
         _ => given_names(alloc, tree, GivenNames::Procedures),
     }
 }

@@ -26,6 +26,7 @@ same_command rows (command.Run a) (command.Run b) e p q = same_run rows a b p q
 same_command rows (command.Validate a) (command.Validate b) e p q = same_load rows a b p q
 same_command rows (command.Show a) (command.Show b) e p q = same_load rows a b p q
 same_command rows (command.Debug a) (command.Debug b) e p q = same_load rows a b p q
+same_command rows (command.Why a) (command.Why b) e p q = same_load rows a b p q
 same_command rows (command.Gen a) (command.Gen b) e p q = Some-injective _ _ (sym p ∙ q)
 same_command rows _ _ e p q = cc
 

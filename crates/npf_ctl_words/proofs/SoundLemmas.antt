@@ -1,4 +1,4 @@
--- Each of the five definitions is sound, and `clap` says of each where it refuses words.
+-- Each of the six definitions is sound, and `clap` says of each where it refuses words.
 use Rattle.std.proofs.Common.{◌≡◌, refl, true}
 use Rattle.clap.{specs.Words.is_simple_and_free, proofs.OnLiterals.clap_on_literals}
 use Rattle.npf_ctl_words.{specs.{Definitions.definition_of, declared.command.CommandName.CommandName}, proofs.ValueLemmas.IsSound}
@@ -10,6 +10,7 @@ all_free name.Run = refl
 all_free name.Validate = refl
 all_free name.Show = refl
 all_free name.Debug = refl
+all_free name.Why = refl
 all_free name.Gen = refl
 
 pub all_sound : (n : CommandName) → IsSound (definition_of n)
@@ -17,4 +18,5 @@ all_sound name.Run = record { plain = refl; negates = refl; rules = refl; differ
 all_sound name.Validate = record { plain = refl; negates = refl; rules = refl; differ = refl; sets = refl }
 all_sound name.Show = record { plain = refl; negates = refl; rules = refl; differ = refl; sets = refl }
 all_sound name.Debug = record { plain = refl; negates = refl; rules = refl; differ = refl; sets = refl }
+all_sound name.Why = record { plain = refl; negates = refl; rules = refl; differ = refl; sets = refl }
 all_sound name.Gen = record { plain = refl; negates = refl; rules = refl; differ = refl; sets = refl }

@@ -28,7 +28,8 @@ command_named word =
     else (if bytes_eq word (codes "validate") then Some name.Validate
     else (if bytes_eq word (codes "show") then Some name.Show
     else (if bytes_eq word (codes "debug") then Some name.Debug
-    else (if bytes_eq word (codes "gen") then Some name.Gen else None))))
+    else (if bytes_eq word (codes "why") then Some name.Why
+    else (if bytes_eq word (codes "gen") then Some name.Gen else None)))))
 
 -- the command that the first word names
 abbrev pub name_in : List Text → Option CommandName
@@ -67,6 +68,7 @@ command_name (command.Run _) = name.Run
 command_name (command.Validate _) = name.Validate
 command_name (command.Show _) = name.Show
 command_name (command.Debug _) = name.Debug
+command_name (command.Why _) = name.Why
 command_name (command.Gen _) = name.Gen
 
 -- the number of digits that may have a plus sign before them
@@ -102,6 +104,7 @@ TellsCommand rows (command.Run run) = TellsRun rows run
 TellsCommand rows (command.Validate load) = TellsLoad rows load
 TellsCommand rows (command.Show load) = TellsLoad rows load
 TellsCommand rows (command.Debug load) = TellsLoad rows load
+TellsCommand rows (command.Why load) = TellsLoad rows load
 TellsCommand rows (command.Gen number) = TellsNumber rows number
 
 -- the command that the words say: it is the first word's, and what `clap` found by its definition is in it

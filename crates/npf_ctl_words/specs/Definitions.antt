@@ -1,4 +1,4 @@
--- The five commands as `clap` defines them: one simple command each, without subcommands.
+-- The six commands as `clap` defines them: one simple command each, without subcommands.
 use Rattle.std.specs.Prelude.{codes, true, Some, [], ◌∷◌, pos}
 use Rattle.clap.specs.Words.{App, Rule, Text, new_app, new_rule, with_rule}
 use Rattle.clap.specs.declared.builder.ValueParser.{ValueParser}
@@ -60,4 +60,5 @@ definition_of name.Run = run_command
 definition_of name.Validate = loading_command (codes "validate")
 definition_of name.Show = loading_command (codes "show")
 definition_of name.Debug = loading_command (codes "debug")
+definition_of name.Why = loading_command (codes "why")
 definition_of name.Gen = gen_command

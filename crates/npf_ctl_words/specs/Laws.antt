@@ -27,6 +27,7 @@ IsSameCommand (command.Run a) (command.Run b) = IsSameRun a b
 IsSameCommand (command.Validate a) (command.Validate b) = IsSameLoad a b
 IsSameCommand (command.Show a) (command.Show b) = IsSameLoad a b
 IsSameCommand (command.Debug a) (command.Debug b) = IsSameLoad a b
+IsSameCommand (command.Why a) (command.Why b) = IsSameLoad a b
 IsSameCommand (command.Gen a) (command.Gen b) = a ≡ b
 IsSameCommand _ _ = ⊥
 

@@ -9,13 +9,14 @@ pub enum SpreadWord {
     Flow,
 }
 
-/// The five names of commands.
+/// The six names of commands.
 #[derive(Clone, Copy, Debug, PartialEq, Eq)]
 pub enum CommandName {
     Run,
     Validate,
     Show,
     Debug,
+    Why,
     Gen,
 }
 
@@ -60,6 +61,8 @@ pub enum Invocation<'a> {
     Show(Load<'a>),
     /// Loads a configuration, and prints the program of each rule.
     Debug(Load<'a>),
+    /// Loads a configuration, and explains its first fault.
+    Why(Load<'a>),
     /// Runs the generated input of this number.
     Gen { number: u64 },
 }

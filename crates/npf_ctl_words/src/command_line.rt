@@ -59,6 +59,7 @@ fn named(word: &str) -> Option<CommandName>
         "validate" => Some(CommandName::Validate),
         "show" => Some(CommandName::Show),
         "debug" => Some(CommandName::Debug),
+        "why" => Some(CommandName::Why),
         "gen" => Some(CommandName::Gen),
         _ => None,
     }
@@ -100,6 +101,7 @@ fn command_of<'a>(name: CommandName, matches: &ArgMatches<'a>) -> Option<Invocat
         CommandName::Validate => Some(Invocation::Validate(load_of(matches, "validate"))),
         CommandName::Show => Some(Invocation::Show(load_of(matches, "show"))),
         CommandName::Debug => Some(Invocation::Debug(load_of(matches, "debug"))),
+        CommandName::Why => Some(Invocation::Why(load_of(matches, "why"))),
         CommandName::Gen => Some(Invocation::Gen {
             number: number_in(matches),
         }),

@@ -17,6 +17,7 @@ pub(crate) fn definition<'a>(alloc: Global, name: CommandName) -> Result<Command
         CommandName::Validate => loading(alloc, "validate"),
         CommandName::Show => loading(alloc, "show"),
         CommandName::Debug => loading(alloc, "debug"),
+        CommandName::Why => loading(alloc, "why"),
         CommandName::Gen => generating(alloc),
     }
 }

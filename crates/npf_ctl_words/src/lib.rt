@@ -1,4 +1,4 @@
-// The words of the command line: five commands, each read by `clap` as one simple command without
+// The words of the command line: six commands, each read by `clap` as one simple command without
 // subcommands (docs/npfctl.8, "The command line", has them).
 //
 // The contract: words are refused exactly where the first is missing or names no command, byte for

@@ -18,6 +18,7 @@ use Rattle.npf_model.specs.declared.settings.Settings.{Settings}
 use Rattle.npf_model.specs.Configuration.{Configuration, verdict_of, map_place_of}
 use Rattle.npf_model.specs.Settings.{drawn_ports}
 use Rattle.npf_model.specs.Verdict.{rule_at}
+use Rattle.npf_flow.specs.declared.flow.FlowSettings.{FlowSettings}
 use Rattle.npf_nat.specs.declared.map_plan.MapPlan.{MapPlan}
 use Rattle.npf_nat.specs.declared.map_plan.MapPlan.TheVariants.{Fixed, Draw}
 use Rattle.npf_nat.specs.MapPlan.{plan}
@@ -107,14 +108,19 @@ key_interface settings Not ifid = bound_interface settings.key_interface ifid
 key_interface settings OnInterface ifid = bound_interface settings.key_interface ifid
 key_interface settings Everywhere ifid = any_interface
 
--- what the packet would open; whether that is strict about resets the configuration says
+-- what a configuration's settings say of the connections that open under it: whether they are strict about resets, and for how long
+-- they may be idle
+abbrev pub flow_settings : Settings → FlowSettings
+flow_settings settings = record { strict = settings.strict_rst; timeouts = settings.timeouts }
+
+-- what the packet would open
 abbrev pub attempt_of : Arrival → Facts → Ruling → Mapping → Attempt
 attempt_of arrival facts ruled mapped = record {
   packet = arrival.number;
   facts = facts;
   ifid = key_interface ruled.settings ruled.state arrival.ifid;
   arg = arg_of arrival.time facts;
-  strict = ruled.settings.strict_rst;
+  settings = flow_settings ruled.settings;
   action = ruled.action;
   plan = plan_of mapped;
 }

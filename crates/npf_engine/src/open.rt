@@ -13,7 +13,9 @@ ghost use Rattle.npf_engine.specs.Rules.{attempt_of};
 use crate::answer::Answer;
 use crate::connection::Met;
 use crate::crossing::Crossing;
-use crate::rules::{Mapping, Ruling, key_interface, opens_one, plan_of, static_change};
+use crate::rules::{
+    Mapping, Ruling, flow_settings, key_interface, opens_one, plan_of, static_change,
+};
 use npf_connections::Connections;
 use npf_core::{Found, Stepped};
 use npf_engine_opening::{Attempt, Opened, Refusal, open};
@@ -69,7 +71,7 @@ fn attempt_of(crossing: &Crossing, arg: &FlowArg, passed: &Passed) -> Attempt
         facts: *crossing.facts,
         ifid: key_interface(passed.ruling.settings, passed.ruling.state, crossing.ifid),
         arg: *arg,
-        strict: passed.ruling.settings.strict_rst,
+        settings: flow_settings(passed.ruling.settings),
         action: passed.ruling.action,
         plan: plan_of(&passed.mapping),
     }

@@ -3,9 +3,10 @@ ghost use Rattle.std.specs.Prelude.{◌≡◌, ◌↔◌, IsTrue, Some};
 ghost use Rattle.npf_packet.specs.declared.decoded.Decoded.TheVariants.{Ip};
 ghost use Rattle.npf_packet.specs.Decoder.{Decodes};
 ghost use Rattle.npf_ruleset.specs.Configuration.{configuration};
-ghost use Rattle.npf_engine.specs.Rules.{OpensOne, bound_interface, static_change, key_interface, mapping, mapping_of, plan_of, ruling_of, unchanged};
+ghost use Rattle.npf_engine.specs.Rules.{OpensOne, bound_interface, flow_settings, static_change, key_interface, mapping, mapping_of, plan_of, ruling_of, unchanged};
 
 use crate::crossing::Crossing;
+use npf_flow::FlowSettings;
 use npf_model::{Algo, Settings, StateOpt};
 use npf_nat::{MapPlan, plan};
 use npf_packet::decoded_is_packet;
@@ -134,6 +135,17 @@ pub(crate) fn key_interface(settings: Settings, state: StateOpt, ifid: IfId) -> 
     match state {
         StateOpt::Not | StateOpt::OnInterface => bound_interface(settings.key_interface, ifid),
         StateOpt::Everywhere => IfId::EVERY,
+    }
+}
+
+/// What a configuration's settings say of the connections that open under it.
+#[inline(always)]
+pub(crate) fn flow_settings(settings: Settings) -> FlowSettings
+    ensures { result ≡ flow_settings settings }
+{
+    FlowSettings {
+        strict: settings.strict_rst,
+        timeouts: settings.timeouts,
     }
 }
 

@@ -25,7 +25,7 @@ answer_key attempt there = backward_key attempt.facts attempt.ifid there
 
 -- the flow that the packet opens
 abbrev pub flow_of : Attempt → Changes → Flow
-flow_of attempt changes = opening_flow attempt.arg attempt.strict attempt.packet changes.there changes.back attempt.action
+flow_of attempt changes = opening_flow attempt.arg attempt.settings attempt.packet changes.there changes.back attempt.action
 
 -- the backward key is held, unless it is the forward one
 pub data HoldsBackward (attempt : Attempt) (id : ConnId) (there : Change) : List FlowSaid → Held → Type 0 where

@@ -2,20 +2,20 @@
 //
 // An attempt has its facts by value: a reference would give it a lifetime, and a packet opens a connection once.
 use npf_core::{ConnId, Found, Stepped};
-use npf_flow::{FlowArg, FlowReply};
+use npf_flow::{FlowArg, FlowReply, FlowSettings};
 use npf_nat::MapPlan;
 use npf_types::{Action, Change, Facts, IfId};
 
 /// A packet that would open a connection, by its number `packet` in the run. `ifid` is the interface of its keys: 0 for a
-/// connection of all interfaces. `strict` says whether a connection of TCP is to take its resets in order alone. `plan` is what a map
-/// makes of the packet: two changes that name nothing where there is none.
+/// connection of all interfaces. `settings` are those under which the connection would go on. `plan` is what a map makes of the
+/// packet: two changes that name nothing where there is none.
 #[derive(Clone, Copy, Debug, PartialEq, Eq)]
 pub struct Attempt {
     pub packet: u64,
     pub facts: Facts,
     pub ifid: IfId,
     pub arg: FlowArg,
-    pub strict: bool,
+    pub settings: FlowSettings,
     pub action: Action,
     pub plan: MapPlan,
 }

@@ -90,7 +90,7 @@ fn flow_of(attempt: &Attempt, changes: Changes) -> Flow
 {
     open_flow(
         attempt.arg,
-        attempt.strict,
+        attempt.settings,
         attempt.packet,
         changes.there,
         changes.back,

@@ -1,5 +1,6 @@
 -- What a written rule is: one rule, with its lists spliced, its words numbers and its functions addresses.
-use Rattle.std.specs.Prelude.{ℕ, ◌+◌, Bool, true, false, ◌==◌, ◌&&◌, nat_le, nat_lt, if◌then◌else◌, Option, Some, None, List, [], ◌∷◌, ◌++◌, bit_or}
+use Rattle.std.specs.Prelude.{ℕ, ◌+◌, Bool, true, false, ◌==◌, ◌&&◌, nat_le, nat_lt, is_some, if◌then◌else◌, Option, Some, None, List, [], ◌∷◌, ◌++◌, bit_or}
+use Rattle.std.specs.List.{flat_map, list_any}
 use Rattle.std.specs.Option.{option_map}
 use Rattle.npf_types.specs.declared.decision.Decision.{Decision}
 use Rattle.npf_types.specs.declared.decision.Decision.TheVariants.{Pass, Block}
@@ -39,10 +40,11 @@ use Rattle.npf_expand_values.specs.Address.{addresses_count, addresses_faults, a
 use Rattle.npf_expand_values.specs.Atom.{Env}
 use Rattle.npf_expand_values.specs.Declarations.{Declared, table_number}
 use Rattle.npf_expand_values.specs.Iface.{iface_faults, on_iface}
+use Rattle.npf_expand_values.specs.Kept.{first_atom}
 use Rattle.npf_expand_values.specs.Message.{icmp_names, message_faults, message_number}
 use Rattle.npf_expand_values.specs.Port.{ports_count, ports_faults, ports_of}
-use Rattle.npf_expand_values.specs.Protocol.{protocols_faults, protocols_of, spliced_ones}
-use Rattle.npf_expand_values.specs.Use.{element_count, then_faults}
+use Rattle.npf_expand_values.specs.Protocol.{one_binding, protocols_faults, protocols_of, spliced_ones, written_ones}
+use Rattle.npf_expand_values.specs.Use.{atoms_of, element_count, then_faults}
 
 abbrev pub return_of : Option BlockReturn → Return
 return_of None = Nothing
@@ -123,6 +125,16 @@ abbrev pub detail_faults : Env → IcmpNames → Option Detail → List ConfFaul
 detail_faults env names (Some (Detail.IcmpType kind code span)) = message_detail_faults env names kind code
 detail_faults env names _ = []
 
+-- a protocol that is there: a variable whose definition was refused gives nothing
+abbrev pub gives_atom : Env → One → Bool
+gives_atom env one = is_some (first_atom (atoms_of (one_binding env one)))
+
+-- names of messages are looked up beside a protocol alone
+abbrev pub detail_faults_beside : Env → List One → Option Detail → List ConfFault
+detail_faults_beside env protocols detail =
+    if list_any (gives_atom env) protocols
+    then detail_faults env (icmp_names (flat_map (λ one. atoms_of (one_binding env one)) protocols)) detail else []
+
 abbrev pub detail_of_part : Option ProtoPart → Option Detail
 detail_of_part None = None
 detail_of_part (Some part) = part.detail
@@ -152,7 +164,7 @@ module _ (ifaces : List Iface) (env : Env) where
   abbrev pub part_faults : Option ProtoPart → List ConfFault
   part_faults None = []
   part_faults (Some part) =
-      then_faults (protocols_faults env part.protocols) (detail_faults env (icmp_names (spliced_ones env part.protocols)) part.detail)
+      then_faults (protocols_faults env part.protocols) (detail_faults_beside env (written_ones part.protocols) part.detail)
 
   abbrev pub filter_faults : Filter → List ConfFault
   filter_faults filter =

@@ -1,6 +1,6 @@
 // The filter of a rule or a map: its faults, how many elements its lists have, and the rule that it is.
 ghost use Rattle.std.specs.Prelude.{◌≡◌, ◌+◌, ◌++◌, IfOk, Some, map};
-ghost use Rattle.std.specs.List.{filter_map, flat_map};
+ghost use Rattle.std.specs.List.{filter_map, flat_map, list_any};
 ghost use Rattle.std.specs.Option.{option_map};
 ghost use Rattle.npf_faults.specs.First.{first_fault};
 ghost use Rattle.npf_expand_values.specs.Address.{address_items, addresses_count, addresses_faults, is_excluded, listed_addresses};
@@ -10,7 +10,7 @@ ghost use Rattle.npf_expand_values.specs.Protocol.{one_binding, protocol_faults,
 ghost use Rattle.npf_expand_values.specs.Scope.{declared_of_scope, env_of_scope, ifaces_of_scope};
 ghost use Rattle.npf_expand_values.specs.Summary.{counted};
 ghost use Rattle.npf_expand_values.specs.Use.{atoms_of};
-ghost use Rattle.npf_expand.specs.Rule.{any_ends, destination_ends, detail_of_part, ends_count, ends_faults, ends_of_written, filter_count, filter_faults, filter_rule, flags_of_detail, icmp_of_part, part_count, part_faults, part_protocols, source_ends};
+ghost use Rattle.npf_expand.specs.Rule.{any_ends, destination_ends, detail_faults_beside, detail_of_part, ends_count, ends_faults, ends_of_written, filter_count, filter_faults, filter_rule, flags_of_detail, gives_atom, icmp_of_part, part_count, part_faults, part_protocols, source_ends};
 
 use crate::message::{detail_fault, icmp_of};
 use crate::rule::{flags_of, is_inet6};
@@ -41,8 +41,40 @@ fn written_part_fault<'a>(scope: &Scope<'_, 'a, '_>, part: &'a ProtoPart) -> Opt
     let protocols = written_ones(&part.protocols);
     match ones_fault(scope, protocols) {
         Some(fault) => Some(fault),
-        None => detail_fault(scope, scope.icmp_names(protocols), &part.detail),
+        None => fault_beside(scope, protocols, &part.detail),
     }
+}
+
+/// The first fault of a filter's detail. Names of messages are looked up beside a protocol alone: a variable whose definition
+/// was refused gives none.
+fn fault_beside<'a>(
+    scope: &Scope<'_, 'a, '_>,
+    protocols: &'a [One],
+    detail: &'a Option<Detail>,
+) -> Option<ConfFault>
+    ensures { result ≡ first_fault (detail_faults_beside (env_of_scope scope.now) protocols.now detail.now) }
+{
+    if !gives_some(scope, protocols) {
+        return None;
+    }
+    detail_fault(scope, scope.icmp_names(protocols), detail)
+}
+
+fn gives_some<'a>(scope: &Scope<'_, 'a, '_>, protocols: &'a [One]) -> bool
+    ensures { result ≡ list_any (gives_atom (env_of_scope scope.now)) protocols.now }
+{
+    for one in protocols {
+        if gives_atom(scope, one) {
+            return true;
+        }
+    }
+    false
+}
+
+fn gives_atom<'a>(scope: &Scope<'_, 'a, '_>, one: &'a One) -> bool
+    ensures { result ≡ gives_atom (env_of_scope scope.now) one.now }
+{
+    scope.first_of_one(one).is_some()
 }
 
 fn part_fault<'a>(

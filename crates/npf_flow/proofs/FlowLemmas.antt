@@ -37,8 +37,8 @@ last_rises flow way arg = next_cases flow way arg (λ next. flow.last ≤ next.l
 
 pub opening_kept : (flow : Flow) (way : Way) (arg : FlowArg) → KeepsOpening flow (next_flow flow way arg)
 opening_kept flow way arg =
-    let same : KeepsOpening flow flow = record { opener = refl; there = refl; back = refl; action = refl } in
-    next_cases flow way arg (KeepsOpening flow) (record { opener = refl; there = refl; back = refl; action = refl }) same
+    let same : KeepsOpening flow flow = record { opener = refl; there = refl; back = refl; action = refl; timeouts = refl } in
+    next_cases flow way arg (KeepsOpening flow) (record { opener = refl; there = refl; back = refl; action = refl; timeouts = refl }) same
 
 kind_protocol : (kind : FlowKind) (way : Way) (seg : Option Segment) → IsTcp (kind_after kind way seg) ↔ IsTcp kind
 kind_protocol (Tcp state) way (Some seg) = (λ t. t, λ t. t)

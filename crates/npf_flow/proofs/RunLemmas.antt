@@ -2,6 +2,7 @@
 use Rattle.std.proofs.Common.{◌≡◌, ◌∙◌, ℕ, Bool, true, false, not, ◌&&◌, ◌||◌, [], ◌∷◌, cond, refl, ap, max, arith}
 use Rattle.npf_types.specs.declared.{action.Action.Action, change.Change.Change, key.Way.Way}
 use Rattle.npf_tcp.specs.Laws.{StepKeepsQuiet}
+use Rattle.npf_timeouts.specs.declared.timeouts.Timeouts.{Timeouts}
 use Rattle.npf_flow.specs.{declared.{flow.{Flow.Flow, FlowKind.{FlowKind, TheVariants.Other}}, step.FlowArg.FlowArg}, Flows.{moves_on, next_flow, is_backward}}
 use Rattle.npf_flow.{specs.Run.{Packets, flow_after, accepted, moving, has_backward, latest}, proofs.FlowLemmas.{went_on, unmoved_stays, IsQuiet, quiet_next}}
 
@@ -49,11 +50,11 @@ of_none : (answered : Bool) → answered ≡ (answered || false)
 of_none true = refl
 of_none false = refl
 
-module _ (opener : ℕ) (there back : Change) (action : Action) where
+module _ (opener : ℕ) (there back : Change) (action : Action) (timeouts : Timeouts) where
   -- a flow of these parts
   abbrev other : Bool → ℕ → Flow
   other answered last =
-      record { kind = Other answered; last = last; opener = opener; there = there; back = back; action = action }
+      record { kind = Other answered; last = last; opener = opener; there = there; back = back; action = action; timeouts = timeouts }
 
   -- these packets make it of the one with these parts
   abbrev IsMade : Flow → Bool → ℕ → Packets → Type 0
@@ -84,4 +85,4 @@ pub as_its_packets : (flow : Flow) (answered : Bool) (packets : Packets) → flo
     ≡ record flow { kind = Other (answered || has_backward (moving packets)); last = latest flow.last (moving packets) }
 as_its_packets flow answered packets h =
     ap (λ (kind : FlowKind). flow_after (record flow { kind = kind }) packets) h
-    ∙ as_packets flow.opener flow.there flow.back flow.action answered flow.last packets
+    ∙ as_packets flow.opener flow.there flow.back flow.action flow.timeouts answered flow.last packets

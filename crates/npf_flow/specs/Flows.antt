@@ -12,6 +12,7 @@ use Rattle.npf_tcp.specs.Opening.{opening_state}
 use Rattle.npf_flow.specs.declared.flow.Flow.{Flow}
 use Rattle.npf_flow.specs.declared.flow.FlowKind.{FlowKind}
 use Rattle.npf_flow.specs.declared.flow.FlowKind.TheVariants.{Tcp, Other}
+use Rattle.npf_flow.specs.declared.flow.FlowSettings.{FlowSettings}
 use Rattle.npf_flow.specs.declared.step.FlowArg.{FlowArg}
 use Rattle.npf_flow.specs.declared.step.FlowReply.{FlowReply}
 use Rattle.npf_flow.specs.Timeout.{is_due}
@@ -21,15 +22,16 @@ abbrev pub opening_kind : Bool → Option Segment → FlowKind
 opening_kind strict (Some seg) = Tcp (opening_state seg strict)
 opening_kind strict None = Other false
 
--- the flow that a packet opens, at the packet's time
-abbrev pub opening_flow : FlowArg → Bool → ℕ → Change → Change → Action → Flow
-opening_flow arg strict opener there back action = record {
-  kind = opening_kind strict arg.seg;
+-- the flow that a packet opens under these settings, at the packet's time
+abbrev pub opening_flow : FlowArg → FlowSettings → ℕ → Change → Change → Action → Flow
+opening_flow arg settings opener there back action = record {
+  kind = opening_kind settings.strict arg.seg;
   last = arg.now;
   opener = opener;
   there = there;
   back = back;
   action = action;
+  timeouts = settings.timeouts;
 }
 
 -- a packet of this way goes back; the way of a port counts as forward

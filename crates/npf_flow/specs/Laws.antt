@@ -1,13 +1,15 @@
 -- What follows of the law of flows.
-use Rattle.std.specs.Prelude.{◌≡◌, ◌↔◌, ◌≤◌, ◌+◌, ◌||◌, ℕ, Bool, true, false}
+use Rattle.std.specs.Prelude.{◌≡◌, ◌↔◌, ◌<◌, ◌≤◌, ◌+◌, ◌||◌, ℕ, Bool, true, false}
 use Rattle.npf_types.specs.declared.action.Action.{Action}
 use Rattle.npf_types.specs.declared.change.Change.{Change}
 use Rattle.npf_types.specs.declared.key.Way.{Way}
 use Rattle.npf_tcp.specs.declared.state.TcpState.{TcpState}
 use Rattle.npf_tcp.specs.Laws.{BothSides, EachSide, IsQuietUnseen}
+use Rattle.npf_timeouts.specs.Timeouts.{AreTimeouts}
 use Rattle.npf_flow.specs.declared.flow.Flow.{Flow}
 use Rattle.npf_flow.specs.declared.flow.FlowKind.{FlowKind}
 use Rattle.npf_flow.specs.declared.flow.FlowKind.TheVariants.{Tcp, Other}
+use Rattle.npf_flow.specs.declared.flow.FlowSettings.{FlowSettings}
 use Rattle.npf_flow.specs.declared.step.FlowArg.{FlowArg}
 use Rattle.npf_flow.specs.Flows.{next_flow, flow_reply, change_of, opening_flow, flow_law}
 use Rattle.npf_flow.specs.Run.{Packets, flow_after, accepted, moving, has_backward, latest}
@@ -32,12 +34,14 @@ PeekLeavesFlow =
 abbrev pub LastNeverFalls : Type 0
 LastNeverFalls = (flow : Flow) (way : Way) (arg : FlowArg) → flow.last ≤ (next_flow flow way arg).last
 
--- what the opening of a flow made stays: who opened it, what translates its packets, and what is done to them
+-- what the opening of a flow made stays: who opened it, what translates its packets, what is done to them, and for how long it may
+-- be idle
 pub record KeepsOpening (old new : Flow) : Type 0 where
   pub opener : new.opener ≡ old.opener
   pub there : new.there ≡ old.there
   pub back : new.back ≡ old.back
   pub action : new.action ≡ old.action
+  pub timeouts : new.timeouts ≡ old.timeouts
 
 abbrev pub OpeningStays : Type 0
 OpeningStays = (flow : Flow) (way : Way) (arg : FlowArg) → KeepsOpening flow (next_flow flow way arg)
@@ -55,24 +59,27 @@ ProtocolStays = (flow : Flow) (way : Way) (arg : FlowArg) → IsTcp (next_flow f
 abbrev pub StaysAnswered : Type 0
 StaysAnswered = (flow : Flow) (way : Way) (arg : FlowArg) → flow.kind ≡ Other true → (next_flow flow way arg).kind ≡ Other true
 
--- a flow is due exactly from its last time and its timeout on
+-- a flow is due exactly from its last time and its own timeout on
 abbrev pub IsDueExactly : Type 0
-IsDueExactly = (flow : Flow) (now : ℕ) → (is_due flow now ≡ true) ↔ (flow.last + timeout flow.kind ≤ now)
+IsDueExactly = (flow : Flow) (now : ℕ) → (is_due flow now ≡ true) ↔ (flow.last + timeout flow ≤ now)
 
--- a flow isn't due at its last time or before it
+-- a flow isn't due before its last time, whatever its timeouts, nor at it where they are such as can be set
+abbrev pub IsNotDueBeforeLast : Type 0
+IsNotDueBeforeLast = (flow : Flow) (now : ℕ) → now < flow.last → is_due flow now ≡ false
+
 abbrev pub IsNotDueByLast : Type 0
-IsNotDueByLast = (flow : Flow) (now : ℕ) → now ≤ flow.last → is_due flow now ≡ false
+IsNotDueByLast = (flow : Flow) (now : ℕ) → AreTimeouts flow.timeouts → now ≤ flow.last → is_due flow now ≡ false
 
 -- so a flow that an accepted packet moves on isn't due at that packet's time, nor is one that a packet opens
 abbrev pub IsNotDueAtPacket : Type 0
 IsNotDueAtPacket =
-    (flow : Flow) (way : Way) (arg : FlowArg) → arg.peek ≡ false → is_passed flow way arg ≡ true →
+    (flow : Flow) (way : Way) (arg : FlowArg) → AreTimeouts flow.timeouts → arg.peek ≡ false → is_passed flow way arg ≡ true →
     is_due (next_flow flow way arg) arg.now ≡ false
 
 abbrev pub IsNotDueAtOpening : Type 0
 IsNotDueAtOpening =
-    (arg : FlowArg) (strict : Bool) (opener : ℕ) (there back : Change) (action : Action) →
-    is_due (opening_flow arg strict opener there back action) arg.now ≡ false
+    (arg : FlowArg) (settings : FlowSettings) (opener : ℕ) (there back : Change) (action : Action) → AreTimeouts settings.timeouts →
+    is_due (opening_flow arg settings opener there back action) arg.now ≡ false
 
 -- a flow that is due stays due until its next packet
 abbrev pub StaysDue : Type 0
@@ -104,8 +111,8 @@ OfState P (Other _) = Unit {0}
 -- after any packets since its opening, no side of the connection has offered a window before it is seen
 abbrev pub ReachedIsQuiet : Type 0
 ReachedIsQuiet =
-    (arg : FlowArg) (strict : Bool) (opener : ℕ) (there back : Change) (action : Action) (packets : Packets) →
-    OfState (BothSides IsQuietUnseen) (flow_after (opening_flow arg strict opener there back action) packets).kind
+    (arg : FlowArg) (settings : FlowSettings) (opener : ℕ) (there back : Change) (action : Action) (packets : Packets) →
+    OfState (BothSides IsQuietUnseen) (flow_after (opening_flow arg settings opener there back action) packets).kind
 
 -- so no packet lowers the greatest window that a side has offered
 abbrev pub OfStates : (TcpState → TcpState → Type 0) → FlowKind → FlowKind → Type 0
@@ -115,6 +122,6 @@ OfStates P (Other _) _ = Unit {0}
 
 abbrev pub MaxwinStaysUp : Type 0
 MaxwinStaysUp =
-    (arg : FlowArg) (strict : Bool) (opener : ℕ) (there back : Change) (action : Action) (packets : Packets) (way : Way) (next : FlowArg) →
-    let flow : Flow = flow_after (opening_flow arg strict opener there back action) packets in
+    (arg : FlowArg) (settings : FlowSettings) (opener : ℕ) (there back : Change) (action : Action) (packets : Packets) (way : Way) (next : FlowArg) →
+    let flow : Flow = flow_after (opening_flow arg settings opener there back action) packets in
     OfStates (EachSide (λ old new. old.maxwin ≤ new.maxwin)) flow.kind (next_flow flow way next).kind

@@ -1,37 +1,39 @@
--- How long a flow may be idle. The times are this project's own, after NetBSD's npf: a connection of TCP that is open may be idle
--- for a day, and one that opens, closes or has closed for less.
+-- When a flow runs out: each has timeouts of its own, and what its packets have shown says which of them holds.
 use Rattle.std.specs.Prelude.{ℕ, ◌-◌, ◌*◌, ◌^◌, nat_le, Bool, true, false, ◌&&◌}
 use Rattle.npf_tcp.specs.declared.state.TcpPhase.{TcpPhase}
 use Rattle.npf_tcp.specs.declared.state.TcpPhase.TheVariants as Phases
+use Rattle.npf_timeouts.specs.declared.timeouts.Timeout.{Timeout}
+use Rattle.npf_timeouts.specs.declared.timeouts.Timeout.TheVariants.{TcpNew, TcpEstablished, TcpHalfClose, TcpTimeWait, TcpClose, OtherNew, OtherEstablished}
+use Rattle.npf_timeouts.specs.Timeouts.{timeout_of}
 use Rattle.npf_flow.specs.declared.flow.Flow.{Flow}
 use Rattle.npf_flow.specs.declared.flow.FlowKind.{FlowKind}
 use Rattle.npf_flow.specs.declared.flow.FlowKind.TheVariants.{Tcp, Other}
 
--- a connection of TCP, by its phase, in seconds
-abbrev pub tcp_timeout : TcpPhase → ℕ
-tcp_timeout Phases.SynSent = 30
-tcp_timeout Phases.SimsynSent = 30
-tcp_timeout Phases.SynReceived = 30
-tcp_timeout Phases.Established = 86400
-tcp_timeout Phases.FinSent = 3600
-tcp_timeout Phases.FinReceived = 3600
-tcp_timeout Phases.CloseWait = 3600
-tcp_timeout Phases.FinWait = 3600
-tcp_timeout Phases.Closing = 3600
-tcp_timeout Phases.LastAck = 3600
-tcp_timeout Phases.TimeWait = 240
-tcp_timeout Phases.Closed = 10
+-- a connection of TCP, by its phase: one that opens, one that is open, one of which a side has sent FIN, and one that is over
+abbrev pub tcp_timeout_kind : TcpPhase → Timeout
+tcp_timeout_kind Phases.SynSent = TcpNew
+tcp_timeout_kind Phases.SimsynSent = TcpNew
+tcp_timeout_kind Phases.SynReceived = TcpNew
+tcp_timeout_kind Phases.Established = TcpEstablished
+tcp_timeout_kind Phases.FinSent = TcpHalfClose
+tcp_timeout_kind Phases.FinReceived = TcpHalfClose
+tcp_timeout_kind Phases.CloseWait = TcpHalfClose
+tcp_timeout_kind Phases.FinWait = TcpHalfClose
+tcp_timeout_kind Phases.Closing = TcpHalfClose
+tcp_timeout_kind Phases.LastAck = TcpHalfClose
+tcp_timeout_kind Phases.TimeWait = TcpTimeWait
+tcp_timeout_kind Phases.Closed = TcpClose
 
--- a flow, in seconds: one of another protocol 30, and 60 once it is answered
-abbrev pub timeout_seconds : FlowKind → ℕ
-timeout_seconds (Tcp state) = tcp_timeout state.phase
-timeout_seconds (Other false) = 30
-timeout_seconds (Other true) = 60
+-- a flow: one of another protocol before it is answered and behind that
+abbrev pub timeout_kind : FlowKind → Timeout
+timeout_kind (Tcp state) = tcp_timeout_kind state.phase
+timeout_kind (Other false) = OtherNew
+timeout_kind (Other true) = OtherEstablished
 
--- the same in nanoseconds
-abbrev pub timeout : FlowKind → ℕ
-timeout kind = timeout_seconds kind * 10 ^ 9
+-- its own timeout, in nanoseconds
+abbrev pub timeout : Flow → ℕ
+timeout flow = timeout_of flow.timeouts (timeout_kind flow.kind) * 10 ^ 9
 
 -- a flow is due where it was idle for its timeout or longer, and never at a time before its last packet's
 abbrev pub is_due : Flow → ℕ → Bool
-is_due flow now = nat_le flow.last now && nat_le (timeout flow.kind) (now - flow.last)
+is_due flow now = nat_le flow.last now && nat_le (timeout flow) (now - flow.last)

@@ -7,6 +7,7 @@ ghost use Rattle.npf_flow.specs.Flows.{opening_flow, opening_kind};
 
 use crate::step::FlowArg;
 use npf_tcp::{TcpState, open_tcp};
+use npf_timeouts::Timeouts;
 use npf_types::{Action, Change, Segment};
 
 /// What a flow remembers of its packets, by protocol.
@@ -19,7 +20,8 @@ pub enum FlowKind {
 }
 
 /// The flow of a live connection. `last` is the greatest time of its packets, in nanoseconds, and `opener` the number of
-/// the packet that opened it. `there` translates forward packets and `back` the answers; `action` is done to both.
+/// the packet that opened it. `there` translates forward packets and `back` the answers; `action` is done to both. `timeouts`
+/// are those under which it was opened.
 #[derive(Clone, Copy, Debug, PartialEq, Eq)]
 pub struct Flow {
     pub kind: FlowKind,
@@ -28,27 +30,45 @@ pub struct Flow {
     pub there: Change,
     pub back: Change,
     pub action: Action,
+    pub timeouts: Timeouts,
 }
 
-/// The flow that the packet with the number `opener` opens: a connection of TCP where the packet has a segment, which is `strict`
-/// about resets or isn't, and otherwise one that isn't answered.
+/// What a configuration says of the connections that open under it: whether one of TCP is `strict` about resets, and for how
+/// long a connection may be idle.
+#[derive(Clone, Copy, Debug, PartialEq, Eq)]
+pub struct FlowSettings {
+    pub strict: bool,
+    pub timeouts: Timeouts,
+}
+
+impl FlowSettings {
+    /// What holds where a configuration says nothing of them.
+    pub const DEFAULT: FlowSettings = FlowSettings {
+        strict: false,
+        timeouts: Timeouts::DEFAULT,
+    };
+}
+
+/// The flow that the packet with the number `opener` opens under these settings: a connection of TCP where the packet has a
+/// segment, and otherwise one that isn't answered.
 pub fn open_flow(
     arg: FlowArg,
-    strict: bool,
+    settings: FlowSettings,
     opener: u64,
     there: Change,
     back: Change,
     action: Action,
 ) -> Flow
-    ensures { result ≡ opening_flow arg strict opener there back action }
+    ensures { result ≡ opening_flow arg settings opener there back action }
 {
     Flow {
-        kind: opening_kind(strict, arg.seg),
+        kind: opening_kind(settings.strict, arg.seg),
         last: arg.now,
         opener,
         there,
         back,
         action,
+        timeouts: settings.timeouts,
     }
 }
 

@@ -2,7 +2,7 @@
 // `FlowLaw`, `due` and `open_flow` equal.
 ghost use Rattle.std.specs.Prelude.{◌≡◌};
 ghost use Rattle.npf_flow.specs.Flows.{flow_law};
-ghost use Rattle.npf_flow.specs.Laws.{RefusedLeavesFlow, RefusedLeaveNoTrace, PeekLeavesFlow, LastNeverFalls, LastIsLatest, OpeningStays, ProtocolStays, StaysAnswered, IsDueExactly, IsNotDueByLast, IsNotDueAtPacket, IsNotDueAtOpening, StaysDue, IsAsItsPackets, ReachedIsQuiet, MaxwinStaysUp};
+ghost use Rattle.npf_flow.specs.Laws.{RefusedLeavesFlow, RefusedLeaveNoTrace, PeekLeavesFlow, LastNeverFalls, LastIsLatest, OpeningStays, ProtocolStays, StaysAnswered, IsDueExactly, IsNotDueBeforeLast, IsNotDueByLast, IsNotDueAtPacket, IsNotDueAtOpening, StaysDue, IsAsItsPackets, ReachedIsQuiet, MaxwinStaysUp};
 
 use crate::law::FlowLaw;
 use npf_core::Law;
@@ -32,7 +32,7 @@ pub fn last_never_falls()
     ensures packets { LastIsLatest }
 {}
 
-/// A flow's opener, changes and action never change.
+/// A flow's opener, changes, action and timeouts never change.
 pub fn opening_stays()
     ensures { OpeningStays }
 {}
@@ -47,10 +47,12 @@ pub fn stays_answered()
     ensures { StaysAnswered }
 {}
 
-/// A flow is due exactly from its last time and its timeout on. So it isn't due at its last time or before it, neither at the
-/// time of an accepted packet that doesn't only peek nor at its opening, and one that is due stays due until its next packet.
+/// A flow is due exactly from its last time and its own timeout on. So it isn't due before its last time, and one that is due stays
+/// due until its next packet. Where its timeouts are such as can be set, it isn't due at its last time either, neither at the time
+/// of an accepted packet that doesn't only peek nor at its opening.
 pub fn due_by_idle_time()
     ensures exactly { IsDueExactly }
+    ensures before { IsNotDueBeforeLast }
     ensures last { IsNotDueByLast }
     ensures packet { IsNotDueAtPacket }
     ensures opening { IsNotDueAtOpening }

@@ -1,9 +1,10 @@
 // When a flow runs out.
-ghost use Rattle.std.specs.Prelude.{◌≡◌, ◌≤◌};
-ghost use Rattle.npf_flow.specs.Timeout.{tcp_timeout, timeout_seconds, timeout, is_due};
+ghost use Rattle.std.specs.Prelude.{◌≡◌};
+ghost use Rattle.npf_flow.specs.Timeout.{is_due, tcp_timeout_kind, timeout, timeout_kind};
 
 use crate::flow::{Flow, FlowKind};
 use npf_tcp::TcpPhase;
+use npf_timeouts::Timeout;
 
 /// A second, in nanoseconds.
 const SECOND: u64 = 1_000_000_000;
@@ -13,40 +14,39 @@ const SECOND: u64 = 1_000_000_000;
 pub fn due(flow: &Flow, now: u64) -> bool
     ensures { result ≡ is_due flow.now now }
 {
-    flow.last <= now && now - flow.last >= timeout(flow.kind)
+    flow.last <= now && now - flow.last >= timeout(flow)
 }
 
-fn timeout(kind: FlowKind) -> u64
-    ensures { result ≡ timeout kind }
+fn timeout(flow: &Flow) -> u64
+    ensures { result ≡ timeout flow.now }
 {
-    timeout_seconds(kind) * SECOND
+    u64::from(flow.timeouts.get(timeout_kind(flow.kind))) * SECOND
 }
 
-fn timeout_seconds(kind: FlowKind) -> u64
-    ensures seconds { result ≡ timeout_seconds kind }
-    ensures most { result ≤ 86400 }
+/// Which of its timeouts a flow has.
+fn timeout_kind(kind: FlowKind) -> Timeout
+    ensures { result ≡ timeout_kind kind }
 {
     match kind {
-        FlowKind::Tcp(state) => tcp_timeout(state.phase),
-        FlowKind::Other { answered: false } => 30,
-        FlowKind::Other { answered: true } => 60,
+        FlowKind::Tcp(state) => tcp_timeout_kind(state.phase),
+        FlowKind::Other { answered: false } => Timeout::OtherNew,
+        FlowKind::Other { answered: true } => Timeout::OtherEstablished,
     }
 }
 
-fn tcp_timeout(phase: TcpPhase) -> u64
-    ensures seconds { result ≡ tcp_timeout phase }
-    ensures most { result ≤ 86400 }
+fn tcp_timeout_kind(phase: TcpPhase) -> Timeout
+    ensures { result ≡ tcp_timeout_kind phase }
 {
     match phase {
-        TcpPhase::SynSent | TcpPhase::SimsynSent | TcpPhase::SynReceived => 30,
-        TcpPhase::Established => 86_400,
+        TcpPhase::SynSent | TcpPhase::SimsynSent | TcpPhase::SynReceived => Timeout::TcpNew,
+        TcpPhase::Established => Timeout::TcpEstablished,
         TcpPhase::FinSent
         | TcpPhase::FinReceived
         | TcpPhase::CloseWait
         | TcpPhase::FinWait
         | TcpPhase::Closing
-        | TcpPhase::LastAck => 3_600,
-        TcpPhase::TimeWait => 240,
-        TcpPhase::Closed => 10,
+        | TcpPhase::LastAck => Timeout::TcpHalfClose,
+        TcpPhase::TimeWait => Timeout::TcpTimeWait,
+        TcpPhase::Closed => Timeout::TcpClose,
     }
 }

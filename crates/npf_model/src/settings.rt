@@ -2,14 +2,17 @@
 ghost use Rattle.std.specs.Prelude.{◌≡◌, ◌<◌, ◌^◌, true};
 ghost use Rattle.npf_model.specs.Settings.{chosen_number, chosen_word, choice_by_number, choice_by_word, choice_in, drawn_ports, is_port, parameter_name, parameter_named, parameter_of, set_in, switch_number, switch_word};
 
+use npf_timeouts::{Timeout, Timeouts, is_timeout};
+
 /// What the `set` statements of a configuration choose (npf.conf(5), "Settings"). A dynamic map whose right side has no
-/// ports draws from `min_port` to `max_port`.
+/// ports draws from `min_port` to `max_port`. A connection keeps the `timeouts` under which it was opened.
 #[derive(Clone, Copy, Debug, PartialEq, Eq)]
 pub struct Settings {
     pub strict_rst: bool,
     pub key_interface: bool,
     pub min_port: u16,
     pub max_port: u16,
+    pub timeouts: Timeouts,
 }
 
 /// A parameter that is on or off.
@@ -31,6 +34,7 @@ pub enum PortBound {
 pub enum Parameter {
     Switch(Switch),
     Port(PortBound),
+    Timeout(Timeout),
 }
 
 /// A parameter with what it is set to.
@@ -38,6 +42,8 @@ pub enum Parameter {
 pub enum Choice {
     Switch(Switch, bool),
     Port(PortBound, u16),
+    /// A time in seconds, from 1 to 4,294,967.
+    Timeout(Timeout, u32),
 }
 
 /// The least port that is drawn: those below it are the well-known ones.
@@ -50,6 +56,7 @@ impl Settings {
         key_interface: true,
         min_port: LEAST_PORT,
         max_port: u16::MAX,
+        timeouts: Timeouts::DEFAULT,
     };
 
     /// These settings with a parameter set to another value.
@@ -73,6 +80,10 @@ impl Settings {
                 max_port: port,
                 ..self
             },
+            Choice::Timeout(timeout, seconds) => Settings {
+                timeouts: self.timeouts.with(timeout, seconds),
+                ..self
+            },
         }
     }
 
@@ -91,6 +102,7 @@ impl Settings {
             Parameter::Port(PortBound::Greatest) => {
                 Choice::Port(PortBound::Greatest, self.max_port)
             }
+            Parameter::Timeout(timeout) => Choice::Timeout(timeout, self.timeouts.get(timeout)),
         }
     }
 
@@ -104,11 +116,18 @@ impl Settings {
 
 impl Parameter {
     /// All parameters, in the order of a canonical text.
-    pub const ALL: [Parameter; 4] = [
+    pub const ALL: [Parameter; 11] = [
         Parameter::Switch(Switch::StrictRst),
         Parameter::Switch(Switch::KeyInterface),
         Parameter::Port(PortBound::Least),
         Parameter::Port(PortBound::Greatest),
+        Parameter::Timeout(Timeout::TcpNew),
+        Parameter::Timeout(Timeout::TcpEstablished),
+        Parameter::Timeout(Timeout::TcpHalfClose),
+        Parameter::Timeout(Timeout::TcpTimeWait),
+        Parameter::Timeout(Timeout::TcpClose),
+        Parameter::Timeout(Timeout::OtherNew),
+        Parameter::Timeout(Timeout::OtherEstablished),
     ];
 
     /// The parameter of this name in a configuration's text; None where none has it.
@@ -130,6 +149,13 @@ impl Parameter {
             Parameter::Switch(Switch::KeyInterface) => "state.key.interface",
             Parameter::Port(PortBound::Least) => "portmap.min_port",
             Parameter::Port(PortBound::Greatest) => "portmap.max_port",
+            Parameter::Timeout(Timeout::TcpNew) => "state.tcp.timeout.new",
+            Parameter::Timeout(Timeout::TcpEstablished) => "state.tcp.timeout.established",
+            Parameter::Timeout(Timeout::TcpHalfClose) => "state.tcp.timeout.half_close",
+            Parameter::Timeout(Timeout::TcpTimeWait) => "state.tcp.timeout.time_wait",
+            Parameter::Timeout(Timeout::TcpClose) => "state.tcp.timeout.close",
+            Parameter::Timeout(Timeout::OtherNew) => "state.generic.timeout.new",
+            Parameter::Timeout(Timeout::OtherEstablished) => "state.generic.timeout.established",
         }
     }
 }
@@ -156,6 +182,7 @@ impl Choice {
         match self {
             Choice::Switch(switch, _) => Parameter::Switch(switch),
             Choice::Port(bound, _) => Parameter::Port(bound),
+            Choice::Timeout(timeout, _) => Parameter::Timeout(timeout),
         }
     }
 }
@@ -165,7 +192,7 @@ fn chosen_word(parameter: Parameter, word: &[u8]) -> Option<Choice>
 {
     match parameter {
         Parameter::Switch(switch) => Some(Choice::Switch(switch, switch_word(word)?)),
-        Parameter::Port(_) => None,
+        Parameter::Port(_) | Parameter::Timeout(_) => None,
     }
 }
 
@@ -175,7 +202,10 @@ fn chosen_number(parameter: Parameter, number: u32) -> Option<Choice>
     match parameter {
         Parameter::Switch(switch) => Some(Choice::Switch(switch, switch_number(number)?)),
         Parameter::Port(bound) if is_port(number) => Some(Choice::Port(bound, number as u16)),
-        Parameter::Port(_) => None,
+        Parameter::Timeout(timeout) if is_timeout(number) => {
+            Some(Choice::Timeout(timeout, number))
+        }
+        Parameter::Port(_) | Parameter::Timeout(_) => None,
     }
 }
 

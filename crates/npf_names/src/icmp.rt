@@ -1,7 +1,7 @@
 // Messages of ICMP and ICMPv6 by their names. The rows of each table stand in the order of their bytes.
-ghost use Rattle.std.specs.Prelude.{◌≡◌};
+ghost use Rattle.std.specs.Prelude.{◌≡◌, true, map};
 ghost use Rattle.npf_names.specs.Icmp.{codes_of, icmp6_codes, icmp_codes, names_in, types_of};
-ghost use Rattle.npf_names.specs.Names.{number_named};
+ghost use Rattle.npf_names.specs.Names.{number_named, reaches, rises};
 
 use crate::named::octet_named;
 
@@ -92,57 +92,72 @@ impl IcmpTable {
     pub fn number_named(self, text: &[u8]) -> Option<u8>
         ensures { result ≡ number_named (names_in self) text.now }
     {
+        octet_named(self.rows(), text)
+    }
+
+    /// Its names with their numbers, in the order of their bytes.
+    pub fn rows(self) -> &'static [(&'static str, u16)]
+        ensures rows { map (λ row. (row.0.now, row.1)) result.now ≡ names_in self }
+        ensures rising { rises (names_in self) ≡ true }
+        ensures small { reaches 255 (names_in self) ≡ true }
+    {
         match self {
-            IcmpTable::Types(names) => names.type_named(text),
-            IcmpTable::Codes(names, kind) => names.code_named(kind, text),
+            IcmpTable::Types(names) => names.types(),
+            IcmpTable::Codes(names, kind) => names.codes(kind),
         }
     }
 }
 
 impl IcmpNames {
-    /// The number of a type.
     #[tactic(auto, unfolding(crate::specs::Icmp::icmp_types, crate::specs::Icmp::icmp6_types))]
-    fn type_named(self, text: &[u8]) -> Option<u8>
-        ensures { result ≡ number_named (types_of self) text.now }
+    fn types(self) -> &'static [(&'static str, u16)]
+        ensures rows { map (λ row. (row.0.now, row.1)) result.now ≡ types_of self }
+        ensures rising { rises (types_of self) ≡ true }
+        ensures small { reaches 255 (types_of self) ≡ true }
     {
         match self {
-            IcmpNames::OfIcmp => octet_named(&ICMP_TYPES, text),
-            IcmpNames::OfIcmp6 => octet_named(&ICMP6_TYPES, text),
-            IcmpNames::OfNeither => None,
+            IcmpNames::OfIcmp => &ICMP_TYPES,
+            IcmpNames::OfIcmp6 => &ICMP6_TYPES,
+            IcmpNames::OfNeither => &[],
         }
     }
 
-    /// The number of a code of this type.
-    fn code_named(self, kind: u8, text: &[u8]) -> Option<u8>
-        ensures { result ≡ number_named (codes_of self kind) text.now }
+    fn codes(self, kind: u8) -> &'static [(&'static str, u16)]
+        ensures rows { map (λ row. (row.0.now, row.1)) result.now ≡ codes_of self kind }
+        ensures rising { rises (codes_of self kind) ≡ true }
+        ensures small { reaches 255 (codes_of self kind) ≡ true }
     {
         match self {
-            IcmpNames::OfIcmp => icmp_code(kind, text),
-            IcmpNames::OfIcmp6 => icmp6_code(kind, text),
-            IcmpNames::OfNeither => None,
+            IcmpNames::OfIcmp => icmp_codes(kind),
+            IcmpNames::OfIcmp6 => icmp6_codes(kind),
+            IcmpNames::OfNeither => &[],
         }
     }
 }
 
 #[tactic(auto, unfolding(crate::specs::Icmp::unreach_codes, crate::specs::Icmp::redirect_codes, crate::specs::Icmp::timxceed_codes))]
-fn icmp_code(kind: u8, text: &[u8]) -> Option<u8>
-    ensures { result ≡ number_named (icmp_codes kind) text.now }
+fn icmp_codes(kind: u8) -> &'static [(&'static str, u16)]
+    ensures rows { map (λ row. (row.0.now, row.1)) result.now ≡ icmp_codes kind }
+    ensures rising { rises (icmp_codes kind) ≡ true }
+    ensures small { reaches 255 (icmp_codes kind) ≡ true }
 {
     match kind {
-        3 => octet_named(&UNREACH_CODES, text),
-        5 => octet_named(&REDIRECT_CODES, text),
-        11 => octet_named(&TIMXCEED_CODES, text),
-        _ => None,
+        3 => &UNREACH_CODES,
+        5 => &REDIRECT_CODES,
+        11 => &TIMXCEED_CODES,
+        _ => &[],
     }
 }
 
 #[tactic(auto, unfolding(crate::specs::Icmp::unreach6_codes, crate::specs::Icmp::timxceed6_codes))]
-fn icmp6_code(kind: u8, text: &[u8]) -> Option<u8>
-    ensures { result ≡ number_named (icmp6_codes kind) text.now }
+fn icmp6_codes(kind: u8) -> &'static [(&'static str, u16)]
+    ensures rows { map (λ row. (row.0.now, row.1)) result.now ≡ icmp6_codes kind }
+    ensures rising { rises (icmp6_codes kind) ≡ true }
+    ensures small { reaches 255 (icmp6_codes kind) ≡ true }
 {
     match kind {
-        1 => octet_named(&UNREACH6_CODES, text),
-        3 => octet_named(&TIMXCEED6_CODES, text),
-        _ => None,
+        1 => &UNREACH6_CODES,
+        3 => &TIMXCEED6_CODES,
+        _ => &[],
     }
 }

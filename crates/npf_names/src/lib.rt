@@ -10,5 +10,5 @@ mod protocol;
 mod service;
 
 pub use icmp::{IcmpNames, IcmpTable};
-pub use protocol::protocol_number;
-pub use service::service_port;
+pub use protocol::{protocol_number, protocol_rows};
+pub use service::{service_port, service_rows};

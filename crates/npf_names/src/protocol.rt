@@ -1,5 +1,5 @@
 // Protocols by their names.
-ghost use Rattle.std.specs.Prelude.{◌≡◌};
+ghost use Rattle.std.specs.Prelude.{◌≡◌, map};
 ghost use Rattle.npf_names.specs.Names.{number_named};
 ghost use Rattle.npf_names.specs.Protocol.{protocols};
 
@@ -73,4 +73,12 @@ pub fn protocol_number(text: &[u8]) -> Option<u8>
     ensures { result ≡ number_named protocols text.now }
 {
     octet_named(&PROTOCOLS, text)
+}
+
+/// The names of protocols with their numbers, in the order of their bytes.
+#[tactic(auto, unfolding(crate::specs::Protocol::protocols))]
+pub fn protocol_rows() -> &'static [(&'static str, u16)]
+    ensures { map (λ row. (row.0.now, row.1)) result.now ≡ protocols }
+{
+    &PROTOCOLS
 }

@@ -1,5 +1,5 @@
 // Services by their names.
-ghost use Rattle.std.specs.Prelude.{◌≡◌};
+ghost use Rattle.std.specs.Prelude.{◌≡◌, map};
 ghost use Rattle.npf_names.specs.Names.{number_named};
 ghost use Rattle.npf_names.specs.Service.{services};
 
@@ -252,4 +252,12 @@ pub fn service_port(text: &[u8]) -> Option<u16>
     ensures { result ≡ number_named services text.now }
 {
     number_named(&SERVICES, text)
+}
+
+/// The names of services with their ports, in the order of their bytes.
+#[tactic(auto, unfolding(crate::specs::Service::services))]
+pub fn service_rows() -> &'static [(&'static str, u16)]
+    ensures { map (λ row. (row.0.now, row.1)) result.now ≡ services }
+{
+    &SERVICES
 }

@@ -9,7 +9,7 @@ use npf_connections::Connections;
 use npf_connections_fixtures::{NewTable, OneHash};
 use npf_core::Found;
 use npf_engine_opening::{Attempt, Opened, Refusal, open};
-use npf_flow::{FlowArg, FlowLaw};
+use npf_flow::{FlowArg, FlowLaw, FlowSettings};
 use npf_nat::MapPlan;
 use npf_oneturn::OneTurn;
 use npf_types::{Action, Addr, Change, End, Facts, IfId, Key, L4};
@@ -248,7 +248,7 @@ fn attempt(packet: u64, facts: Facts, plan: MapPlan) -> Attempt {
             seg: None,
             peek: false,
         },
-        strict: false,
+        settings: FlowSettings::DEFAULT,
         action: NO_ACTION,
         plan,
     }

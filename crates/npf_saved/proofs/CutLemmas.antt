@@ -43,3 +43,16 @@ found_behind p text at found =
 
 pub none_behind : (p : ℕ → Bool) (text : List ℕ) → position p text ≡ None → [] ≡ after_first p text
 none_behind p text none = let all = position-none_or_len p text none in sym (drop_all (position_or_len p text + 1) text (omega (arith, all)))
+
+-- and a text that lacks the mark is cut into itself and nothing
+no_mark : (mark : ℕ) (text : List ℕ) → lacks mark text ≡ true → position_or_len (λ byte. byte == mark) text ≡ length text
+no_mark mark [] _ = refl
+no_mark mark (byte ∷ text) lack =
+    let both = and_parts (not (byte == mark)) (lacks mark text) lack in
+    rw (both.0, no_mark mark text both.1) (omega arith)
+
+pub whole_before : (mark : ℕ) (text : List ℕ) → lacks mark text ≡ true → before_first (λ byte. byte == mark) text ≡ text
+whole_before mark text lack = ap (λ n. take n text) (no_mark mark text lack) ∙ take_all (length text) text (omega arith)
+
+pub none_after : (mark : ℕ) (text : List ℕ) → lacks mark text ≡ true → after_first (λ byte. byte == mark) text ≡ []
+none_after mark text lack = ap (λ n. drop (n + 1) text) (no_mark mark text lack) ∙ drop_all (length text + 1) text (omega arith)

@@ -1,15 +1,16 @@
 -- What the texts of a line's words lack: the marks by which the line, and the word that they stand in, are parted.
 use Rattle.std.proofs.Common.{◌≡◌, ◌<◌, ◌/◌, ◌%◌, ◌^◌, ◌==◌, ◌≤◌, ◌&&◌, ℕ, Bool, true, false, not, Option, Some, None, IfSome, List, [], ◌∷◌, ◌++◌, slice_index, refl, sym, ap, ◌∙◌, arith, lit≤}
-use Rattle.std.{specs.{Fmt.decimal, Int.{w16, w32, w64}, List.list_all, Char.digit_value}, proofs.lemmas.List.Folds.list_all-append}
+use Rattle.std.{specs.{Fmt.decimal, Int.{w16, w32, w64}, List.list_all, Char.digit_value}, proofs.lemmas.{Bool.and_parts, List.Folds.list_all-append}}
 use Rattle.hex.specs.Hex.{is_hex_digit}
-use Rattle.npf_types.specs.declared.{address.Addr.{Addr, TheVariants.{V4, V6}}, change.{Change.Change, End.End}, key.Key.Key}
+use Rattle.npf_types.specs.declared.{action.Action.Action, address.Addr.{Addr, TheVariants.{V4, V6}}, change.{Change.Change, End.End}, key.Key.Key, name.Name.Name}
+use Rattle.npf_types.specs.{Name.name_bytes, NameText.is_name_byte}
 use Rattle.npf_tcp.specs.declared.state.{Known.Known, TcpPhase.TcpPhase, TcpSide.TcpSide, TcpState.TcpState}
 use Rattle.npf_tcp.specs.declared.state.Known.TheVariants as Knowns
 use Rattle.npf_tcp.specs.declared.state.TcpPhase.TheVariants as Phases
 use Rattle.npf_flow.specs.declared.flow.FlowKind.{FlowKind, TheVariants.{Tcp, Other}}
-use Rattle.npf_saved.specs.Fields.{FitsAddrText, FitsChange, FitsEnd, FitsKeyText, FitsKind, FitsSide}
-use Rattle.npf_saved.specs.Spelling.{addr_text, bit_text, change_text, end_text, hex_text, key_text, kind_text, known_number, or_dash, phase_number, side_text, state_text}
-use Rattle.npf_saved.proofs.{CutLemmas.{lacks, lacks_both}, WordLemmas.{bit_lacks, decimal_lacks, number_lacks, or_dash_lacks}}
+use Rattle.npf_saved.specs.Fields.{FitsAction, FitsAddrText, FitsChange, FitsEnd, FitsKeyText, FitsKind, FitsName, FitsSide}
+use Rattle.npf_saved.specs.Spelling.{action_text, addr_text, bit_text, change_text, end_text, hex_text, key_text, kind_text, known_number, or_dash, phase_number, side_text, state_text}
+use Rattle.npf_saved.proofs.{CutLemmas.{lacks, lacks_both}, WordLemmas.{bit_lacks, decimal_lacks, lacks_by, number_lacks, or_dash_lacks}}
 
 -- the numbers of phases and of what is known are short
 pub known_small : (known : Known) → known_number known < 2 ^ 64
@@ -75,6 +76,10 @@ pub size_lacks : (mark : ℕ) → 10 ≤ digit_value mark → not (45 == mark) �
 size_lacks mark foreign dash None fits = rw dash refl
 size_lacks mark foreign dash (Some n) fits = decimal_lacks mark n (omega (arith, fits)) foreign
 
+-- no mark stands in a name but those that are bytes of names
+pub name_lacks : (mark : ℕ) → is_name_byte mark ≡ false → (name : Name) → lacks mark (name_bytes name) ≡ true
+name_lacks mark foreign name = lacks_by is_name_byte mark foreign (name_bytes name) (and_parts _ (list_all is_name_byte (name_bytes name)) name.named).1
+
 -- the parts of a side lack the marks behind which they stand
 pub side_lacks : (mark : ℕ) → 10 ≤ digit_value mark → not (44 == mark) ≡ true → not (45 == mark) ≡ true → (side : TcpSide) → FitsSide side
     → lacks mark (side_text side) ≡ true
@@ -84,6 +89,18 @@ side_lacks mark foreign comma dash side fits =
     (lacks_both mark 44 _ _ (decimal_lacks mark side.maxend (wider side.maxend fits.maxend) foreign) comma
     (lacks_both mark 44 _ _ (decimal_lacks mark side.maxwin (wider side.maxwin fits.maxwin) foreign) comma
     (byte_lacks mark foreign dash side.scale fits.scale))))
+
+-- the parts of an action lack every mark that stands in no name and no number, but for its own
+pub action_lacks : (mark : ℕ) → 10 ≤ digit_value mark → is_name_byte mark ≡ false → not (44 == mark) ≡ true → not (45 == mark) ≡ true → not (48 == mark) ≡ true
+    → not (49 == mark) ≡ true → (action : Action) → FitsAction action → lacks mark (action_text action) ≡ true
+action_lacks mark foreign nameless comma dash zero one action fits =
+    let log = or_dash name_bytes action.log in
+    let flag = bit_text action.no_df in
+    let size = or_dash decimal action.max_mss in
+    let logged = or_dash_lacks FitsName name_bytes mark dash (λ name _. name_lacks mark nameless name) action.log fits.log in
+    let flagged = lacks_both mark 44 flag log (bit_lacks mark zero one action.no_df) comma logged in
+    let sized = lacks_both mark 44 size (flag ++ 44 ∷ log) (size_lacks mark foreign dash action.max_mss fits.max_mss) comma flagged in
+    lacks_both mark 44 (or_dash decimal action.min_ttl) (size ++ 44 ∷ (flag ++ 44 ∷ log)) (byte_lacks mark foreign dash action.min_ttl fits.min_ttl) comma sized
 
 -- no space stands in a kind
 pub kind_is_word : (kind : FlowKind) → FitsKind kind → lacks 32 (kind_text kind) ≡ true

@@ -1,4 +1,4 @@
--- What the fields of a saved connection can hold: numbers of their widths.
+-- What the fields of a saved connection can hold: numbers of their widths, and times that can be set.
 use Rattle.std.specs.Prelude.{◌≡◌, ◌<◌, ◌^◌, ℕ, IfSome, length, slice_index}
 use Rattle.npf_types.specs.declared.action.Action.{Action}
 use Rattle.npf_types.specs.declared.address.Addr.{Addr}
@@ -8,6 +8,7 @@ use Rattle.npf_types.specs.declared.change.End.{End}
 use Rattle.npf_types.specs.declared.key.Key.{Key}
 use Rattle.npf_types.specs.declared.name.Name.{Name}
 use Rattle.npf_tcp.specs.declared.state.TcpSide.{TcpSide}
+use Rattle.npf_timeouts.specs.Timeouts.{AreTimeouts}
 use Rattle.npf_flow.specs.declared.flow.Flow.{Flow}
 use Rattle.npf_flow.specs.declared.flow.FlowKind.{FlowKind}
 use Rattle.npf_flow.specs.declared.flow.FlowKind.TheVariants.{Tcp, Other}
@@ -59,6 +60,7 @@ pub record FitsFlow (flow : Flow) : Type 0 where
   pub there : FitsChange flow.there
   pub back : FitsChange flow.back
   pub action : FitsAction flow.action
+  pub timeouts : AreTimeouts flow.timeouts
 
 pub record FitsSaved (saved : Saved) : Type 0 where
   pub forward : FitsKeyText saved.forward

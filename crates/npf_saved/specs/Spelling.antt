@@ -1,5 +1,5 @@
 -- How a connection is spelled as a line of a saved file: words parted by spaces, and a word's parts by a mark of its own.
-use Rattle.std.specs.Prelude.{ℕ, ◌/◌, ◌%◌, ◌^◌, Bool, true, false, Option, Some, None, List, [], ◌∷◌, ◌++◌, slice_index, codes}
+use Rattle.std.specs.Prelude.{ℕ, ◌/◌, ◌%◌, ◌^◌, Bool, true, false, if◌then◌else◌, Option, Some, None, List, [], ◌∷◌, ◌++◌, slice_index, codes}
 use Rattle.std.specs.Fmt.{decimal}
 use Rattle.std.specs.Int.{Width, w16, w32, w64, to_be_bytes}
 use Rattle.hex.specs.Hex.{encode_lower}
@@ -17,6 +17,8 @@ use Rattle.npf_tcp.specs.declared.state.TcpPhase.{TcpPhase}
 use Rattle.npf_tcp.specs.declared.state.TcpPhase.TheVariants as Phases
 use Rattle.npf_tcp.specs.declared.state.TcpSide.{TcpSide}
 use Rattle.npf_tcp.specs.declared.state.TcpState.{TcpState}
+use Rattle.npf_timeouts.specs.declared.timeouts.Timeouts.{Timeouts}
+use Rattle.npf_timeouts.specs.Timeouts.{are_default}
 use Rattle.npf_flow.specs.declared.flow.FlowKind.{FlowKind}
 use Rattle.npf_flow.specs.declared.flow.FlowKind.TheVariants.{Tcp, Other}
 use Rattle.npf_saved.specs.declared.saved.Saved.{Saved}
@@ -91,12 +93,27 @@ abbrev pub action_text : Action → List ℕ
 action_text action =
     or_dash decimal action.min_ttl ++ 44 ∷ (or_dash decimal action.max_mss ++ 44 ∷ (bit_text action.no_df ++ 44 ∷ or_dash name_bytes action.log))
 
--- a connection's line without its line feed: its keys, its flow but for the number of the packet that opened it, and its translation
+-- the seven times in seconds, those of TCP first, parted by spaces
+abbrev pub times_text : Timeouts → List ℕ
+times_text times =
+    decimal times.tcp_new ++ 32 ∷ (decimal times.tcp_established ++ 32 ∷ (decimal times.tcp_half_close ++ 32 ∷ (decimal times.tcp_time_wait
+    ++ 32 ∷ (decimal times.tcp_close ++ 32 ∷ (decimal times.other_new ++ 32 ∷ decimal times.other_established)))))
+
+-- what a line ends with: nothing where each time is that which holds without a statement
+abbrev pub timeouts_text : Timeouts → List ℕ
+timeouts_text times = if are_default times then [] else codes " timeouts " ++ times_text times
+
+-- and what of it stands behind its first space
+abbrev pub timeouts_behind : Timeouts → List ℕ
+timeouts_behind times = if are_default times then [] else codes "timeouts" ++ 32 ∷ times_text times
+
+-- a connection's line without its line feed: its keys, its flow but for the number of the packet that opened it, its translation, and
+-- its timeouts
 abbrev pub conn_line : Saved → List ℕ
 conn_line saved =
     codes "conn" ++ 32 ∷ (key_text saved.forward ++ 32 ∷ (or_dash key_text saved.port ++ 32 ∷ (or_dash key_text saved.backward
     ++ 32 ∷ (kind_text saved.flow.kind ++ 32 ∷ (decimal saved.flow.last ++ 32 ∷ (change_text saved.flow.there ++ 32 ∷ (change_text saved.flow.back
-    ++ 32 ∷ action_text saved.flow.action)))))))
+    ++ 32 ∷ (action_text saved.flow.action ++ timeouts_text saved.flow.timeouts))))))))
 
 -- an interface's line
 abbrev pub if_line : Name → List ℕ

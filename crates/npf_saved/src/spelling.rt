@@ -3,12 +3,13 @@ ghost use Rattle.std.specs.Prelude.{◌≡◌, ◌++◌, ◌∷◌, [], OnOk, �
 ghost use Rattle.std.specs.Fmt.{decimal};
 ghost use Rattle.std.specs.Int.{w16, w32, w64};
 ghost use Rattle.npf_types.specs.Name.{name_bytes};
-ghost use Rattle.npf_saved.specs.Spelling.{action_text, addr_text, bit_text, change_text, conn_line, end_text, hex_text, if_line, key_text, kind_text, known_number, or_dash, phase_number, side_text, state_text};
+ghost use Rattle.npf_saved.specs.Spelling.{action_text, addr_text, bit_text, change_text, conn_line, end_text, hex_text, if_line, key_text, kind_text, known_number, or_dash, phase_number, side_text, state_text, timeouts_text, times_text};
 
 use crate::saved::Saved;
 use itoa::Buffer;
 use npf_flow::FlowKind;
 use npf_tcp::{Known, TcpPhase, TcpSide, TcpState};
+use npf_timeouts::Timeouts;
 use npf_types::{Action, Addr, Change, End, Key, Name, NoMemory};
 
 /// Appends the connection's line, without its line feed.
@@ -31,6 +32,7 @@ pub(crate) fn write_conn(into: &mut Vec<u8>, saved: &Saved) -> Result<(), NoMemo
     write_change(into, &saved.flow.back)?;
     into.push(b' ')?;
     write_action(into, &saved.flow.action)?;
+    write_timeouts(into, &saved.flow.timeouts)?;
     Ok(())
 }
 
@@ -224,6 +226,36 @@ fn write_optional_name(into: &mut Vec<u8>, name: &Option<Name>) -> Result<(), No
             Ok(())
         }
     }
+}
+
+/// Nothing where each time is that which holds without a statement.
+fn write_timeouts(into: &mut Vec<u8>, times: &Timeouts) -> Result<(), NoMemory>
+    ensures { OnOk result (into.new.items ≡ into.old.items ++ timeouts_text times.now) }
+{
+    if times.are_default() {
+        return Ok(());
+    }
+    into.extend_from_slice(b" timeouts ")?;
+    write_times(into, times)
+}
+
+fn write_times(into: &mut Vec<u8>, times: &Timeouts) -> Result<(), NoMemory>
+    ensures { OnOk result (into.new.items ≡ into.old.items ++ times_text times.now) }
+{
+    write_number(into, u64::from(times.tcp_new))?;
+    into.push(b' ')?;
+    write_number(into, u64::from(times.tcp_established))?;
+    into.push(b' ')?;
+    write_number(into, u64::from(times.tcp_half_close))?;
+    into.push(b' ')?;
+    write_number(into, u64::from(times.tcp_time_wait))?;
+    into.push(b' ')?;
+    write_number(into, u64::from(times.tcp_close))?;
+    into.push(b' ')?;
+    write_number(into, u64::from(times.other_new))?;
+    into.push(b' ')?;
+    write_number(into, u64::from(times.other_established))?;
+    Ok(())
 }
 
 fn write_dash(into: &mut Vec<u8>) -> Result<(), NoMemory>

@@ -1,38 +1,31 @@
 -- No line feed stands in a line.
 use Rattle.std.proofs.Common.{◌≡◌, ◌<◌, ◌≤◌, ◌^◌, ◌==◌, ◌&&◌, ℕ, Bool, true, false, not, Option, Some, None, IfSome, List, [], ◌∷◌, ◌++◌, length, take, refl, sym, ap, ◌∙◌, lit≤, arith}
-use Rattle.std.{specs.{Prelude.{nat_le, nat_lt, slice_index}, Char.digit_value, Fmt.decimal, List.{before_first, list_all}}, proofs.lemmas.Bool.and_parts}
-use Rattle.npf_types.specs.{declared.{action.Action.Action, change.Change.Change, name.Name.Name}, Name.name_bytes, NameText.is_name_byte}
+use Rattle.std.{specs.{Prelude.{nat_le, nat_lt, slice_index}, Char.digit_value, Fmt.decimal, List.before_first}, proofs.lemmas.List.Folds.list_all-append}
+use Rattle.npf_types.specs.{declared.{action.Action.Action, change.Change.Change, name.Name.Name}, Name.name_bytes}
+use Rattle.npf_timeouts.specs.{declared.timeouts.Timeouts.Timeouts, Timeouts.AreTimeouts}
 use Rattle.npf_flow.specs.declared.flow.FlowKind.{FlowKind, TheVariants.{Tcp, Other}}
-use Rattle.npf_saved.specs.{declared.saved.Saved.Saved, Fields.{FitsAction, FitsKind, FitsName, FitsSaved}, File.ended_line}
-use Rattle.npf_saved.specs.Spelling.{action_text, bit_text, change_text, conn_line, end_text, if_line, key_text, kind_text, or_dash, phase_number, side_text, state_text}
+use Rattle.npf_saved.specs.{declared.saved.Saved.Saved, Fields.{FitsAction, FitsKind, FitsSaved}, File.ended_line}
+use Rattle.npf_saved.specs.Spelling.{action_text, bit_text, change_text, conn_line, end_text, if_line, key_text, kind_text, or_dash, phase_number, side_text, state_text, timeouts_text}
 use Rattle.npf_saved.proofs.CutLemmas.{lacks, lacks_both, word_before}
-use Rattle.npf_saved.proofs.FieldLemmas.{byte_lacks, end_lacks, key_lacks, optional_key_lacks, phase_small, side_lacks, size_lacks}
-use Rattle.npf_saved.proofs.WordLemmas.{bit_lacks, decimal_lacks, lacks_by, or_dash_lacks}
+use Rattle.npf_saved.proofs.FieldLemmas.{action_lacks, end_lacks, key_lacks, name_lacks, optional_key_lacks, phase_small, side_lacks}
+use Rattle.npf_saved.proofs.{TimeoutLemmas.feed_lacks, WordLemmas.{bit_lacks, decimal_lacks}}
 use Rattle.npf_saved_file.specs.File.{IsFirstLine, is_line_feed}
 
 foreign : 10 ≤ digit_value 10
 foreign = lit≤ tt
 
-name_lacks : (name : Name) → lacks 10 (name_bytes name) ≡ true
-name_lacks name = lacks_by is_name_byte 10 refl (name_bytes name) (and_parts _ (list_all is_name_byte (name_bytes name)) name.named).1
-
 pub if_lacks : (name : Name) → lacks 10 (if_line name) ≡ true
-if_lacks name = lacks_both 10 32 (105 ∷ 102 ∷ []) (name_bytes name) refl refl (name_lacks name)
+if_lacks name = lacks_both 10 32 (105 ∷ 102 ∷ []) (name_bytes name) refl refl (name_lacks 10 refl name)
 
 change_lacks : (change : Change) → lacks 10 (change_text change) ≡ true
 change_lacks change =
     lacks_both 10 47 (or_dash end_text change.src) (or_dash end_text change.dst ++ 47 ∷ bit_text change.neutral) (end_lacks 10 refl change.src refl refl) refl
     (lacks_both 10 47 (or_dash end_text change.dst) (bit_text change.neutral) (end_lacks 10 refl change.dst refl refl) refl (bit_lacks 10 refl refl change.neutral))
 
-action_lacks : (action : Action) → FitsAction action → lacks 10 (action_text action) ≡ true
-action_lacks action fits =
-    let log = or_dash name_bytes action.log in
-    let flag = bit_text action.no_df in
-    let size = or_dash decimal action.max_mss in
-    let logged = or_dash_lacks FitsName name_bytes 10 refl (λ name _. name_lacks name) action.log fits.log in
-    let flagged = lacks_both 10 44 flag log (bit_lacks 10 refl refl action.no_df) refl logged in
-    let sized = lacks_both 10 44 size (flag ++ 44 ∷ log) (size_lacks 10 foreign refl action.max_mss fits.max_mss) refl flagged in
-    lacks_both 10 44 (or_dash decimal action.min_ttl) (size ++ 44 ∷ (flag ++ 44 ∷ log)) (byte_lacks 10 foreign refl action.min_ttl fits.min_ttl) refl sized
+end_lacks_feed : (action : Action) (times : Timeouts) → FitsAction action → AreTimeouts times → lacks 10 (action_text action ++ timeouts_text times) ≡ true
+end_lacks_feed action times fits are =
+    list_all-append (λ byte. not (byte == 10)) (action_text action) (timeouts_text times)
+    ∙ rw (action_lacks 10 foreign refl refl refl refl refl action fits, feed_lacks times are foreign) refl
 
 kind_lacks : (kind : FlowKind) → FitsKind kind → lacks 10 (kind_text kind) ≡ true
 kind_lacks (Tcp state) fits =
@@ -56,8 +49,8 @@ conn_lacks saved fits =
     let last = decimal saved.flow.last in
     let there = change_text saved.flow.there in
     let back = change_text saved.flow.back in
-    let action = action_text saved.flow.action in
-    let one = lacks_both 10 32 back action (change_lacks saved.flow.back) refl (action_lacks saved.flow.action fits.flow.action) in
+    let action = action_text saved.flow.action ++ timeouts_text saved.flow.timeouts in
+    let one = lacks_both 10 32 back action (change_lacks saved.flow.back) refl (end_lacks_feed saved.flow.action saved.flow.timeouts fits.flow.action fits.flow.timeouts) in
     let two = lacks_both 10 32 there (back ++ 32 ∷ action) (change_lacks saved.flow.there) refl one in
     let three = lacks_both 10 32 last (there ++ 32 ∷ (back ++ 32 ∷ action)) (decimal_lacks 10 saved.flow.last fits.flow.last foreign) refl two in
     let four = lacks_both 10 32 kind (last ++ 32 ∷ (there ++ 32 ∷ (back ++ 32 ∷ action))) (kind_lacks saved.flow.kind fits.flow.kind) refl three in

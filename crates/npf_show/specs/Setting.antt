@@ -11,6 +11,7 @@ use Rattle.npf_show.specs.Piece.{Piece, Word, Number, Quoted, glued, spaced, lin
 abbrev pub has_same_value : Choice → Choice → Bool
 has_same_value (Choice.Switch switch on) (Choice.Switch _ other) = if on then other else not other
 has_same_value (Choice.Port bound port) (Choice.Port _ other) = port == other
+has_same_value (Choice.Timeout timeout seconds) (Choice.Timeout _ other) = seconds == other
 has_same_value _ _ = false
 
 -- what is set to another value than it has without a statement
@@ -29,6 +30,7 @@ switch_text false = codes "off"
 abbrev pub value_piece : Choice → Piece
 value_piece (Choice.Switch switch on) = Word (switch_text on)
 value_piece (Choice.Port bound port) = Number port
+value_piece (Choice.Timeout timeout seconds) = Number seconds
 
 abbrev pub set_line : Choice → List Piece
 set_line choice = glued (Word (codes "set")) ++ spaced (Word (parameter_name (parameter_of choice))) ++ spaced (value_piece choice) ++ line_end

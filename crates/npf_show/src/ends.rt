@@ -27,7 +27,7 @@ fn show_length(prefix: &Prefix, page: &mut Page) -> Result<(), NoMemory>
         return Ok(());
     }
     page.glued_sign("/")?;
-    page.glued_number(u16::from(prefix.len))?;
+    page.glued_number(u32::from(prefix.len))?;
     Ok(())
 }
 
@@ -55,7 +55,7 @@ impl Shown for (u16, u16) {
     ghost pieces = { λ model range. range_pieces range };
 
     fn show(&self, _model: &Model, page: &mut Page) -> Result<(), NoMemory> {
-        page.number(self.0)?;
+        page.number(u32::from(self.0))?;
         show_last(*self, page)?;
         Ok(())
     }
@@ -69,7 +69,7 @@ fn show_last(range: (u16, u16), page: &mut Page) -> Result<(), NoMemory>
         return Ok(());
     }
     page.glued_sign("-")?;
-    page.glued_number(last)?;
+    page.glued_number(u32::from(last))?;
     Ok(())
 }
 

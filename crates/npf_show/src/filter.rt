@@ -36,7 +36,7 @@ impl Shown for u8 {
     ghost pieces = { λ model protocol. protocol_pieces protocol };
 
     fn show(&self, _model: &Model, page: &mut Page) -> Result<(), NoMemory> {
-        page.number(u16::from(*self))
+        page.number(u32::from(*self))
     }
 }
 
@@ -71,7 +71,7 @@ fn show_icmp(icmp: Option<(u8, Option<u8>)>, page: &mut Page) -> Result<(), NoMe
         return Ok(());
     };
     page.word("icmp-type")?;
-    page.number(u16::from(icmp.0))?;
+    page.number(u32::from(icmp.0))?;
     show_code(icmp.1, page)?;
     Ok(())
 }
@@ -83,6 +83,6 @@ fn show_code(code: Option<u8>, page: &mut Page) -> Result<(), NoMemory>
         return Ok(());
     };
     page.word("code")?;
-    page.number(u16::from(code))?;
+    page.number(u32::from(code))?;
     Ok(())
 }

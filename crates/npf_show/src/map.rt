@@ -67,7 +67,7 @@ fn show_protocol(protocol: Option<u8>, page: &mut Page) -> Result<(), NoMemory>
         return Ok(());
     };
     page.word("proto")?;
-    page.number(u16::from(protocol))?;
+    page.number(u32::from(protocol))?;
     Ok(())
 }
 

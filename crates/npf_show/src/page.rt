@@ -133,7 +133,7 @@ impl Page {
     }
 
     /// A number without a space in front of it.
-    pub(crate) fn glued_number(&mut self, number: u16) -> Result<(), NoMemory>
+    pub(crate) fn glued_number(&mut self, number: u32) -> Result<(), NoMemory>
         ensures { OnOk result (self.new ≡ self.old ++ spelled (glued (Number number))) }
     {
         let mut digits = Buffer::new();
@@ -141,7 +141,7 @@ impl Page {
         Ok(())
     }
 
-    pub(crate) fn number(&mut self, number: u16) -> Result<(), NoMemory>
+    pub(crate) fn number(&mut self, number: u32) -> Result<(), NoMemory>
         ensures { OnOk result (self.new ≡ self.old ++ spelled (spaced (Number number))) }
     {
         self.bytes(b" ")?;

@@ -110,11 +110,11 @@ impl Shown for NormalOption {
         match self {
             NormalOption::MinTtl(number) => {
                 page.quoted(b"min-ttl")?;
-                page.number(u16::from(*number))
+                page.number(u32::from(*number))
             }
             NormalOption::MaxMss(number) => {
                 page.quoted(b"max-mss")?;
-                page.number(*number)
+                page.number(u32::from(*number))
             }
             NormalOption::NoDf => page.quoted(b"no-df"),
         }

@@ -34,6 +34,7 @@ fn has_same_value(one: Choice, other: Choice) -> bool
     match (one, other) {
         (Choice::Switch(_, one), Choice::Switch(_, other)) => one == other,
         (Choice::Port(_, one), Choice::Port(_, other)) => one == other,
+        (Choice::Timeout(_, one), Choice::Timeout(_, other)) => one == other,
         _ => false,
     }
 }
@@ -53,7 +54,8 @@ fn show_value(choice: Choice, page: &mut Page) -> Result<(), NoMemory>
 {
     match choice {
         Choice::Switch(_, value) => page.word(switch_text(value)),
-        Choice::Port(_, port) => page.number(port),
+        Choice::Port(_, port) => page.number(u32::from(port)),
+        Choice::Timeout(_, seconds) => page.number(seconds),
     }
 }
 

@@ -6,6 +6,7 @@ use Rattle.npf_types.specs.{declared.limits.TheConstants.MAX_LIST_ELEMENTS, Name
 use Rattle.npf_syntax.specs.declared.stmt.{Stmt.Stmt, Tree.Tree}
 use Rattle.npf_model.specs.declared.{group.Group.Group, iface.Iface.Iface, map.Map.Map, model.Model.Model, procedure.Procedure.Procedure}
 use Rattle.npf_model.specs.declared.{settings.{Choice.Choice, Parameter.Parameter, Settings.Settings}, table.TableDecl.TableDecl}
+use Rattle.npf_timeouts.specs.{declared.timeouts.Timeout.TheVariants.TcpNew, Timeouts.timeout_of}
 use Rattle.npf_model.specs.declared.settings.{PortBound.TheVariants.{Least, Greatest}, Switch.TheVariants.{StrictRst, KeyInterface}}
 use Rattle.npf_model.specs.Settings.{choice_in, default_settings, parameters, set_in, with_settings}
 use Rattle.npf_expand_values.specs.{Atom.Env, Declarations.{declared_in, table_name, table_names, procedure_name, procedure_names}, Source.declared_of}
@@ -143,9 +144,9 @@ default_filter (g ∷ groups) = by g.default (default_filter groups) where
 -- a parameter set to what it has
 set_same : (settings : Settings) (parameter : Parameter) → set_in (choice_in settings parameter) settings ≡ settings
 set_same settings (Parameter.Switch StrictRst) = refl
-set_same settings (Parameter.Switch KeyInterface) = refl
 set_same settings (Parameter.Port Least) = refl
-set_same settings (Parameter.Port Greatest) = refl
+set_same settings (Parameter.Timeout TcpNew) = refl
+set_same settings _ = refl
 
 same_switch : (a b : Bool) → (if a then b else not b) ≡ true → a ≡ b
 same_switch true true is = refl
@@ -161,6 +162,8 @@ same_choice one other (Parameter.Switch StrictRst) is = ap (Choice.Switch Strict
 same_choice one other (Parameter.Switch KeyInterface) is = ap (Choice.Switch KeyInterface) (same_switch one.key_interface other.key_interface is)
 same_choice one other (Parameter.Port Least) is = ap (Choice.Port Least) (same_number one.min_port other.min_port is)
 same_choice one other (Parameter.Port Greatest) is = ap (Choice.Port Greatest) (same_number one.max_port other.max_port is)
+same_choice one other (Parameter.Timeout timeout) is =
+    ap (Choice.Timeout timeout) (same_number (timeout_of one.timeouts timeout) (timeout_of other.timeouts timeout) is)
 
 module _ (target : Settings) where
   -- where a parameter is as without a statement, what is shown of it sets it as the target has it
@@ -190,7 +193,8 @@ module _ (target : Settings) where
       ∙ restores_all (set_in (choice_in target parameter) settings) among unset.1
 
 settings_restored : (settings : Settings) → with_settings default_settings (shown_settings settings) ≡ settings
-settings_restored settings = restores_all settings default_settings parameters (refl, (refl, (refl, (refl, tt))))
+settings_restored settings =
+    restores_all settings default_settings parameters (refl, (refl, (refl, (refl, (refl, (refl, (refl, (refl, (refl, (refl, (refl, tt)))))))))))
 
 alg_restored : (is_asked : Bool) → list_any (bytes_eq (codes "icmp")) (flat_map gateways_in (alg_parts is_asked)) ≡ is_asked
 alg_restored true = refl

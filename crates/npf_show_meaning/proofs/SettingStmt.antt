@@ -5,7 +5,8 @@ use Rattle.npf_lexer.specs.declared.token.TokenKind.{TokenKind}
 use Rattle.npf_lexer.specs.declared.token.TokenKind.TheVariants as Kind
 use Rattle.npf_syntax.specs.declared.{stmt.{Setting.Setting, Stmt.Stmt}, word.{Str.Str, Word.Word}}
 use Rattle.npf_model.specs.declared.{iface.Iface.Iface, model.Model.Model, settings.{Choice.Choice, Parameter.Parameter}}
-use Rattle.npf_model.specs.declared.settings.{PortBound.{PortBound, TheVariants.{Least, Greatest}}, Switch.{Switch, TheVariants.{StrictRst, KeyInterface}}}
+use Rattle.npf_timeouts.specs.{declared.timeouts.Timeout.TheVariants.TcpNew, Timeouts.is_timeout}
+use Rattle.npf_model.specs.declared.settings.{PortBound.TheVariants.Least, Switch.{Switch, TheVariants.StrictRst}}
 use Rattle.npf_model.specs.Settings.{choice_by_number, choice_by_word, chosen_number, chosen_word, is_port, parameter_name, parameter_named, parameter_of, switch_word}
 use Rattle.npf_parser_values.specs.Token.{span_of}
 use Rattle.npf_parser.specs.Stmt.{alg, set, setting}
@@ -18,9 +19,9 @@ use Rattle.npf_show_meaning.proofs.{TableStmt.{IsWord, any_word_goes}, Parts.{Of
 
 parameter_again : (parameter : Parameter) → parameter_named (parameter_name parameter) ≡ Some parameter
 parameter_again (Parameter.Switch StrictRst) = refl
-parameter_again (Parameter.Switch KeyInterface) = refl
 parameter_again (Parameter.Port Least) = refl
-parameter_again (Parameter.Port Greatest) = refl
+parameter_again (Parameter.Timeout TcpNew) = refl
+parameter_again _ = refl
 
 switch_again : (value : Bool) → switch_word (switch_text value) ≡ Some value
 switch_again true = refl
@@ -34,10 +35,11 @@ switch_chosen switch on =
     ap (option_and_then (λ parameter. chosen_word parameter (switch_text on))) (parameter_again (Parameter.Switch switch))
     ∙ ap (option_map (Choice.Switch switch)) (switch_again on)
 
-port_chosen : (bound : PortBound) (port : ℕ) → is_port port ≡ true → choice_by_number (name_of (Choice.Port bound port)) port ≡ Some (Choice.Port bound port)
-port_chosen bound port is =
-    ap (option_and_then (λ parameter. chosen_number parameter port)) (parameter_again (Parameter.Port bound))
-    ∙ ap (λ b. if b then Some (Choice.Port bound port) else None) is
+-- a number that is one of the parameter's own is taken
+number_chosen : (choice : Choice) (n : ℕ) (own : Bool) → own ≡ true → chosen_number (parameter_of choice) n ≡ (if own then Some choice else None)
+    → choice_by_number (name_of choice) n ≡ Some choice
+number_chosen choice n own is chosen =
+    ap (option_and_then (λ parameter. chosen_number parameter n)) (parameter_again (parameter_of choice)) ∙ chosen ∙ ap (λ b. if b then Some choice else None) is
 
 -- the value sets it so
 abbrev Sets : Choice → Setting → Type 0
@@ -50,7 +52,15 @@ value_goes (Choice.Switch switch on) regular ks =
     (make {P = IsWord (switch_text on)} (λ ts w is. ap (choice_by_word (parameter_name (Parameter.Switch switch))) is ∙ switch_chosen switch on) (any_word_goes (switch_text on) ks))
 value_goes (Choice.Port bound port) regular ks =
     pick_first (it_is (λ s. refl))
-    (make {P = IsNumber port} (λ ts n is. ap (choice_by_number (parameter_name (Parameter.Port bound))) is ∙ port_chosen bound port regular) (number_goes port ks))
+    (make {P = IsNumber port}
+    (λ ts n is. ap (choice_by_number (parameter_name (Parameter.Port bound))) is ∙ number_chosen (Choice.Port bound port) port (is_port port) regular refl)
+    (number_goes port ks))
+value_goes (Choice.Timeout timeout seconds) regular ks =
+    pick_first (it_is (λ s. refl))
+    (make {P = IsNumber seconds}
+    (λ ts n is.
+    ap (choice_by_number (parameter_name (Parameter.Timeout timeout))) is ∙ number_chosen (Choice.Timeout timeout seconds) seconds (is_timeout seconds) regular refl)
+    (number_goes seconds ks))
 
 module _ (ifaces : List Iface) (model : Model) where
   says_set : (choice : Choice) (name : Word) (value : Setting) (span : Span) → IsWord (name_of choice) name → Sets choice value

@@ -28,6 +28,7 @@ use Rattle.npf_model.specs.declared.settings.Parameter.{Parameter}
 use Rattle.npf_model.specs.declared.table.TableDecl.{TableDecl}
 use Rattle.npf_model.specs.Count.{elements_of}
 use Rattle.npf_model.specs.Settings.{choice_in, is_port}
+use Rattle.npf_timeouts.specs.Timeouts.{is_timeout}
 use Rattle.npf_expand_values.specs.Declarations.{table_number}
 use Rattle.npf_expand_values.specs.Iface.{on_text}
 use Rattle.npf_expand_values.specs.Source.{declared_of}
@@ -136,10 +137,11 @@ pub record IsRegularDecl (table : TableDecl) : Type 0 where
   pub file : IfSome table.file (λ file. is_utf8 file ≡ true)
   pub span : is_some table.file_span ≡ is_some table.file
 
--- a port that may be drawn
+-- a port that may be drawn, and a time that can be set
 abbrev pub IsRegularChoice : Choice → Type 0
 IsRegularChoice (Choice.Switch switch on) = Unit {0}
 IsRegularChoice (Choice.Port bound port) = is_port port ≡ true
+IsRegularChoice (Choice.Timeout timeout seconds) = is_timeout seconds ≡ true
 
 pub record IsRegular (ifaces : List Iface) (model : Model) : Type 0 where
   pub settings : (parameter : Parameter) → IsRegularChoice (choice_in model.settings parameter)

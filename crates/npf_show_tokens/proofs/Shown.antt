@@ -10,7 +10,8 @@ use Rattle.npf_model.specs.declared.map.Algo.TheVariants as Algos
 use Rattle.npf_model.specs.declared.map.Arrow.TheVariants as Arrows
 use Rattle.npf_model.specs.declared.{procedure.Procedure.Procedure, rule.{OnIf.OnIf, Rule.Rule, StateOpt.StateOpt}}
 use Rattle.npf_model.specs.declared.{rule.StateOpt.TheVariants.{Not, OnInterface, Everywhere}, settings.{Choice.Choice, Parameter.Parameter, Settings.Settings}}
-use Rattle.npf_model.specs.declared.settings.{PortBound.TheVariants.{Least, Greatest}, Switch.TheVariants.{StrictRst, KeyInterface}}
+use Rattle.npf_timeouts.specs.declared.timeouts.Timeout.TheVariants.{TcpNew}
+use Rattle.npf_model.specs.declared.settings.{PortBound.TheVariants.Least, Switch.TheVariants.StrictRst}
 use Rattle.npf_model.specs.declared.{table.Kind.{Kind, TheVariants.{Ipset, Lpm, Const}}}
 use Rattle.npf_model.specs.{declared.table.TableDecl.TableDecl, Settings.{choice_in, default_settings, parameter_name, parameter_of, parameters}}
 use Rattle.npf_show.specs.Bound.{dir_pieces, on_pieces}
@@ -351,11 +352,14 @@ procedure_told procedure is =
     closes
 
 -- settings and the gateway
+name_is_word : (parameter : Parameter) → is_run_word (parameter_name parameter) ≡ true
+name_is_word (Parameter.Switch StrictRst) = refl
+name_is_word (Parameter.Port Least) = refl
+name_is_word (Parameter.Timeout TcpNew) = refl
+name_is_word _ = refl
+
 parameter_follows : (parameter : Parameter) → Follows (spaced (Pieces.Word (parameter_name parameter)))
-parameter_follows (Parameter.Switch StrictRst) = word_follows (parameter_name (Parameter.Switch StrictRst)) refl
-parameter_follows (Parameter.Switch KeyInterface) = word_follows (parameter_name (Parameter.Switch KeyInterface)) refl
-parameter_follows (Parameter.Port Least) = word_follows (parameter_name (Parameter.Port Least)) refl
-parameter_follows (Parameter.Port Greatest) = word_follows (parameter_name (Parameter.Port Greatest)) refl
+parameter_follows parameter = word_follows (parameter_name parameter) (name_is_word parameter)
 
 switch_follows : (value : Bool) → Follows (spaced (Pieces.Word (switch_text value)))
 switch_follows true = word_follows (codes "on") refl
@@ -364,6 +368,7 @@ switch_follows false = word_follows (codes "off") refl
 value_follows : (choice : Choice) → IsShowableChoice choice → Follows (spaced (value_piece choice))
 value_follows (Choice.Switch switch on) is = switch_follows on
 value_follows (Choice.Port bound port) is = number_follows port (omega (arith, is))
+value_follows (Choice.Timeout timeout seconds) is = number_follows seconds is
 
 set_told : (choice : Choice) → IsShowableChoice choice → Lines (set_line choice)
 set_told choice is =

@@ -102,6 +102,7 @@ pub record IsShowableTable (table : TableDecl) : Type 0 where
 abbrev pub IsShowableChoice : Choice → Type 0
 IsShowableChoice (Choice.Switch switch on) = ⊤
 IsShowableChoice (Choice.Port bound port) = port < 2 ^ 16
+IsShowableChoice (Choice.Timeout timeout seconds) = seconds < 2 ^ 32
 
 pub record IsShowable (model : Model) : Type 0 where
   pub settings : (parameter : Parameter) → IsShowableChoice (choice_in model.settings parameter)

@@ -1,4 +1,4 @@
--- What the engine makes of a packet, by its treatment.
+-- What the engine makes of a packet that no connection took, by its treatment and the settings.
 use Rattle.std.specs.Prelude.{◌≡◌, ℕ, Option, Some, None}
 use Rattle.npf_types.specs.declared.decision.Return.TheVariants.{Nothing}
 use Rattle.npf_types.specs.declared.direction.Dir.{Dir}

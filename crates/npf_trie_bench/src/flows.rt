@@ -3,7 +3,7 @@ use crate::drawn::{Draws, KEYS, key};
 use anyhow::Error;
 use npf_core::Law;
 use npf_fixtures::work::{Work, or_few};
-use npf_flow::{Flow, FlowArg, FlowLaw, open_flow};
+use npf_flow::{Flow, FlowArg, FlowLaw, FlowSettings, open_flow};
 use npf_types::{Action, Change, Key, Way};
 use std::alloc::{AllocError, Global};
 use std::collections::HashMap;
@@ -33,7 +33,7 @@ const NOTHING: Action = Action {
 pub fn flow(number: u32) -> Flow {
     open_flow(
         PACKET,
-        false,
+        FlowSettings::DEFAULT,
         u64::from(number),
         UNCHANGED,
         UNCHANGED,

@@ -13,7 +13,7 @@ use npf_cells::{CellPass, Cells, PHASE, Pool};
 use npf_cells_words::note_field;
 use npf_core::{ConnId, Found, Held, Stepped};
 use npf_epoch::enter;
-use npf_flow::{Flow, FlowArg, FlowKind, FlowLaw, FlowReply};
+use npf_flow::{Flow, FlowArg, FlowKind, FlowLaw, FlowReply, FlowSettings};
 use npf_pool_beginning::begin;
 use npf_trie::{hold, look};
 use npf_turn::{expire, start, step};
@@ -44,6 +44,7 @@ pub(crate) const FLOW: Flow = Flow {
     there: UNCHANGED,
     back: UNCHANGED,
     action: NOTHING,
+    timeouts: FlowSettings::DEFAULT.timeouts,
 };
 
 pub(crate) const PACKET: FlowArg = FlowArg {

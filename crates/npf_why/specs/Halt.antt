@@ -7,6 +7,7 @@ use Rattle.npf_types.specs.NameText.{is_name}
 use Rattle.npf_lexer.specs.declared.token.Sign.TheVariants.{Less}
 use Rattle.npf_lexer.specs.declared.token.TokenKind.{TokenKind}
 use Rattle.npf_lexer.specs.declared.token.TokenKind.TheVariants as Kind
+use Rattle.npf_syntax.specs.Reserved.{is_iface_word}
 use Rattle.npf_why.specs.declared.sentence.Sentence.{Sentence}
 use Rattle.npf_why.specs.declared.sentence.Sentence.TheVariants as Say
 use Rattle.npf_why.specs.Candidate.{same_kind}
@@ -67,9 +68,9 @@ is_passed_over text = is_older text || is_unbuilt text
 abbrev pub is_function : List ℕ → Bool
 is_function text = bytes_eq text (codes "inet4") || bytes_eq text (codes "inet6") || bytes_eq text (codes "ifaddrs")
 
--- each word can stand, as a name
-abbrev pub is_name_place : List TokenKind → Bool
-is_name_place kinds = stands kinds (Kind.Word (codes "a")) && stands kinds (Kind.Word (codes "block"))
+-- the word stands as a name, where names can: as an interface's each that isn't kept back there, as `block` is; as another each
+abbrev pub is_name_there : List ℕ → List TokenKind → Bool
+is_name_there text kinds = stands kinds (Kind.Word (codes "a")) && (is_iface_word text || stands kinds (Kind.Word (codes "block")))
 
 -- `group` begins a statement where `procedure` does, and `dynamic` a map's kind where `static` does; elsewhere they are what isn't built or is older
 abbrev pub has_its_companion : List ℕ → List TokenKind → Bool
@@ -82,7 +83,7 @@ abbrev pub is_told_word : List ℕ → List TokenKind → Bool
 is_told_word text kinds =
     if bytes_eq text (codes "a") then true
     else if bytes_eq text (codes "S") then not (stands kinds (Kind.Word (codes "a")))
-    else has_its_companion text kinds && not (is_passed_over text) && (not (is_name_place kinds) || (is_function text && stands kinds (Kind.Address (V4 0))))
+    else has_its_companion text kinds && not (is_passed_over text) && (not (is_name_there text kinds) || (is_function text && stands kinds (Kind.Address (V4 0))))
 
 -- of strings one where any can stand, and else the names of options
 abbrev pub is_told_string : List ℕ → List TokenKind → Bool

@@ -5,11 +5,12 @@ ghost use Rattle.npf_types.specs.declared.address.Addr.TheVariants.{V4};
 ghost use Rattle.npf_types.specs.NameText.{is_name};
 ghost use Rattle.npf_lexer.specs.declared.token.TokenKind.TheVariants as Kind;
 ghost use Rattle.npf_why.specs.Candidate.{candidate_kind, same_kind};
-ghost use Rattle.npf_why.specs.Halt.{greatest_from, has_its_companion, is_function, is_name_place, is_older, is_passed_over, is_told, is_told_string, is_told_word, is_unbuilt, larger, number_sentence, sentence_at, stands, string_sentence, word_sentence};
+ghost use Rattle.npf_why.specs.Halt.{greatest_from, has_its_companion, is_function, is_name_there, is_older, is_passed_over, is_told, is_told_string, is_told_word, is_unbuilt, larger, number_sentence, sentence_at, stands, string_sentence, word_sentence};
 
 use crate::candidate::Candidate;
 use crate::sentence::Sentence;
 use npf_lexer::{Sign, TokenKind};
+use npf_syntax::is_iface_word;
 use npf_types::Name;
 
 /// The sentence on a token at which the grammar halts, where these candidates can stand: if a token of its kind can, its value is unfit.
@@ -140,7 +141,7 @@ fn is_told_word(text: &str, standing: &[Candidate]) -> bool
     }
     has_its_companion(text, standing)
         && !is_passed_over(text)
-        && (!is_name_place(standing) || (is_function(text) && stands_address(standing)))
+        && (!is_name_there(text, standing) || (is_function(text) && stands_address(standing)))
 }
 
 /// Whether a word stands as what it mostly is: `group` as a statement and `dynamic` as a map's, and not as what isn't built.
@@ -162,11 +163,11 @@ fn is_function(text: &str) -> bool
     text == "inet4" || text == "inet6" || text == "ifaddrs"
 }
 
-/// Whether each word can stand, as a name.
-fn is_name_place(standing: &[Candidate]) -> bool
-    ensures { result ≡ is_name_place (map candidate_kind standing.now) }
+/// Whether the word stands as a name, where names can: an interface's, as which some words are kept back, or another, as which none is.
+fn is_name_there(text: &str, standing: &[Candidate]) -> bool
+    ensures { result ≡ is_name_there text.now (map candidate_kind standing.now) }
 {
-    stands_word("a", standing) && stands_word("block", standing)
+    stands_word("a", standing) && (is_iface_word(text.as_bytes()) || stands_word("block", standing))
 }
 
 /// Whether the word isn't built, or only older texts have it.

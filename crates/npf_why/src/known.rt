@@ -1,9 +1,10 @@
-// Names that a configuration gives, and the interfaces of a run, among which an unknown one is looked for.
+// Names that a configuration gives, the interfaces of a run, and settings, among which an unknown one is looked for.
 ghost use Rattle.std.specs.Prelude.{◌≡◌, ◌+◌, ◌++◌, IfOk, OnOk, map, nat_le};
 ghost use Rattle.std.specs.List.{flat_map};
-ghost use Rattle.npf_why.specs.Known.{given_by, iface_text};
+ghost use Rattle.npf_model.specs.Settings.{parameter_name, parameters};
+ghost use Rattle.npf_why.specs.Known.{given_by, idle_settings, iface_text, setting_names};
 
-use npf_model::Iface;
+use npf_model::{Iface, Parameter};
 use npf_syntax::{Stmt, Tree};
 use npf_types::{NoMemory, Span};
 use std::alloc::Global;
@@ -16,6 +17,9 @@ pub enum GivenNames {
     Tables,
     Procedures,
 }
+
+/// Settings that are accepted without an effect.
+static IDLE_SETTINGS: [&str; 4] = ["bpf.jit", "ip4.reassembly", "ip6.reassembly", "gc.step"];
 
 /// The names that the configuration gives.
 pub fn given_names(alloc: Global, tree: &Tree, which: GivenNames) -> Result<Vec<&[u8]>, NoMemory>
@@ -67,6 +71,27 @@ pub fn interfaces(alloc: Global, list: &[Iface]) -> Result<Vec<&[u8]>, NoMemory>
     let mut names = Vec::new(alloc);
     'ifaces: for iface in list {
         names.push(iface.name.as_bytes())?;
+    }
+    Ok(names)
+}
+
+/// The names of settings: first those with an effect.
+pub fn settings<'a>(alloc: Global) -> Result<Vec<&'a [u8]>, NoMemory>
+    ensures { IfOk result (λ names. map (λ name. name.now) names.items ≡ setting_names) }
+{
+    let mut names = parameter_names(alloc)?;
+    for name in &IDLE_SETTINGS {
+        names.push(name.as_bytes())?;
+    }
+    Ok(names)
+}
+
+fn parameter_names<'a>(alloc: Global) -> Result<Vec<&'a [u8]>, NoMemory>
+    ensures { IfOk result (λ names. map (λ name. name.now) names.items ≡ map parameter_name parameters) }
+{
+    let mut names = Vec::new(alloc);
+    for parameter in &Parameter::ALL {
+        names.push(parameter.name().as_bytes())?;
     }
     Ok(names)
 }

@@ -15,13 +15,15 @@ mod distance;
 mod halt;
 mod known;
 pub mod laws;
+mod name_table;
 mod nearest;
 mod sentence;
 mod stand;
 
 pub use candidate::Candidate;
 pub use halt::{greatest, is_told, sentence_at};
-pub use known::{GivenNames, given_names, interfaces};
+pub use known::{GivenNames, given_names, interfaces, settings};
+pub use name_table::looked_up;
 pub use nearest::{MAX_NEAR_BYTES, near};
 pub use sentence::Sentence;
 pub use stand::could_stand;

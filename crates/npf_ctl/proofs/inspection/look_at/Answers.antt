@@ -4,7 +4,7 @@ use Rattle.npf_ctl_messages.specs.declared.fault.CommandFault.TheVariants.{NoMem
 use Rattle.npf_ruleset.specs.Configuration.{configuration}
 use Rattle.npf_ctl_words.specs.CommandLine.{given_text}
 use Rattle.npf_ctl.{specs.{Faults.{LeavesFiles, MeetsFault}, Inspection.{IsLookText, looking_command}, Run.moment}, proofs.EndLemmas.{early, text_ends}}
-use Rattle.npf_ctl.proofs.{FileLemmas.{around_work, nothing_put, only_read, read_on}, LookLemmas.{look_does, look_loads, text_of_look}}
+use Rattle.npf_ctl.proofs.{FileLemmas.{around_work, nothing_put, only_read, read_on}, LookLemmas.{look_does, look_explains, look_loads, text_of_look}}
 use Rattle.npf_ctl.proofs.inspection.look_at.Goals as goal
 
 pub returns-in_err-config-clause-ends : goal.returns-in_err-config-clause-ends
@@ -16,7 +16,8 @@ returns-in_err-config-clause-ends g c =
     let fault = c.in_err-config.field-0.0 in
     let same : c.from_residual.result ≡ Err fault = search rules in
     rw same (λ texts pass said. early texts (moment first out pass) (moment last out pass) (λ why. LoadsAlone first last (given_text load.ifaces) load.conf.now (Err why))
-    (λ why comes. MeetsFault.in_loading said (look_loads c.args.look load) comes (record { put = nothing_put out; files = only_read first last c.load_alone.ensures.reads; idle = refl }))
+    (λ why comes. MeetsFault.in_loading said (look_loads c.args.look load) (look_explains c.args.look load why) comes
+        (record { put = nothing_put out; files = only_read first last c.load_alone.ensures.reads; idle = refl }))
     (nothing_put out) (only_read first last c.load_alone.ensures.reads) fault (c.in_err-config.ensures.comes first last (around_work first last last (read_on last))))
 
 pub returns-in_err-text-clause-ends : goal.returns-in_err-text-clause-ends

@@ -36,3 +36,8 @@ pub returns-in-Debug-clause-ends : goal.returns-in-Debug-clause-ends
 returns-in-Debug-clause-ends g c =
     c.look_at-in-Debug.ensures.ends (word_texts c.args.words.now) (g.C.Connections.view c.args.pass.now)
     (subst (SaysCommand (word_texts c.args.words.now)) c.in-Debug.is c.in-Ok.ensures.read)
+
+pub returns-in-Why-clause-ends : goal.returns-in-Why-clause-ends
+returns-in-Why-clause-ends g c =
+    c.explain.ensures.ends (word_texts c.args.words.now) (g.C.Connections.view c.args.pass.now)
+    (subst (SaysCommand (word_texts c.args.words.now)) c.in-Why.is c.in-Ok.ensures.read)

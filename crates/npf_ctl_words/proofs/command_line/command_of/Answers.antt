@@ -15,5 +15,8 @@ load_of-requires-in-Show c = known c.args.name name.Show (rows_of (found_of c.ar
 pub load_of-requires-in-Debug : goal.load_of-requires-in-Debug
 load_of-requires-in-Debug c = known c.args.name name.Debug (rows_of (found_of c.args.matches.now)) c.in-Debug.is c.requires
 
+pub load_of-requires-in-Why : goal.load_of-requires-in-Why
+load_of-requires-in-Why c = known c.args.name name.Why (rows_of (found_of c.args.matches.now)) c.in-Why.is c.requires
+
 pub number_in-requires : goal.number_in-requires
 number_in-requires c = known c.args.name name.Gen (rows_of (found_of c.args.matches.now)) c.in-Gen.is c.requires

@@ -6,9 +6,9 @@ pub returns-clause-last : goal.returns-clause-last
 returns-clause-last c = not_due
 
 pub returns-clause-packet : goal.returns-clause-packet
-returns-clause-packet c = λ flow way arg moves passed.
+returns-clause-packet c = λ flow way arg are moves passed.
     rw (moved_goes_on flow way arg (passed_moves arg.peek (accepts flow.kind way arg.seg) moves passed))
-    (not_due (went_on flow way arg) arg.now (omega arith))
+    (not_due (went_on flow way arg) arg.now are (omega arith))
 
 pub returns-clause-opening : goal.returns-clause-opening
-returns-clause-opening c = λ arg strict opener there back action. not_due (opening_flow arg strict opener there back action) arg.now (omega arith)
+returns-clause-opening c = λ arg settings opener there back action are. not_due (opening_flow arg settings opener there back action) arg.now are (omega arith)
