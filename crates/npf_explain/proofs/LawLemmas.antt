@@ -1,18 +1,23 @@
 -- What an explanation says of a rule, a group and a map by their places.
-use Rattle.std.proofs.Common.{◌≡◌, ◌≢◌, ◌≤◌, ◌<◌, ◌↔◌, ℕ, zero, suc, ◌+◌, ◌==◌, nat_le, Bool, true, false, not, ◌&&◌, List, [], ◌∷◌, ◌++◌, Option, Some, None, length, map, slice_get, option_and_then, inl, inr, refl, sym, subst, ap, ◌∙◌, arith}
+use Rattle.std.proofs.Common.{◌≡◌, ◌≢◌, ◌≤◌, ◌<◌, ℕ, zero, suc, ◌+◌, ◌==◌, nat_le, Bool, true, false, not, ◌&&◌, List, [], ◌∷◌, ◌++◌, Option, Some, None}
+use Rattle.std.proofs.Common.{length, map, slice_get, option_and_then, inl, inr, refl, sym, subst, ap, ◌∙◌, arith}
 use Rattle.std.{specs.{Option.{is_some, option_map, option_or}, Prelude.if◌then◌else◌}, proofs.lemmas.{Bool.cases_Bool, Cmp.nat_eq_equiv, List.{Concat.flat_map-cons, length-append}}}
 use Rattle.npf_types.specs.declared.{direction.Dir.Dir, facts.Facts.Facts, interface.IfId.IfId}
-use Rattle.npf_model.specs.{declared.{group.Group.Group, map.Map.Map, model.Model.Model, rule.Rule.Rule}, Configuration.{Configuration, map_place_of, verdict_of}, Describes.Tables, MapOf.map_applies, Place.{fits_dir, fits_on}}
-use Rattle.npf_model.specs.Verdict.{PlacedRule, all_rules, applies, first_where, group_answer, matches, rule_at, rules_of, verdict}
+use Rattle.npf_model.specs.declared.{group.Group.Group, map.Map.Map, rule.Rule.Rule}
+use Rattle.npf_model.specs.{Configuration.{Configuration, map_place_of, verdict_of}, Describes.Tables, MapOf.map_applies, Place.{fits_dir, fits_on}}
+use Rattle.npf_model.specs.Verdict.{PlacedRule, all_rules, applies, group_answer, matches, rule_at, rules_of, verdict}
 use Rattle.npf_ruleset.specs.{declared.misfit.Part.Part, Misfit.{map_misfit, rule_misfit}}
 use Rattle.npf_ruleset.proofs.MisfitLemmas.{applies_without_misfit_lem, matches_without_misfit_lem}
 use Rattle.npf_precedence.specs.Precedence.{OrderedRule, rules_from}
-use Rattle.npf_explain.specs.declared.{decider.Decider.Decider, told.{GroupTold.GroupTold, MapTold.MapTold, RuleTold.RuleTold, ToldGroup.ToldGroup, Unasked.{Unasked, TheVariants.{BehindFinal, GroupAnswered, GroupElsewhere}}}}
+use Rattle.npf_explain.specs.declared.{decider.Decider.Decider, told.{RuleTold.RuleTold, ToldGroup.ToldGroup, Unasked.Unasked}}
+use Rattle.npf_explain.specs.declared.told.Unasked.TheVariants.{BehindFinal, GroupAnswered, GroupElsewhere}
 use Rattle.npf_explain.specs.declared.told.GroupTold.TheVariants as GroupSays
 use Rattle.npf_explain.specs.declared.told.MapTold.TheVariants as MapSays
 use Rattle.npf_explain.specs.declared.told.RuleTold.TheVariants as RuleSays
-use Rattle.npf_explain.specs.Explanation.{decider_of, explanation, group_told, groups_told, has_final, is_before, is_behind_final, is_translated_before, map_told, maps_told, rule_told, told_by_misfit, told_group, told_map_by_misfit, told_match}
-use Rattle.npf_explain.specs.ExplanationLaw.{DecidesExactly, HasGroup, HasRule, IsAsked, IsBehindFinal, IsOverridden, IsReached, MapAppliesExactly, MisfitsExactly, OverriddenExactly, ReachedExactly, place_behind, told_of_group, told_of_rule}
+use Rattle.npf_explain.specs.Explanation.{decider_of, explanation, group_told, groups_told, has_final, is_before, is_behind_final, is_translated_before}
+use Rattle.npf_explain.specs.Explanation.{map_told, maps_told, rule_told, told_by_misfit, told_group, told_map_by_misfit, told_match}
+use Rattle.npf_explain.specs.ExplanationLaw.{IsAsked, IsBehindFinal, IsOverridden, IsReached, told_of_group, told_of_rule}
+use Rattle.npf_explain.specs.ExplanationLaw.{DecidesExactly, MapAppliesExactly, MisfitsExactly, OverriddenExactly, ReachedExactly}
 use Rattle.npf_explain.proofs.FoundLemmas.{IsWithin, FirstBefore, answer_matches, answer_of, first_before, first_passes, group_within, or_within, unanswered, verdict_append, verdict_within, wider}
 
 -- tests of places
