@@ -4,8 +4,9 @@
 // group the first match with `final` decides, or else the last match, and without a match the next group is asked. Questions of what a rule
 // set does to every packet are put to one list instead, in which what stands in front decides.
 //
-// The contract: `in_order` gives that list, `rules_of` the rules of one group as they are inspected, and the law of precedence says that the rule which decides by the configuration's meaning is
-// the first of it that matches. Each rule is in it once, and none is copied: an entry refers to its rule.
+// The contract: `in_order` gives that list, `rules_of` the rules of one group as they are inspected, and the law of precedence says that
+// the rule which decides by the configuration's meaning is the first of the list that matches. Each rule is in it once, and none is copied:
+// an entry refers to its rule.
 #![tactic(auto)]
 
 mod entry;

@@ -6,8 +6,8 @@ use Rattle.npf_types.specs.Prefix.{has_address}
 use Rattle.npf_model.specs.declared.{map.Map.Map, rule.Rule.Rule}
 use Rattle.npf_model.specs.Describes.{Tables, destination_of, fits_addrs, fits_family, fits_flags, fits_icmp, fits_ports, fits_protocol, source_of}
 use Rattle.npf_model.specs.MapOf.{comes_inside, fits_filter, fits_map_protocol, fits_segment, fits_side_port, goes_outside}
-use Rattle.npf_model.specs.Place.{fits_dir, fits_on, is_on}
-use Rattle.npf_ruleset.specs.declared.misfit.Part.TheVariants.{Direction, Interface, Family, Protocol, Flags, Icmp, Source, SourcePort, Destination, DestinationPort}
+use Rattle.npf_model.specs.{Place.{fits_dir, fits_on, is_on}, Verdict.PlacedRule}
+use Rattle.npf_ruleset.specs.declared.misfit.Part.{Part, TheVariants.{Direction, Interface, Family, Protocol, Flags, Icmp, Source, SourcePort, Destination, DestinationPort}}
 use Rattle.npf_ruleset.specs.Misfit.{fits_filter_part, fits_own_part, parts}
 use Rattle.npf_ruleset.specs.MisfitLaw.{AppliesWithoutMisfit, MatchesWithoutMisfit}
 
