@@ -5,7 +5,7 @@ use Rattle.npf_types.specs.declared.{direction.Dir.Dir, facts.Facts.Facts, inter
 use Rattle.npf_model.specs.{declared.{group.Group.Group, model.Model.Model}, Configuration.verdict_of, Describes.Tables, Verdict.{PlacedRule, all_rules, rule_at, verdict}}
 use Rattle.npf_precedence.specs.{declared.entry.RuleEntry.RuleEntry, Entry.ordered_rule, Precedence.{OrderedRule, in_order}, PrecedenceLaw.{first_match, meets}}
 use Rattle.npf_precedence.proofs.{PlaceLemmas.each_rule_once_lem, VerdictLemmas.first_match_decides_lem}
-use Rattle.npf_explain.specs.{declared.decider.Decider.Decider, Explanation.{decider_of, has_final}}
+use Rattle.npf_explain.specs.{declared.decider.Decider.Decider, Explanation.{decider_of, is_final_rule}}
 
 find_through : {X Y : Type 0} (f : X → Y) (t : Y → Bool) (xs : List X) → find t (map f xs) ≡ option_map f (find (λ x. t (f x)) xs)
 find_through f t [] = refl
@@ -65,5 +65,5 @@ module _ (tables : Tables) (facts : Facts) (ifid : IfId) (dir : Dir) where
     one_decides entry is =
         let there = found_rule model.groups (ordered_rule entry) (found_there (Some entry) is) in
         let rule : rule_at model entry.place ≡ Some entry.rule.now = ap (option_map (λ (placed : PlacedRule). placed.rule)) there in
-        ap (λ rule. Some (record { place = entry.place; last = has_final rule })) (sym rule)
+        ap (λ rule. Some (record { place = entry.place; last = is_final_rule rule })) (sym rule)
         ∙ ap (decider_of model) (sym (verdict_is (Some entry) is))

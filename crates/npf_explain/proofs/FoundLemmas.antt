@@ -1,5 +1,6 @@
 -- Where the first and the last of a list stand that pass a test, and so the answers of groups.
-use Rattle.std.proofs.Common.{◌≡◌, ◌≤◌, ◌<◌, ℕ, zero, suc, ◌+◌, Bool, true, false, ◌&&◌, List, [], ◌∷◌, ◌++◌, Option, Some, None, length, slice_get, inl, inr, refl, sym, subst, ap, ◌∙◌, arith}
+use Rattle.std.proofs.Common.{◌≡◌, ◌≤◌, ◌<◌, ℕ, zero, suc, ◌+◌, Bool, true, false, ◌&&◌, List, [], ◌∷◌, ◌++◌, Option, Some, None}
+use Rattle.std.proofs.Common.{length, slice_get, inl, inr, refl, sym, subst, ap, ◌∙◌, arith}
 use Rattle.std.{specs.{Option.option_or, Prelude.if◌then◌else◌}, proofs.lemmas.{Bool.cases_Bool, List.{Concat.flat_map-cons, length-append}}}
 use Rattle.npf_types.specs.declared.{direction.Dir.Dir, facts.Facts.Facts, interface.IfId.IfId}
 use Rattle.npf_model.specs.{declared.group.Group.Group, Describes.Tables}

@@ -1,15 +1,20 @@
 -- What is told of groups and of maps, from the front to the end.
-use Rattle.std.proofs.Common.{◌≡◌, ◌<◌, ◌≤◌, ℕ, suc, ◌+◌, List, [], ◌∷◌, ◌++◌, Option, length, map, get_or, take, drop, refl, sym, ap, ◌∙◌, arith}
-use Rattle.std.proofs.lemmas.{Grind.flat_map-append, List.{Concat.flat_map-cons, append-nil, length-append, length-take, take-append-drop, take_more}}
-use Rattle.npf_types.specs.declared.{direction.Dir.Dir, facts.Facts.Facts, interface.IfId.IfId}
+use Rattle.std.proofs.Common.{◌≡◌, ◌<◌, ◌≤◌, ℕ, suc, ◌+◌, ◌^◌, List, [], ◌∷◌, ◌++◌, Option, length, map, get_or, take, drop, refl, sym, ap, ◌∙◌, arith}
+use Rattle.std.proofs.lemmas.{Grind.flat_map-append, List.{Concat.flat_map-cons, append-nil, length-append, length-map, length-take, take-append-drop, take_more}}
+use Rattle.npf_types.specs.declared.{direction.Dir.Dir, facts.Facts.Facts, interface.IfId.IfId, limits.TheConstants.MAX_RULES}
 use Rattle.npf_model.specs.{declared.{group.Group.Group, map.Map.Map}, Describes.Tables, Verdict.{all_rules, rules_of}}
 use Rattle.npf_precedence.{specs.{declared.entry.RuleEntry.RuleEntry, Entry.ordered_rule, Precedence.{OrderedRule, rules_from}}, proofs.OrderLemmas.length-rules_from}
-use Rattle.npf_explain.specs.declared.{asked.Asked.Asked, decider.Decider.Decider, told.{GroupTold.GroupTold, MapTold.MapTold, RuleTold.RuleTold, ToldGroup.ToldGroup}}
+use Rattle.npf_explain.specs.declared.{decider.Decider.Decider, told.{GroupTold.GroupTold, MapTold.MapTold, RuleTold.RuleTold, ToldGroup.ToldGroup}}
 use Rattle.npf_explain.specs.Explanation.{group_told, groups_told, map_told, maps_told, rule_told, told_group}
 
 map-through : {X Y Z : Type 0} (f : X → Y) (g : Y → Z) (xs : List X) → map (λ x. g (f x)) xs ≡ map g (map f xs)
 map-through f g [] = refl
 map-through f g (x ∷ xs) = ap (λ rest. g (f x) ∷ rest) (map-through f g xs)
+
+-- what is told of the groups in front, and how many rules they have
+pub record TellsFront (tables : Tables) (facts : Facts) (ifid : IfId) (dir : Dir) (decider : Option Decider) (front : List Group) (groups : List ToldGroup) (first : ℕ) : Type 0 where
+  pub told : groups ≡ groups_told tables facts ifid dir decider 0 front
+  pub count : first ≡ length (all_rules front)
 
 -- so many rules stand in front of the next group
 rules-push : (groups : List Group) (i : ℕ) (group : Group) → i < length groups → group ≡ get_or groups i group
@@ -28,6 +33,20 @@ few-front groups k =
     let parts = ap length (flat_map-append rules_of (take k groups) (drop k groups)) in
     let sum = length-append (all_rules (take k groups)) (all_rules (drop k groups)) in
     omega arith
+
+count-rules : (group : Group) (first : ℕ) (rules : List RuleEntry) → map ordered_rule rules ≡ rules_from group first (rules_of group)
+    → length rules ≡ length (rules_of group)
+count-rules group first rules laid = sym (length-map rules ordered_rule) ∙ ap length laid ∙ length-rules_from group first (rules_of group)
+
+-- so the count stays small
+pub first_small : (groups : List Group) (i first : ℕ) → first ≡ length (all_rules (take i groups)) → length (all_rules groups) ≤ MAX_RULES → first < 2 ^ 63
+first_small groups i first is few = let a = few-front groups i in omega arith
+
+pub next_small : (groups : List Group) (i : ℕ) (group : Group) (first : ℕ) (rules : List RuleEntry) → i < length groups → group ≡ get_or groups i group
+    → first ≡ length (all_rules (take i groups)) → length (all_rules groups) ≤ MAX_RULES → map ordered_rule rules ≡ rules_from group first (rules_of group)
+    → first + length rules ≤ MAX_RULES
+next_small groups i group first rules within at is few laid =
+    let a = few-front groups (i + 1) in let b = rules-push groups i group within at in let c = count-rules group first rules laid in omega arith
 
 module _ (tables : Tables) (facts : Facts) (ifid : IfId) (dir : Dir) where
   module _ (decider : Option Decider) where
@@ -64,6 +83,20 @@ module _ (tables : Tables) (facts : Facts) (ifid : IfId) (dir : Dir) where
         ∙ sym (groups_told-push 0 (take i groups) group)
         ∙ ap (λ (g : Group). groups_told tables facts ifid dir decider 0 (take i groups ++ g ∷ [])) at
         ∙ sym (ap (groups_told tables facts ifid dir decider 0) (take_more groups i group within))
+
+    -- one more group goes on so, and its rules are counted
+    pub tells_more : (groups : List Group) (i : ℕ) (group : Group) (first next : ℕ) (before after : List ToldGroup) (rules : List RuleEntry) (says : GroupTold) (told : ToldGroup)
+        → i < length groups → group ≡ get_or groups i group
+        → TellsFront tables facts ifid dir decider (take i groups) before first
+        → map ordered_rule rules ≡ rules_from group first (rules_of group)
+        → says ≡ group_told tables facts ifid dir decider first group
+        → told ≡ record { told = says; rules = map (λ entry. rule_told tables facts ifid dir decider says (ordered_rule entry)) rules }
+        → after ≡ before ++ told ∷ [] → next ≡ first + length rules
+        → TellsFront tables facts ifid dir decider (take (i + 1) groups) after next
+    tells_more groups i group first next before after rules says told within at front laid is tells adds counts = record {
+      told = tells_group groups i group first before after rules says told within at front.told front.count laid is tells adds;
+      count = let a = front.count in let b = rules-push groups i group within at in let c = count-rules group first rules laid in omega arith;
+    }
 
   module _ (first : Option ℕ) where
     maps_told-push : (n : ℕ) (maps : List Map) (m : Map)

@@ -1,6 +1,6 @@
 -- What an explanation says of a rule, a group and a map by their places.
 use Rattle.std.proofs.Common.{◌≡◌, ◌≢◌, ◌≤◌, ◌<◌, ℕ, zero, suc, ◌+◌, ◌==◌, nat_le, Bool, true, false, not, ◌&&◌, List, [], ◌∷◌, ◌++◌, Option, Some, None}
-use Rattle.std.proofs.Common.{length, map, slice_get, option_and_then, inl, inr, refl, sym, subst, ap, ◌∙◌, arith}
+use Rattle.std.proofs.Common.{length, map, slice_get, option_and_then, inl, inr, refl, sym, subst, ap, ◌∙◌, true≢false, arith}
 use Rattle.std.{specs.{Option.{is_some, option_map, option_or}, Prelude.if◌then◌else◌}, proofs.lemmas.{Bool.cases_Bool, Cmp.nat_eq_equiv, List.{Concat.flat_map-cons, length-append}}}
 use Rattle.npf_types.specs.declared.{direction.Dir.Dir, facts.Facts.Facts, interface.IfId.IfId}
 use Rattle.npf_model.specs.declared.{group.Group.Group, map.Map.Map, rule.Rule.Rule}
@@ -14,27 +14,33 @@ use Rattle.npf_explain.specs.declared.told.Unasked.TheVariants.{BehindFinal, Gro
 use Rattle.npf_explain.specs.declared.told.GroupTold.TheVariants as GroupSays
 use Rattle.npf_explain.specs.declared.told.MapTold.TheVariants as MapSays
 use Rattle.npf_explain.specs.declared.told.RuleTold.TheVariants as RuleSays
-use Rattle.npf_explain.specs.Explanation.{decider_of, explanation, group_told, groups_told, has_final, is_before, is_behind_final, is_translated_before}
+use Rattle.npf_explain.specs.Explanation.{decider_of, explanation, group_told, groups_told, is_final_rule, is_decided_before, is_behind_final, is_translated_before}
 use Rattle.npf_explain.specs.Explanation.{map_told, maps_told, rule_told, told_by_misfit, told_group, told_map_by_misfit, told_match}
 use Rattle.npf_explain.specs.ExplanationLaw.{IsAsked, IsBehindFinal, IsOverridden, IsReached, told_of_group, told_of_rule}
 use Rattle.npf_explain.specs.ExplanationLaw.{DecidesExactly, MapAppliesExactly, MisfitsExactly, OverriddenExactly, ReachedExactly}
 use Rattle.npf_explain.proofs.FoundLemmas.{IsWithin, FirstBefore, answer_matches, answer_of, first_before, first_passes, group_within, or_within, unanswered, verdict_append, verdict_within, wider}
 
 -- tests of places
-le_false : (a b : ℕ) → nat_le a b ≡ false → b < a
-le_false a b is = grind arith
+is_past : (a b : ℕ) → b < a → not (nat_le a b) ≡ true
+is_past a b lt = let e : nat_le a b ≡ false = grind arith in ap not e
 
-le_true : (a b : ℕ) → nat_le a b ≡ true → a ≤ b
-le_true a b is = grind arith
+is_not_past : (a b : ℕ) → a ≤ b → not (nat_le a b) ≡ false
+is_not_past a b le = let e : nat_le a b ≡ true = grind arith in ap not e
 
-le_holds : (a b : ℕ) → a ≤ b → nat_le a b ≡ true
-le_holds a b le = grind arith
+past : (a b : ℕ) → not (nat_le a b) ≡ true → b < a
+past a b is = elim (cases_Bool (nat_le a b)) [
+  | inl le ↦ let h = rw le at is in absurd (cc)
+  | inr lt ↦ grind arith
+]
 
-le_fails : (a b : ℕ) → b < a → nat_le a b ≡ false
-le_fails a b lt = grind arith
+not_past : (a b : ℕ) → not (nat_le a b) ≡ false → a ≤ b
+not_past a b is = elim (cases_Bool (nat_le a b)) [
+  | inl le ↦ grind arith
+  | inr lt ↦ let h = rw lt at is in absurd (cc)
+]
 
-same_place : (a b : ℕ) → (a == b) ≡ true → a ≡ b
-same_place a b is = grind arith
+at_place : (s place : ℕ) → (s == place) ≡ true → Some s ≡ Some place
+at_place s place is = let e : s ≡ place = grind arith in ap (λ p. Some p) e
 
 other_place : (a b : ℕ) → (a == b) ≡ false → a ≢ b
 other_place a b is = grind arith
@@ -77,27 +83,16 @@ map_behind tables facts ifid dir first n (one ∷ maps) (suc k) m at =
     let place : n + 1 + k ≡ n + suc k = omega arith in
     map_behind tables facts ifid dir first (n + 1) maps k m at ∙ ap (λ p. Some (map_told tables facts ifid dir first p m)) place
 
-true_is_not_false : true ≡ false → ⊥
-true_is_not_false is = absurd (cc)
+told_same : {X : Type 0} (o : Option X) (x y : X) → o ≡ Some x → o ≡ Some y → x ≡ y
+told_same o x y one other = let e : Some x ≡ Some y = sym one ∙ other in cc
 
-not_false : (b : Bool) → not b ≡ false → b ≡ true
-not_false true is = refl
-not_false false is = absurd (cc)
+no_answer : (o : Option ℕ) → is_some o ≡ false → o ≡ None
+no_answer None is = refl
+no_answer (Some x) is = absurd (cc)
 
-not_true : (b : Bool) → not b ≡ true → b ≡ false
-not_true false is = refl
-not_true true is = absurd (cc)
-
-some_is : {X : Type 0} (x y : X) → Some x ≡ Some y → x ≡ y
-some_is x y is = cc
-
-none_of : {X : Type 0} (o : Option X) → is_some o ≡ false → o ≡ None
-none_of None is = refl
-none_of (Some x) is = absurd (cc)
-
-none_left : {X : Type 0} (o : Option X) → not (is_some o) ≡ true → o ≡ None
-none_left None is = refl
-none_left (Some x) is = absurd (cc)
+no_part : (o : Option Part) → not (is_some o) ≡ true → o ≡ None
+no_part None is = refl
+no_part (Some x) is = absurd (cc)
 
 some_left : {X : Type 0} (o : Option X) → ¬ (o ≡ None) → is_some o ≡ true
 some_left None never = absurd (never refl)
@@ -137,7 +132,7 @@ misfits_part (Some decider) place None part is = elim (cases_Bool (decider.place
 ]
 
 not_behind_itself : (last : Bool) (place : ℕ) → (last && not (nat_le place place)) ≡ false
-not_behind_itself true place = ap not (le_holds place place (omega arith))
+not_behind_itself true place = (is_not_past place place (omega arith))
 not_behind_itself false place = refl
 
 decides_itself : (last : Bool) (place : ℕ) → told_match (Some (record { place = place; last = last })) place ≡ RuleSays.Decides
@@ -145,7 +140,7 @@ decides_itself last place = let same : (place == place) ≡ true = nat_eq_equiv.
 
 overrides_other : (last : Bool) (by place : ℕ) → by ≢ place → told_match (Some (record { place = by; last = last })) place ≡ RuleSays.Overridden by
 overrides_other last by place other = elim (cases_Bool (by == place)) [
-  | inl same ↦ absurd (other (same_place by place same))
+  | inl same ↦ let e = at_place by place same in absurd (other (cc))
   | inr never ↦ rw never refl
 ]
 
@@ -197,15 +192,15 @@ module _ (config : Configuration) (facts : Facts) (ifid : IfId) (dir : Dir) (pla
   behind_holds : IsBehindFinal config facts ifid dir place → is_behind_final (decider_of config.model (verdict_of config facts ifid dir)) place ≡ true
   behind_holds h =
       ap (λ (o : Option ℕ). is_behind_final (decider_of config.model o) place) h.decides
-      ∙ ap (λ (rule : Option Rule). has_final rule && not (nat_le place h.decider)) h.at
+      ∙ ap (λ (rule : Option Rule). is_final_rule rule && not (nat_le place h.decider)) h.at
       ∙ ap (λ (last : Bool). last && not (nat_le place h.decider)) h.final
-      ∙ ap not (le_fails place h.decider h.before)
+      ∙ (is_past place h.decider h.before)
 
-  behind_rule : (s : ℕ) (rule : Option Rule) → verdict_of config facts ifid dir ≡ Some s → rule_at config.model s ≡ rule → (has_final rule && not (nat_le place s)) ≡ true
+  behind_rule : (s : ℕ) (rule : Option Rule) → verdict_of config facts ifid dir ≡ Some s → rule_at config.model s ≡ rule → (is_final_rule rule && not (nat_le place s)) ≡ true
       → IsBehindFinal config facts ifid dir place
   behind_rule s None is at test = absurd (cc)
   behind_rule s (Some rule) is at test = elim (cases_Bool rule.last) [
-    | inl final ↦ record { decider = s; rule = rule; decides = is; at = at; final = final; before = le_false place s (not_true (nat_le place s) (rw final at test)) }
+    | inl final ↦ record { decider = s; rule = rule; decides = is; at = at; final = final; before = past place s (rw final at test) }
     | inr unended ↦ let h = rw unended at test in absurd (cc)
   ]
 
@@ -214,7 +209,7 @@ module _ (config : Configuration) (facts : Facts) (ifid : IfId) (dir : Dir) (pla
   behind_is (Some s) is test = behind_rule s (rule_at config.model s) is refl test
 
   open_of : is_behind_final (decider_of config.model (verdict_of config facts ifid dir)) place ≡ false → ¬ IsBehindFinal config facts ifid dir place
-  open_of unended = λ h. true_is_not_false (sym (behind_holds h) ∙ unended)
+  open_of unended = λ h. true≢false (sym (behind_holds h) ∙ unended)
 
   open_is : ¬ IsBehindFinal config facts ifid dir place → is_behind_final (decider_of config.model (verdict_of config facts ifid dir)) place ≡ false
   open_is never = elim (cases_Bool (is_behind_final (decider_of config.model (verdict_of config facts ifid dir)) place)) [
@@ -272,18 +267,18 @@ module _ (config : Configuration) (facts : Facts) (ifid : IfId) (dir : Dir) (fro
       is
 
   -- the groups in front answer exactly where the verdict stands before the group
-  front_answers : (one two : Option ℕ) → one ≡ a → two ≡ option_or g b → is_before (decider_of config.model (option_or one two)) n ≡ is_some one
-  front_answers (Some s) two is rest = let place = (verdict_within config.tables facts ifid dir 0 front s (sym is)).most in ap not (le_fails n s (omega arith))
+  front_answers : (one two : Option ℕ) → one ≡ a → two ≡ option_or g b → is_decided_before (decider_of config.model (option_or one two)) n ≡ is_some one
+  front_answers (Some s) two is rest = let place = (verdict_within config.tables facts ifid dir 0 front s (sym is)).most in (is_past n s (omega arith))
   front_answers None None is rest = refl
-  front_answers None (Some s) is rest = ap not (le_holds n s (rest_within s (sym rest)).least)
+  front_answers None (Some s) is rest = (is_not_past n s (rest_within s (sym rest)).least)
 
-  reached_is : is_before d n ≡ is_some a
-  reached_is = ap (λ (o : Option ℕ). is_before (decider_of config.model o) n) parts_of ∙ front_answers a (option_or g b) refl refl
+  reached_is : is_decided_before d n ≡ is_some a
+  reached_is = ap (λ (o : Option ℕ). is_decided_before (decider_of config.model o) n) parts_of ∙ front_answers a (option_or g b) refl refl
 
-  reached_of : is_before d n ≡ false → a ≡ None
-  reached_of not_before = none_of a (sym reached_is ∙ not_before)
+  reached_of : is_decided_before d n ≡ false → a ≡ None
+  reached_of not_before = no_answer a (sym reached_is ∙ not_before)
 
-  not_before : a ≡ None → is_before d n ≡ false
+  not_before : a ≡ None → is_decided_before d n ≡ false
   not_before none = reached_is ∙ ap (λ (o : Option ℕ). is_some o) none
 
   -- a verdict at a place of the group is the group's answer
@@ -314,13 +309,13 @@ module _ (config : Configuration) (facts : Facts) (ifid : IfId) (dir : Dir) (fro
     fits none = matches_without_misfit_lem config.tables facts ifid dir placed ∙ ap (λ (o : Option Part). not (is_some o)) none
 
     no_misfit : matches config.tables facts ifid dir placed ≡ true → misfits ≡ None
-    no_misfit holds = none_left misfits (sym (matches_without_misfit_lem config.tables facts ifid dir placed) ∙ holds)
+    no_misfit holds = no_part misfits (sym (matches_without_misfit_lem config.tables facts ifid dir placed) ∙ holds)
 
     -- a group that applies and has a match has an answer
     some_answer : (o : Option ℕ) → applies config.tables facts ifid dir group ≡ true → matches config.tables facts ifid dir placed ≡ true → g ≡ o → HasValue g
     some_answer (Some s) holds match is = record { value = s; is = is }
     some_answer None holds match is =
-        let never = unanswered config.tables facts ifid dir n (rules_of group) k placed (answer_is None holds is) at in absurd (true_is_not_false (sym match ∙ never))
+        let never = unanswered config.tables facts ifid dir n (rules_of group) k placed (answer_is None holds is) at in absurd (true≢false (sym match ∙ never))
 
     value_of : applies config.tables facts ifid dir group ≡ true → matches config.tables facts ifid dir placed ≡ true → HasValue g
     value_of holds match = some_answer g holds match refl
@@ -329,19 +324,19 @@ module _ (config : Configuration) (facts : Facts) (ifid : IfId) (dir : Dir) (fro
     says = rule_told config.tables facts ifid dir d (group_told config.tables facts ifid dir d n group) (record { place = n + k; group_dir = group.dir; group_on = group.on; placed = placed })
 
     told_is : (r : RuleTold) → told_of_rule (explanation config facts ifid dir) front k ≡ Some r → says ≡ r
-    told_is r is = some_is says r (sym (told_rule_is k placed at) ∙ is)
+    told_is r is = told_same (told_of_rule (explanation config facts ifid dir) front k) says r (told_rule_is k placed at) is
 
     asked : (r : RuleTold) → ((u : Unasked) → RuleSays.NotReached u ≢ r) → says ≡ r
-        → Asked config.tables facts ifid dir d (is_before d n) (fits_dir group.dir dir) (fits_on group.on ifid) (n + k) misfits r
+        → Asked config.tables facts ifid dir d (is_decided_before d n) (fits_dir group.dir dir) (fits_on group.on ifid) (n + k) misfits r
     asked r other is =
-        asked_only config.tables facts ifid dir d (is_before d n) (fits_dir group.dir dir) (fits_on group.on ifid)
+        asked_only config.tables facts ifid dir d (is_decided_before d n) (fits_dir group.dir dir) (fits_on group.on ifid)
         (record { place = n + k; group_dir = group.dir; group_on = group.on; placed = placed }) r other is
 
     tells : (r : RuleTold) → a ≡ None → applies config.tables facts ifid dir group ≡ true → is_behind_final d (n + k) ≡ false → told_by_misfit d (n + k) misfits ≡ r
         → told_of_rule (explanation config facts ifid dir) front k ≡ Some r
     tells r none holds unended is =
         told_rule_is k placed at
-        ∙ ap (λ (told : RuleTold). Some told) (asked_gives config.tables facts ifid dir d (is_before d n) (fits_dir group.dir dir) (fits_on group.on ifid)
+        ∙ ap (λ (told : RuleTold). Some told) (asked_gives config.tables facts ifid dir d (is_decided_before d n) (fits_dir group.dir dir) (fits_on group.on ifid)
         (record { place = n + k; group_dir = group.dir; group_on = group.on; placed = placed }) r (not_before none) holds unended is)
 
     -- decided here
@@ -350,7 +345,7 @@ module _ (config : Configuration) (facts : Facts) (ifid : IfId) (dir : Dir) (fro
     decides_only None is holds match none told =
         let some = value_of holds match in let h = sym is ∙ answered some.value none some.is in absurd (cc)
     decides_only (Some s) is holds match none told = elim (cases_Bool (s == n + k)) [
-      | inl same ↦ ap (λ p. Some p) (same_place s (n + k) same)
+      | inl same ↦ at_place s (n + k) same
       | inr other ↦ let h = rw other at told in absurd (cc)
     ]
 
@@ -368,8 +363,9 @@ module _ (config : Configuration) (facts : Facts) (ifid : IfId) (dir : Dir) (fro
         let holds = group_applies (n + k) here.1 in
         let match = answer_matches config.tables facts ifid dir n (rules_of group) k placed (answer_is (Some (n + k)) holds here.1) at in
         tells RuleSays.Decides here.0 holds
-        (ap (λ (o : Option ℕ). is_behind_final (decider_of config.model o) (n + k)) is ∙ not_behind_itself (has_final (rule_at config.model (n + k))) (n + k))
-        (ap (told_by_misfit d (n + k)) (no_misfit match) ∙ ap (λ (o : Option ℕ). told_match (decider_of config.model o) (n + k)) is ∙ decides_itself (has_final (rule_at config.model (n + k))) (n + k))
+        (ap (λ (o : Option ℕ). is_behind_final (decider_of config.model o) (n + k)) is ∙ not_behind_itself (is_final_rule (rule_at config.model (n + k))) (n + k))
+        (ap (told_by_misfit d (n + k)) (no_misfit match) ∙ ap (λ (o : Option ℕ). told_match (decider_of config.model o) (n + k)) is
+        ∙ decides_itself (is_final_rule (rule_at config.model (n + k))) (n + k))
 
     -- decided by another one
     overrides_only : (o : Option ℕ) (by : ℕ) → told_match (decider_of config.model o) (n + k) ≡ RuleSays.Overridden by → (o ≡ Some by) × (by ≢ n + k)
@@ -397,7 +393,7 @@ module _ (config : Configuration) (facts : Facts) (ifid : IfId) (dir : Dir) (fro
         let here = inside by h.decides h.least h.most in
         tells (RuleSays.Overridden by) here.0 (group_applies by here.1) (open_is config facts ifid dir (n + k) h.unended)
         (ap (told_by_misfit d (n + k)) (no_misfit h.matched)
-        ∙ ap (λ (o : Option ℕ). told_match (decider_of config.model o) (n + k)) h.decides ∙ overrides_other (has_final (rule_at config.model by)) by (n + k) h.other)
+        ∙ ap (λ (o : Option ℕ). told_match (decider_of config.model o) (n + k)) h.decides ∙ overrides_other (is_final_rule (rule_at config.model by)) by (n + k) h.other)
 
     -- and a part that isn't fitted
     told_misfits : (part : Part) → told_of_rule (explanation config facts ifid dir) front k ≡ Some (RuleSays.Misfits part)
@@ -413,13 +409,14 @@ module _ (config : Configuration) (facts : Facts) (ifid : IfId) (dir : Dir) (fro
 
   told_not_reached : told_of_group (explanation config facts ifid dir) front ≡ Some GroupSays.NotReached → ¬ IsReached config facts ifid dir front
   told_not_reached is = λ none.
-      let says = sym (ap (option_map (λ (told : ToldGroup). told.told)) told_group_is) ∙ is in
-      let h = not_reached_before (is_before d n) (fits_dir group.dir dir) (fits_on group.on ifid) (some_is (group_told config.tables facts ifid dir d n group) GroupSays.NotReached says) in
-      true_is_not_false (sym h ∙ not_before none)
+      let says = told_same (told_of_group (explanation config facts ifid dir) front) (group_told config.tables facts ifid dir d n group) GroupSays.NotReached
+      (ap (option_map (λ (told : ToldGroup). told.told)) told_group_is) is in
+      let h = not_reached_before (is_decided_before d n) (fits_dir group.dir dir) (fits_on group.on ifid) says in
+      true≢false (sym h ∙ not_before none)
 
   not_reached_told : ¬ IsReached config facts ifid dir front → told_of_group (explanation config facts ifid dir) front ≡ Some GroupSays.NotReached
   not_reached_told never =
-      let before : is_before d n ≡ true = reached_is ∙ some_left a never in
+      let before : is_decided_before d n ≡ true = reached_is ∙ some_left a never in
       ap (option_map (λ (told : ToldGroup). told.told)) told_group_is ∙ rw before refl
 
 pub decides_exactly_lem : DecidesExactly
@@ -467,18 +464,18 @@ module _ (config : Configuration) (facts : Facts) (ifid : IfId) (dir : Dir) (k :
       first_at : (o : Option ℕ) (s : ℕ) → o ≡ Some s → is_translated_before o k ≡ false → s ≤ k → o ≡ Some k
       first_at None s is before le = absurd (cc)
       first_at (Some j) s is before le =
-          let e : j ≡ s = cc in let b = le_true k j (not_false (nat_le k j) before) in let same : j ≡ k = omega arith in ap (λ p. Some p) same
+          let e : j ≡ s = cc in let b = not_past k j before in let same : j ≡ k = omega arith in ap (λ p. Some p) same
 
   first_told : first ≡ Some k → slice_get (explanation config facts ifid dir).maps k ≡ Some MapSays.Applies
   first_told is =
       let place : k ≡ 0 + k = omega arith in
       let holds = first_passes (map_applies config.tables facts ifid dir) 0 config.model.maps k m (is ∙ ap (λ p. Some p) place) at in
-      let none = none_left unfit (sym (applies_without_misfit_lem config.tables facts ifid dir m) ∙ holds) in
-      let unended : is_translated_before first k ≡ false = ap (λ (o : Option ℕ). is_translated_before o k) is ∙ ap not (le_holds k k (omega arith)) in
+      let none = no_part unfit (sym (applies_without_misfit_lem config.tables facts ifid dir m) ∙ holds) in
+      let unended : is_translated_before first k ≡ false = ap (λ (o : Option ℕ). is_translated_before o k) is ∙ (is_not_past k k (omega arith)) in
       map_says ∙ rw (unended, none) refl
 
   map_told_first : slice_get (explanation config facts ifid dir).maps k ≡ Some MapSays.Applies → first ≡ Some k
-  map_told_first is = told_first first refl (some_is (map_told config.tables facts ifid dir first k m) MapSays.Applies (sym map_says ∙ is))
+  map_told_first is = told_first first refl (told_same (slice_get (explanation config facts ifid dir).maps k) (map_told config.tables facts ifid dir first k m) MapSays.Applies map_says is)
 
 pub map_applies_exactly_lem : MapAppliesExactly
 map_applies_exactly_lem config facts ifid dir k m at = (map_told_first config facts ifid dir k m at, first_told config facts ifid dir k m at)

@@ -28,17 +28,17 @@ use Rattle.npf_explain.specs.declared.told.ToldGroup.{ToldGroup}
 use Rattle.npf_explain.specs.declared.told.Unasked.TheVariants.{BehindFinal, GroupElsewhere, GroupAnswered}
 
 -- the rule that decides, and whether it is `final`
-abbrev pub has_final : Option Rule → Bool
-has_final None = false
-has_final (Some rule) = rule.last
+abbrev pub is_final_rule : Option Rule → Bool
+is_final_rule None = false
+is_final_rule (Some rule) = rule.last
 
 abbrev pub decider_of : Model → Option ℕ → Option Decider
-decider_of model verdict = option_map (λ place. record { place = place; last = has_final (rule_at model place) }) verdict
+decider_of model verdict = option_map (λ place. record { place = place; last = is_final_rule (rule_at model place) }) verdict
 
 -- the rule that decides stands in front of this place
-abbrev pub is_before : Option Decider → ℕ → Bool
-is_before None place = false
-is_before (Some decider) place = not (nat_le place decider.place)
+abbrev pub is_decided_before : Option Decider → ℕ → Bool
+is_decided_before None place = false
+is_decided_before (Some decider) place = not (nat_le place decider.place)
 
 -- and it is `final`
 abbrev pub is_behind_final : Option Decider → ℕ → Bool
@@ -69,7 +69,7 @@ module _ (tables : Tables) (facts : Facts) (ifid : IfId) (dir : Dir) where
   -- a group of which the first rule has the place `n`
   abbrev pub group_told : Option Decider → ℕ → Group → GroupTold
   group_told decider n group =
-      if is_before decider n then GroupSays.NotReached
+      if is_decided_before decider n then GroupSays.NotReached
       else if not (fits_dir group.dir dir) then GroupSays.OtherDirection
       else if not (fits_on group.on ifid) then GroupSays.OtherInterface
       else GroupSays.Applies

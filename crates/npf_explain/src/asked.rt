@@ -10,14 +10,14 @@ use std::sync::Arc;
 
 /// A packet by its facts, where it passes, and the tables that its addresses are looked up in.
 #[derive(Clone, Copy)]
-pub(crate) struct Asked<'a> {
+pub(crate) struct PacketAsked<'a> {
     pub(crate) tables: &'a [Arc<Table>],
     pub(crate) facts: &'a Facts,
     pub(crate) ifid: IfId,
     pub(crate) dir: Dir,
 }
 
-impl Asked<'_> {
+impl PacketAsked<'_> {
     /// The first part of the entry's rule that the packet doesn't fit.
     pub(crate) fn misfit(&self, entry: &RuleEntry<'_>) -> Option<Part>
         ensures { result ≡ entry_misfit self.now entry.now }

@@ -5,7 +5,7 @@ ghost use Rattle.npf_ruleset.specs.Configuration.{configuration};
 ghost use Rattle.npf_explain.specs.Asked.{HasTablesOf, entry_meets};
 ghost use Rattle.npf_explain.specs.Explanation.{decider_of};
 
-use crate::asked::Asked;
+use crate::asked::PacketAsked;
 use npf_precedence::{RuleEntry, in_order};
 use npf_ruleset::Config;
 use npf_types::NoMemory;
@@ -21,7 +21,7 @@ pub(crate) struct Decider {
 pub(crate) fn find_decider(
     alloc: Global,
     config: &Config,
-    asked: &Asked<'_>,
+    asked: &PacketAsked<'_>,
 ) -> Result<Option<Decider>, NoMemory>
     requires { HasTablesOf config.now asked.now }
     ensures { IfOk result (λ found. found ≡ decider_of config.now.model (verdict_of (configuration config.now) asked.now.facts.now asked.now.ifid asked.now.dir)) }
@@ -36,7 +36,7 @@ pub(crate) fn find_decider(
     }
 }
 
-fn first_match<'a>(order: &[RuleEntry<'a>], asked: &Asked<'_>) -> Option<RuleEntry<'a>>
+fn first_match<'a>(order: &[RuleEntry<'a>], asked: &PacketAsked<'_>) -> Option<RuleEntry<'a>>
     ensures { result ≡ find (entry_meets asked.now) order.now }
 {
     order.iter().copied().find(|entry| asked.meets(entry))

@@ -5,7 +5,7 @@ ghost use Rattle.npf_ruleset.specs.Configuration.{configuration};
 ghost use Rattle.npf_explain.specs.declared.decider.Decider.{Decider};
 ghost use Rattle.npf_explain.specs.Explanation.{explanation};
 
-use crate::asked::Asked;
+use crate::asked::PacketAsked;
 use crate::decider::{Decider, find_decider};
 use crate::maps::maps_told;
 use crate::rules::groups_told;
@@ -25,7 +25,7 @@ pub fn explain(
 ) -> Result<Explanation, NoMemory>
     ensures { IfOk result (λ told. told ≡ explanation (configuration config.now) facts.now ifid dir) }
 {
-    let asked = Asked {
+    let asked = PacketAsked {
         tables: config.tables(),
         facts,
         ifid,

@@ -3,7 +3,7 @@ ghost use Rattle.std.specs.Prelude.{◌≡◌, IfOk};
 ghost use Rattle.npf_ruleset.specs.Tables.{entries};
 ghost use Rattle.npf_explain.specs.Explanation.{is_translated_before, map_told, maps_told};
 
-use crate::asked::Asked;
+use crate::asked::PacketAsked;
 use crate::told::MapTold;
 use npf_model::Map;
 use npf_ruleset::map_misfit;
@@ -14,7 +14,7 @@ use std::alloc::Global;
 pub(crate) fn maps_told(
     alloc: Global,
     maps: &[Map],
-    asked: &Asked<'_>,
+    asked: &PacketAsked<'_>,
     first: Option<u32>,
 ) -> Result<Vec<MapTold>, NoMemory>
     ensures { IfOk result (λ told. told.items ≡ maps_told (entries asked.now.tables.now) asked.now.facts.now asked.now.ifid asked.now.dir first 0 maps.now) }
@@ -26,7 +26,7 @@ pub(crate) fn maps_told(
     Ok(told)
 }
 
-fn map_told(map: &Map, at: usize, asked: &Asked<'_>, first: Option<u32>) -> MapTold
+fn map_told(map: &Map, at: usize, asked: &PacketAsked<'_>, first: Option<u32>) -> MapTold
     ensures { result ≡ map_told (entries asked.now.tables.now) asked.now.facts.now asked.now.ifid asked.now.dir first at map.now }
 {
     if is_translated_before(first, at) {

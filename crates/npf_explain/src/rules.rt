@@ -5,9 +5,9 @@ ghost use Rattle.npf_model.specs.Verdict.{all_rules};
 ghost use Rattle.npf_ruleset.specs.Tables.{entries};
 ghost use Rattle.npf_explain.specs.declared.told.GroupTold.TheVariants.{Applies};
 ghost use Rattle.npf_explain.specs.Asked.{entry_told};
-ghost use Rattle.npf_explain.specs.Explanation.{group_told, groups_told, is_behind_final, is_before, told_match};
+ghost use Rattle.npf_explain.specs.Explanation.{group_told, groups_told, is_behind_final, is_decided_before, told_match};
 
-use crate::asked::Asked;
+use crate::asked::PacketAsked;
 use crate::decider::Decider;
 use crate::told::{GroupTold, RuleTold, ToldGroup, Unasked};
 use npf_model::Group;
@@ -20,7 +20,7 @@ use std::alloc::Global;
 pub(crate) fn groups_told(
     alloc: Global,
     groups: &[Group],
-    asked: &Asked<'_>,
+    asked: &PacketAsked<'_>,
     decider: Option<Decider>,
 ) -> Result<Vec<ToldGroup>, NoMemory>
     requires { length (all_rules groups.now) ≤ MAX_RULES }
@@ -38,10 +38,10 @@ pub(crate) fn groups_told(
 }
 
 // What a group says whose first rule has this place.
-fn group_told(group: &Group, asked: &Asked<'_>, decider: Option<Decider>, first: usize) -> GroupTold
+fn group_told(group: &Group, asked: &PacketAsked<'_>, decider: Option<Decider>, first: usize) -> GroupTold
     ensures { result ≡ group_told (entries asked.now.tables.now) asked.now.facts.now asked.now.ifid asked.now.dir decider first group.now }
 {
-    if is_before(decider, first) {
+    if is_decided_before(decider, first) {
         GroupTold::NotReached
     } else if !fits_dir(group.dir, asked.dir) {
         GroupTold::OtherDirection
@@ -56,7 +56,7 @@ fn told_group(
     alloc: Global,
     says: GroupTold,
     rules: &[RuleEntry<'_>],
-    asked: &Asked<'_>,
+    asked: &PacketAsked<'_>,
     decider: Option<Decider>,
 ) -> Result<ToldGroup, NoMemory>
     ensures { IfOk result (λ group. group ≡ record { told = says; rules = map (entry_told asked.now decider says) rules.now }) }
@@ -75,7 +75,7 @@ fn told_group(
 fn rule_told(
     group: GroupTold,
     entry: &RuleEntry<'_>,
-    asked: &Asked<'_>,
+    asked: &PacketAsked<'_>,
     decider: Option<Decider>,
 ) -> RuleTold
     ensures { result ≡ entry_told asked.now decider group entry.now }
@@ -90,7 +90,7 @@ fn rule_told(
 }
 
 // What a rule of a group says that applies.
-fn asked_rule(entry: &RuleEntry<'_>, asked: &Asked<'_>, decider: Option<Decider>) -> RuleTold
+fn asked_rule(entry: &RuleEntry<'_>, asked: &PacketAsked<'_>, decider: Option<Decider>) -> RuleTold
     ensures { result ≡ entry_told asked.now decider Applies entry.now }
 {
     if is_behind_final(decider, entry.place) {
@@ -112,8 +112,8 @@ fn told_match(decider: Option<Decider>, place: usize) -> RuleTold
     }
 }
 
-fn is_before(decider: Option<Decider>, place: usize) -> bool
-    ensures { result ≡ is_before decider place }
+fn is_decided_before(decider: Option<Decider>, place: usize) -> bool
+    ensures { result ≡ is_decided_before decider place }
 {
     match decider {
         Some(decider) => decider.place < place,

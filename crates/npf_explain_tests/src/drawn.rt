@@ -27,7 +27,7 @@ fn ask(alloc: Global, draws: &mut Draws, text: &str) -> Result<()> {
     let config = load_text(alloc, text.as_bytes())?;
     let bytes = drawn_packet(alloc, draws)?;
     let dir = if draws.one_in(2) { Dir::In } else { Dir::Out };
-    let ifid = IfId(draws.below(3) as u16);
+    let ifid = IfId(u16::try_from(draws.below(3)).unwrap_or(0));
     compare(alloc, &config, bytes.as_slice(), ifid, dir)
 }
 
@@ -97,7 +97,7 @@ fn drawn_packet(alloc: Global, draws: &mut Draws) -> Result<Vec<u8>> {
     let src = drawn_addr(draws);
     let dst = drawn_addr(draws);
     let (protocol, carried) = drawn_carried(alloc, draws)?;
-    let len = 20 + carried.len() as u8 % 200;
+    let len = 20 + (carried.len() % 200) as u8;
     let mut bytes = Vec::new(alloc);
     bytes.extend_from_slice(&[0x45, 0, 0, len, 0, 0, 0, 0, 64, protocol, 0, 0])?;
     bytes.extend_from_slice(&src)?;

@@ -24,6 +24,10 @@ impl Draws {
         self.next().checked_rem(count).unwrap_or(0)
     }
 
+    fn index(&mut self, len: usize) -> usize {
+        usize::try_from(self.below(len as u64)).unwrap_or(0)
+    }
+
     /// Whether a draw of one in so many comes.
     pub fn one_in(&mut self, count: u64) -> bool {
         self.below(count) == 0
@@ -31,13 +35,13 @@ impl Draws {
 
     /// One of these words.
     pub fn word(&mut self, words: &[&'static str]) -> &'static str {
-        let at = self.below(words.len() as u64);
-        words.get(at as usize).copied().unwrap_or("")
+        let at = self.index(words.len());
+        words.get(at).copied().unwrap_or("")
     }
 
     /// One of these bytes.
     pub fn byte(&mut self, bytes: &[u8]) -> u8 {
-        let at = self.below(bytes.len() as u64);
-        bytes.get(at as usize).copied().unwrap_or(0)
+        let at = self.index(bytes.len());
+        bytes.get(at).copied().unwrap_or(0)
     }
 }
