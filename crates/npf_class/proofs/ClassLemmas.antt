@@ -21,7 +21,7 @@ module _ (ifaces : List Iface) (model : Model) (text : List ℕ) where
   pub meaningless : (tree : RuleTree) → ReadsRule text (Ok tree) → (result : Result Rule ChangeFault) → IfErr result (EndsUnlessMemory (MeansRule ifaces model tree))
       → IfErr result (EndsUnlessMemory (MeansPassRule ifaces model text))
   meaningless tree reads (Ok rule) ends = ends
-  meaningless tree reads (Err fault) ends = λ other. goes_on reads (stops (ends other))
+  meaningless tree reads (Err fault) ends = λ other. goes_on reads (ends other)
 
 module _ (ifaces : List Iface) (model : Model) (text whole : List ℕ) (is : whole ≡ pass_bytes ++ text) where
   pub class_read : (rule : Rule) → MeansPassRule ifaces model whole (Ok rule) → ReadsClass ifaces model text (Ok rule)

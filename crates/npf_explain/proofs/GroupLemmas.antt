@@ -85,16 +85,17 @@ module _ (tables : Tables) (facts : Facts) (ifid : IfId) (dir : Dir) where
         ∙ sym (ap (groups_told tables facts ifid dir decider 0) (take_more groups i group within))
 
     -- one more group goes on so, and its rules are counted
-    pub tells_more : (groups : List Group) (i : ℕ) (group : Group) (first next : ℕ) (before after : List ToldGroup) (rules : List RuleEntry) (says : GroupTold) (told : ToldGroup)
+    pub tells_more : (groups : List Group) (i : ℕ) (group : Group) (first next : ℕ) (before after : List ToldGroup) (rules given : List RuleEntry) (says : GroupTold) (told : ToldGroup)
         → i < length groups → group ≡ get_or groups i group
         → TellsFront tables facts ifid dir decider (take i groups) before first
         → map ordered_rule rules ≡ rules_from group first (rules_of group)
-        → says ≡ group_told tables facts ifid dir decider first group
-        → told ≡ record { told = says; rules = map (λ entry. rule_told tables facts ifid dir decider says (ordered_rule entry)) rules }
+        → given ≡ rules → says ≡ group_told tables facts ifid dir decider first group
+        → told ≡ record { told = says; rules = map (λ entry. rule_told tables facts ifid dir decider says (ordered_rule entry)) given }
         → after ≡ before ++ told ∷ [] → next ≡ first + length rules
         → TellsFront tables facts ifid dir decider (take (i + 1) groups) after next
-    tells_more groups i group first next before after rules says told within at front laid is tells adds counts = record {
-      told = tells_group groups i group first before after rules says told within at front.told front.count laid is tells adds;
+    tells_more groups i group first next before after rules given says told within at front laid same is tells adds counts = record {
+      told = tells_group groups i group first before after rules says told within at front.told front.count laid is
+          (tells ∙ ap (λ (es : List RuleEntry). record { told = says; rules = map (λ entry. rule_told tables facts ifid dir decider says (ordered_rule entry)) es }) same) adds;
       count = let a = front.count in let b = rules-push groups i group within at in let c = count-rules group first rules laid in omega arith;
     }
 

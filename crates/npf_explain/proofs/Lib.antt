@@ -1,3 +1,4 @@
+mod AskedLemmas
 mod DeciderLemmas
 mod FoundLemmas
 mod GroupLemmas

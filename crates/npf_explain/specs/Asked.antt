@@ -1,6 +1,6 @@
 -- What is asked of an entry of the order of precedence, in the words of a packet that is asked about.
 use Rattle.std.specs.Prelude.{◌≡◌, Bool, Option}
-use Rattle.npf_model.specs.declared.model.Model.{Model}
+use Rattle.npf_model.specs.Verdict.{matches}
 use Rattle.npf_ruleset.specs.declared.config.Config.{Config}
 use Rattle.npf_ruleset.specs.declared.misfit.Part.{Part}
 use Rattle.npf_ruleset.specs.Misfit.{rule_misfit}
@@ -20,6 +20,9 @@ HasTablesOf config asked = asked.tables.now ≡ config.tables.items
 
 abbrev pub entry_misfit : PacketAsked → RuleEntry → Option Part
 entry_misfit asked entry = rule_misfit (ordered_rule entry).placed (entries asked.tables.now) asked.facts.now asked.ifid asked.dir
+
+abbrev pub entry_matches : PacketAsked → RuleEntry → Bool
+entry_matches asked entry = matches (entries asked.tables.now) asked.facts.now asked.ifid asked.dir (ordered_rule entry).placed
 
 abbrev pub entry_meets : PacketAsked → RuleEntry → Bool
 entry_meets asked entry = meets (entries asked.tables.now) asked.facts.now asked.ifid asked.dir (ordered_rule entry)

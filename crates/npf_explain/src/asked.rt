@@ -1,6 +1,7 @@
 // What is asked.
-ghost use Rattle.std.specs.Prelude.{◌≡◌};
-ghost use Rattle.npf_explain.specs.Asked.{entry_meets, entry_misfit};
+ghost use Rattle.std.specs.Prelude.{◌≡◌, ◌&&◌};
+ghost use Rattle.npf_model.specs.Place.{fits_dir, fits_on};
+ghost use Rattle.npf_explain.specs.Asked.{entry_matches, entry_meets, entry_misfit};
 
 use npf_precedence::RuleEntry;
 use npf_ruleset::{Part, Placed, fits_dir, fits_on, rule_misfit};
@@ -34,8 +35,18 @@ impl PacketAsked<'_> {
     pub(crate) fn meets(&self, entry: &RuleEntry<'_>) -> bool
         ensures { result ≡ entry_meets self.now entry.now }
     {
-        fits_dir(entry.group_dir, self.dir)
-            && fits_on(entry.group_on, self.ifid)
-            && self.misfit(entry).is_none()
+        self.leaves(entry) && self.matches(entry)
+    }
+
+    fn leaves(&self, entry: &RuleEntry<'_>) -> bool
+        ensures { result ≡ (fits_dir entry.now.group_dir self.now.dir && fits_on entry.now.group_on self.now.ifid) }
+    {
+        fits_dir(entry.group_dir, self.dir) && fits_on(entry.group_on, self.ifid)
+    }
+
+    fn matches(&self, entry: &RuleEntry<'_>) -> bool
+        ensures { result ≡ entry_matches self.now entry.now }
+    {
+        self.misfit(entry).is_none()
     }
 }
