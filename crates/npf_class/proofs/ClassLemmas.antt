@@ -1,8 +1,7 @@
 -- Each stage that refuses a class's rule refuses the class.
-use Rattle.std.proofs.Common.{◌≡◌, ◌≢◌, ℕ, Result, Ok, Err, IfOk, List, ◌++◌, refl, subst}
+use Rattle.std.proofs.Common.{◌≡◌, ℕ, Result, Ok, Err, IfOk, List, ◌++◌, refl, subst}
 use Rattle.std.specs.Prelude.{IfErr}
 use Rattle.npf_types.specs.Stages.{stops, goes_on, told, done}
-use Rattle.npf_faults.specs.declared.fault.Refused.{Refused}
 use Rattle.npf_syntax.specs.declared.rule.RuleTree.{RuleTree}
 use Rattle.npf_model.specs.declared.{iface.Iface.Iface, model.Model.Model, rule.Rule.Rule}
 use Rattle.npf_config_changes.specs.declared.fault.ChangeFault.{ChangeFault}

@@ -1,9 +1,6 @@
 -- What the text of a class means: the rule that `pass CLASS` is, by what a rule means that is added to a ruleset.
-use Rattle.std.specs.Prelude.{◌≢◌, ℕ, ◌-◌, ◌==◌, max, if◌then◌else◌, Bool, Err, List, ◌++◌, codes}
+use Rattle.std.specs.Prelude.{◌≢◌, ℕ, ◌-◌, ◌==◌, max, if◌then◌else◌, Err, List, ◌++◌, codes}
 use Rattle.npf_types.specs.Stages.{Stage, ◌andthen◌, ◌told_by◌}
-use Rattle.npf_types.specs.declared.direction.Dir.{Dir}
-use Rattle.npf_types.specs.declared.facts.Facts.{Facts}
-use Rattle.npf_types.specs.declared.interface.IfId.{IfId}
 use Rattle.npf_types.specs.declared.span.Span.{Span}
 use Rattle.npf_faults.specs.declared.fault.Refused.{Refused}
 use Rattle.npf_faults.specs.declared.fault.Refused.TheVariants.{Fault, NoMemory}

@@ -1,11 +1,11 @@
 -- The rule that decides, as it is found in the order of precedence.
-use Rattle.std.proofs.Common.{◌≡◌, ℕ, ◌==◌, Bool, true, false, List, [], ◌∷◌, Option, Some, None, map, slice_get, inl, inr, refl, sym, ap, ◌∙◌}
+use Rattle.std.proofs.Common.{◌≡◌, ◌==◌, Bool, true, List, [], ◌∷◌, Option, Some, None, map, slice_get, inl, inr, refl, sym, ap, ◌∙◌}
 use Rattle.std.{specs.{List.{filter, find}, Option.{option_map, option_to_list}}, proofs.lemmas.{Bool.cases_Bool, Cmp.nat_eq_equiv}}
 use Rattle.npf_types.specs.declared.{direction.Dir.Dir, facts.Facts.Facts, interface.IfId.IfId}
-use Rattle.npf_model.specs.{declared.{group.Group.Group, model.Model.Model}, Configuration.verdict_of, Describes.Tables, Verdict.{PlacedRule, all_rules, rule_at, verdict}}
-use Rattle.npf_precedence.specs.{declared.entry.RuleEntry.RuleEntry, Entry.ordered_rule, Precedence.{OrderedRule, in_order}, PrecedenceLaw.{first_match, meets}}
+use Rattle.npf_model.specs.{declared.{group.Group.Group, model.Model.Model}, Describes.Tables, Verdict.{PlacedRule, all_rules, rule_at, verdict}}
+use Rattle.npf_precedence.specs.{declared.entry.RuleEntry.RuleEntry, Entry.ordered_rule, Precedence.{OrderedRule, in_order}, PrecedenceLaw.{meets}}
 use Rattle.npf_precedence.proofs.{PlaceLemmas.each_rule_once_lem, VerdictLemmas.first_match_decides_lem}
-use Rattle.npf_explain.specs.{declared.decider.Decider.Decider, Explanation.{decider_of, is_final_rule}}
+use Rattle.npf_explain.specs.{Explanation.{decider_of, is_final_rule}}
 
 find_through : {X Y : Type 0} (f : X → Y) (t : Y → Bool) (xs : List X) → find t (map f xs) ≡ option_map f (find (λ x. t (f x)) xs)
 find_through f t [] = refl

@@ -3,7 +3,7 @@ use Rattle.std.proofs.Common.{◌≡◌, ◌<◌, ◌≤◌, ℕ, suc, ◌+◌, 
 use Rattle.std.proofs.lemmas.{Grind.flat_map-append, List.{Concat.flat_map-cons, append-nil, length-append, length-map, length-take, take-append-drop, take_more}}
 use Rattle.npf_types.specs.declared.{direction.Dir.Dir, facts.Facts.Facts, interface.IfId.IfId, limits.TheConstants.MAX_RULES}
 use Rattle.npf_model.specs.{declared.{group.Group.Group, map.Map.Map}, Describes.Tables, Verdict.{all_rules, rules_of}}
-use Rattle.npf_precedence.{specs.{declared.entry.RuleEntry.RuleEntry, Entry.ordered_rule, Precedence.{OrderedRule, rules_from}}, proofs.OrderLemmas.length-rules_from}
+use Rattle.npf_precedence.{specs.{declared.entry.RuleEntry.RuleEntry, Entry.ordered_rule, Precedence.{rules_from}}, proofs.OrderLemmas.length-rules_from}
 use Rattle.npf_explain.specs.declared.{decider.Decider.Decider, told.{GroupTold.GroupTold, MapTold.MapTold, RuleTold.RuleTold, ToldGroup.ToldGroup}}
 use Rattle.npf_explain.specs.Explanation.{group_told, groups_told, map_told, maps_told, rule_told, told_group}
 

@@ -18,7 +18,7 @@ use Rattle.npf_explain.specs.Explanation.{decider_of, explanation, group_told, g
 use Rattle.npf_explain.specs.Explanation.{map_told, maps_told, rule_told, told_by_misfit, told_group, told_map_by_misfit, told_match}
 use Rattle.npf_explain.specs.ExplanationLaw.{IsAsked, IsBehindFinal, IsOverridden, IsReached, told_of_group, told_of_rule}
 use Rattle.npf_explain.specs.ExplanationLaw.{DecidesExactly, MapAppliesExactly, MisfitsExactly, OverriddenExactly, ReachedExactly}
-use Rattle.npf_explain.proofs.FoundLemmas.{IsWithin, FirstBefore, answer_matches, answer_of, first_before, first_passes, group_within, or_within, unanswered, verdict_append, verdict_within, wider}
+use Rattle.npf_explain.proofs.FoundLemmas.{IsWithin, answer_matches, answer_of, first_before, first_passes, group_within, or_within, unanswered, verdict_append, verdict_within, wider}
 
 -- tests of places
 is_past : (a b : ℕ) → b < a → not (nat_le a b) ≡ true

@@ -38,7 +38,12 @@ pub(crate) fn groups_told(
 }
 
 // What a group says whose first rule has this place.
-fn group_told(group: &Group, asked: &PacketAsked<'_>, decider: Option<Decider>, first: usize) -> GroupTold
+fn group_told(
+    group: &Group,
+    asked: &PacketAsked<'_>,
+    decider: Option<Decider>,
+    first: usize,
+) -> GroupTold
     ensures { result ≡ group_told (entries asked.now.tables.now) asked.now.facts.now asked.now.ifid asked.now.dir decider first group.now }
 {
     if is_decided_before(decider, first) {
