@@ -1,0 +1,5 @@
+mod AskedLemmas
+mod DeciderLemmas
+mod FoundLemmas
+mod GroupLemmas
+mod LawLemmas
