@@ -43,7 +43,13 @@ impl<'a> Rules<'a> {
         config: &'a Config,
         known: &mut Vec<RuleEffect>,
     ) -> Result<Vec<u64>, Error> {
-        let tables = self.add_tables(alloc, config)?;
+        let tables = TableSpan {
+            first: self.tables.len(),
+            count: config.tables().len(),
+        };
+        for table in config.tables() {
+            self.tables.push(List::of_vec(table.to_vec(alloc)?))?;
+        }
         let mut effects = Vec::new(alloc);
         for entry in in_order(alloc, config.model().groups.as_slice())? {
             effects.push(numbered(known, rule_effect(config.model(), entry.rule))?)?;
@@ -54,23 +60,6 @@ impl<'a> Rules<'a> {
         }
         effects.push(0)?;
         Ok(effects)
-    }
-
-    // Puts a configuration's tables behind the others, unless those that are there are the same.
-    fn add_tables(&mut self, alloc: Global, config: &Config) -> Result<TableSpan, Error> {
-        let mut own = Vec::new(alloc);
-        for table in config.tables() {
-            own.push(List::of_vec(table.to_vec(alloc)?))?;
-        }
-        let count = own.len();
-        if are_same(own.as_slice(), self.tables.as_slice()) {
-            return Ok(TableSpan { first: 0, count });
-        }
-        let first = self.tables.len();
-        for table in own {
-            self.tables.push(table)?;
-        }
-        Ok(TableSpan { first, count })
     }
 
     pub fn products(&self) -> &[Product<'a>] {
@@ -95,14 +84,6 @@ impl<'a> Rules<'a> {
         };
         (old, new)
     }
-}
-
-fn are_same(some: &[List<Prefix>], others: &[List<Prefix>]) -> bool {
-    some.len() == others.len()
-        && some
-            .iter()
-            .zip(others)
-            .all(|(one, other)| one.as_slice() == other.as_slice())
 }
 
 // The number of an effect among those that are known, which it joins.
