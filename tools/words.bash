@@ -5,6 +5,11 @@
 
 run_words='run CONF SCRIPT [--ifaces FILE] [--workers N] [--spread rr|flow] [--write FILE] [--load FILE] [--save FILE]'
 text_words='CONF [--ifaces FILE]'
+why_words='why CONF [--all] [--ifaces FILE]'
+explain_words='explain CONF IF in|out CLASS [--ifaces FILE]'
+query_words='query CONF CLASS [--ifaces FILE] [--steps N]'
+check_words='check CONF EXPECTATIONS [--ifaces FILE] [--steps N]'
+lint_words='lint CONF [--ifaces FILE] [--steps N]'
 run_options=(--ifaces --workers --spread --write --load --save)
 most_number=18446744073709551615
 
@@ -53,7 +58,7 @@ near_options() {
 
 is_command() {
   case $1 in
-    run | validate | show | debug | why | gen) ;;
+    run | validate | show | debug | why | explain | query | check | lint | gen) ;;
     *) return 1 ;;
   esac
 }
@@ -63,7 +68,7 @@ ask_for_help() {
   local word
   case ${1-} in
     help | --help | -h) return ;;
-    run | validate | show | debug | why | gen | version | install) ;;
+    run | validate | show | debug | why | explain | query | check | lint | gen | version | install) ;;
     *) return 1 ;;
   esac
   for word in "${@:2}"; do
@@ -79,9 +84,19 @@ blame() {
   [ -n "$wrong" ] || wrong=$1
 }
 
-# Blames a value that the option, or the word NUMBER, can't have.
+# Whether the word is a number of 64 bits, as the program reads one.
+is_number() {
+  local number
+  [[ $1 =~ ^\+?0*([0-9]+)$ ]] || return 1
+  number=${BASH_REMATCH[1]}
+  [ ${#number} -ge ${#most_number} ] || return 0
+  # shellcheck disable=SC2071 # two of one length are compared as texts
+  [ ${#number} -eq ${#most_number} ] && ! [[ $number > $most_number ]]
+}
+
+# Blames a value that the option, the direction or the word NUMBER can't have.
 judge_value() {
-  local LC_ALL=C number
+  local LC_ALL=C
   case $1 in
     --workers)
       [[ $2 =~ ^\+?0*([1-9]|[1-5][0-9]|6[0-4])$ ]] || blame "--workers is a number from 1 to 64, and $(printf %q "$2") is none"
@@ -89,14 +104,14 @@ judge_value() {
     --spread)
       [ "$2" = rr ] || [ "$2" = flow ] || blame "--spread is rr or flow, and $(printf %q "$2") is neither"
       ;;
-    NUMBER)
-      if [[ $2 =~ ^\+?0*([0-9]+)$ ]]; then
-        number=${BASH_REMATCH[1]}
-        [ ${#number} -ge ${#most_number} ] || return 0
-        # shellcheck disable=SC2071 # two of one length are compared as texts
-        [ ${#number} -gt ${#most_number} ] || [[ $number > $most_number ]] || return 0
-      fi
-      blame "NUMBER is from 0 to $most_number, and $(printf %q "$2") is none of these"
+    IF)
+      [[ $2 =~ ^[A-Za-z][A-Za-z0-9._-]{0,14}$ ]] || blame "IF is an interface's name of 1 to 15 bytes, and $(printf %q "$2") is none"
+      ;;
+    in\|out)
+      [ "$2" = in ] || [ "$2" = out ] || blame "the direction is in or out, and $(printf %q "$2") is neither"
+      ;;
+    --steps | NUMBER)
+      is_number "$2" || blame "$1 is from 0 to $most_number, and $(printf %q "$2") is none of these"
       ;;
   esac
 }
@@ -104,10 +119,15 @@ judge_value() {
 # Sets `files` to the words that are neither the command nor an option nor the value of one, `ifaces`, `load`, `write`, `workers` and `spread` to the
 # values of these options, and `wrong` to what makes the words no command, whatever the files hold: the first such thing, or nothing.
 read_words() {
-  local command=$1 names=(CONF) options=(--ifaces) known name value near given=' '
+  local command=$1 names=(CONF) options=(--ifaces) known name value near given=' ' at
   files=() ifaces='' load='' write='' workers=1 spread=rr wrong=''
   case $command in
     run) names=(CONF SCRIPT) options=("${run_options[@]}") ;;
+    why) options=(--all --ifaces) ;;
+    explain) names=(CONF IF 'in|out' CLASS) ;;
+    query) names=(CONF CLASS) options=(--ifaces --steps) ;;
+    check) names=(CONF EXPECTATIONS) options=(--ifaces --steps) ;;
+    lint) names=(CONF) options=(--ifaces --steps) ;;
     gen) names=(NUMBER) options=() ;;
   esac
   known=" ${options[*]} "
@@ -123,6 +143,10 @@ read_words() {
         name=${1%%=*} value=${1#*=}
         if [[ $known != *" $name "* ]]; then
           blame "$command has no option $(printf %q "$name")$(near_options "$name" "${options[@]}")"
+        elif [ "$name" = --all ]; then
+          [ "$1" = --all ] || blame '--all has no value'
+          [[ $given != *' --all '* ]] || blame '--all stands there twice'
+          given+='--all '
         elif [ "$1" = "$name" ] && { [ $# -eq 1 ] || [[ $2 == -?* ]]; }; then
           blame "$name has no value behind it${2:+: $(printf %q "$2") is taken for an option}"
         else
@@ -149,9 +173,15 @@ read_words() {
     near=
     [ "$command" != run ] || near='; a script names several captures'
     blame "$(printf %q "${files[${#names[@]}]}") is a word too many$near"
-  elif [ "$command" = gen ]; then
-    judge_value NUMBER "${files[0]}"
+  else
+    for at in "${!names[@]}"; do
+      judge_value "${names[at]}" "${files[at]}"
+    done
   fi
+  # what stands there and is no file: an interface, a direction, a class
+  case $command in
+    explain | query) files=("${files[@]:0:1}") ;;
+  esac
 }
 
 # Whether the words are no command, whatever the files hold.
@@ -178,6 +208,11 @@ unread_file() {
 words_of() {
   case $1 in
     run) echo "$run_words" ;;
+    why) echo "$why_words" ;;
+    explain) echo "$explain_words" ;;
+    query) echo "$query_words" ;;
+    check) echo "$check_words" ;;
+    lint) echo "$lint_words" ;;
     gen) echo 'gen NUMBER' ;;
     *) echo "$1 $text_words" ;;
   esac
@@ -194,10 +229,12 @@ hint_command() {
     list | save) here='npfctl run CONF SCRIPT --save FILE saves the connections that are left' ;;
     load) here='npfctl run CONF SCRIPT --load FILE begins with the connections that --save saved' ;;
     rule | table) here="in a script, lines of ${1,,} change what is in force; npfctl(8), Scripts, has them" ;;
-    check | test | verify | -n | -f | -nf) other='validate says whether a configuration is accepted, and run what becomes of packets' ;;
+    test | verify | -n | -f | -nf) other='validate says whether a configuration is accepted, and run what becomes of packets' ;;
     replay | simulate | trace | read | -r) other='run says what becomes of the packets of captures' ;;
     print | dump | rules) other='show prints what a configuration means' ;;
-    explain | hint | hints | lint) other='why says what is wrong with a configuration' ;;
+    hint | hints) other='why says what is wrong with a configuration' ;;
+    ask | which | who) other='query says which rules decide on packets' ;;
+    assert | expect) other='check says which expectations a configuration does not meet' ;;
     diff | compare) other='npfctl(8), EXAMPLES, compares what two configurations do to the same packets' ;;
   esac
   if [ -n "$here" ]; then
@@ -210,7 +247,7 @@ hint_command() {
   elif [[ $1 == -* ]]; then
     hint "there is no command $word: options stand behind the command, as in npfctl run CONF SCRIPT --ifaces FILE"
   else
-    near=$(nearest "$1" run validate show debug why gen help version install)
+    near=$(nearest "$1" run validate show debug why explain query check lint gen help version install)
     hint "there is no command $word${near:+; the nearest is $near}"
   fi
   hint 'npfctl help has the commands'

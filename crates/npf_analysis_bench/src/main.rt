@@ -1,7 +1,7 @@
 // How long the analysis takes over a configuration and another one that came of it: the cut of all dimensions with the boxes of all rules,
 // whether some packet reaches each rule of the first, and which pairs of their rules decide on one packet with different effects. The words
-// are their files and the file that the boxes are put into, for a program in C that asks the same; bench/analysis runs both. With no words the
-// work is done once over small ones, and no times are told.
+// are their files, and maybe the file that the boxes are put into, for a program in C that asks the same; bench/analysis runs both. With no words
+// the work is done once over small ones, and no times are told.
 #![tactic(auto)]
 
 mod boxes_file;
@@ -44,37 +44,51 @@ fn main(rt: HostRuntime) -> Result<(), Error> {
         words.push(word)?;
     }
     match words.as_slice() {
-        [_, old, new, boxes] => {
-            let mut files = FolderFiles::new(&rt);
-            let mut old = load_file(alloc, &mut files, old.as_str())?;
-            let mut new = load_file(alloc, &mut files, new.as_str())?;
-            number(alloc, &mut old, &mut new)?;
-            let file = measured(&rt, &old, &new, true)?;
-            files
-                .write(boxes.as_str(), file.bytes())
-                .map_err(|_| anyhow!("the boxes can't be written"))
-        }
+        [_, old, new] => ask_files(&rt, old.as_str(), new.as_str(), None),
+        [_, old, new, boxes] => ask_files(&rt, old.as_str(), new.as_str(), Some(boxes.as_str())),
         _ => {
             let old = load_text(alloc, OLD.as_bytes())?;
             let new = load_text(alloc, NEW.as_bytes())?;
-            measured(&rt, &old, &new, false)?;
+            let mut boxes = BoxesFile::new(alloc, kinds().len())?;
+            measured(&rt, &old, &new, Some(&mut boxes))?;
             Ok(())
         }
     }
 }
 
-// Asks all of both configurations, and tells what was found and, where they are asked for, the times; and gives the boxes as bytes.
-fn measured(rt: &HostRuntime, old: &Config, new: &Config, times: bool) -> Result<BoxesFile, Error> {
+// Asks all of the configurations of two files, tells the times, and puts the boxes into a file where one is named.
+fn ask_files(rt: &HostRuntime, old: &str, new: &str, boxes: Option<&str>) -> Result<(), Error> {
+    let alloc = rt.alloc();
+    let mut files = FolderFiles::new(rt);
+    let mut old = load_file(alloc, &mut files, old)?;
+    let mut new = load_file(alloc, &mut files, new)?;
+    number(alloc, &mut old, &mut new)?;
+    let Some(name) = boxes else {
+        println!(rt; "{}", measured(rt, &old, &new, None)?)?;
+        return Ok(());
+    };
+    let mut boxes = BoxesFile::new(alloc, kinds().len())?;
+    println!(rt; "{}", measured(rt, &old, &new, Some(&mut boxes))?)?;
+    files
+        .write(name, boxes.bytes())
+        .map_err(|_| anyhow!("the boxes can't be written"))
+}
+
+// Asks all of both configurations, tells what was found, and gives the times; and adds the boxes to a file if there is one.
+fn measured(
+    rt: &HostRuntime,
+    old: &Config,
+    new: &Config,
+    mut file: Option<&mut BoxesFile>,
+) -> Result<Spent, Error> {
     let alloc = rt.alloc();
     let rules = Rules::new(alloc, old, new)?;
     let (of_old, of_new) = rules.lists();
     let mut steps = Steps::new(MOST);
     let mut reach = Reach::new(alloc, of_old.count)?;
     let mut pairs = Pairs::new(alloc);
-    let kinds = kinds();
-    let mut file = BoxesFile::new(alloc, kinds.len())?;
     let mut spent = Spent::default();
-    for kind in &kinds {
+    for kind in &kinds() {
         let start = Instant::now(rt)?;
         let space = Space::new(alloc, *kind, rules.tables(), rules.products(), &mut steps)?;
         let boxes = space.boxes(alloc, &mut steps)?;
@@ -83,11 +97,11 @@ fn measured(rt: &HostRuntime, old: &Config, new: &Config, times: bool) -> Result
         let reached = Instant::now(rt)?;
         pairs.ask(alloc, &boxes, &of_old, &of_new, &mut steps)?;
         spent.add(&[start, cut, reached, Instant::now(rt)?]);
-        file.add(&boxes, &of_old, &of_new)?;
+        if let Some(file) = &mut file {
+            file.add(&boxes, &of_old, &of_new)?;
+        }
     }
+    spent.steps = steps.taken();
     println!(rt; "reached {}, pairs {}", reach.count(), pairs.count())?;
-    if times {
-        println!(rt; "{spent}, {} steps", steps.taken())?;
-    }
-    Ok(file)
+    Ok(spent)
 }

@@ -2,9 +2,10 @@
 use std::fmt;
 use std::time::Instant;
 
-/// Microseconds of each kind of question, over all kinds of packets.
+/// Microseconds of each kind of question, over all kinds of packets, and how many steps all of them took.
 #[derive(Clone, Copy, Default)]
 pub struct Spent {
+    pub steps: u64,
     cut: u128,
     reached: u128,
     compared: u128,
@@ -28,8 +29,8 @@ impl fmt::Display for Spent {
     fn fmt<W: fmt::Write>(&self, f: &mut fmt::Formatter<W>) -> fmt::Result {
         write!(
             f,
-            "cut {} us, reached {} us, compared {} us",
-            self.cut, self.reached, self.compared
+            "cut {} us, reached {} us, compared {} us, {} steps",
+            self.cut, self.reached, self.compared, self.steps
         )
     }
 }

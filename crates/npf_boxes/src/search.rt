@@ -34,6 +34,9 @@ pub fn outside(
     ensures most { steps.new.most ≡ steps.old.most }
     ensures rises { steps.old.taken ≤ steps.new.taken }
 {
+    if least_cell(&boxes.shape, from).is_none() {
+        return Ok(None);
+    }
     let whole = BoxPart {
         words: from.to_vec(alloc)?,
         others: Rc::new(alloc, others.to_vec(alloc)?)?,

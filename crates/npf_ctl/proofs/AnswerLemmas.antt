@@ -1,26 +1,46 @@
 -- What the program answers, by how the work on its words ended.
-use Rattle.std.proofs.{Common.{◌≡◌, ◌≢◌, ◌⊎◌, ⊎_elim, ◌∙◌, inl, inr, ℕ, false, List, [], refl, sym, ap, subst, arith}, lemmas.Bool.false≢true}
+use Rattle.std.proofs.{Common.{◌≡◌, ◌⊎◌, ◌≤◌, ⊎_elim, ◌∙◌, inl, inr, ℕ, false, List, [], refl, sym, ap, subst, arith}, lemmas.Bool.false≢true}
 use Rattle.npf_outside.specs.Sink.{Appends, SinkMoment}
 use Rattle.npf_ctl_messages.specs.declared.fault.CommandFault.{CommandFault}
-use Rattle.npf_ctl_messages.specs.declared.fault.CommandFault.TheVariants.{Usage, Configuration, Unread, Long, Saved, Capture, Line, Many, Unwritten, OutputUnwritten, NoMemory}
+use Rattle.npf_ctl_messages.specs.declared.fault.CommandFault.TheVariants.{Usage, Configuration, Unread, Long, Saved, Capture, Line, Many, Steps, Unwritten, OutputUnwritten, NoMemory}
 use Rattle.npf_ctl_messages.specs.Message.{status_of_fault}
 use Rattle.npf_ctl_words.specs.CommandLine.{is_command_line}
+use Rattle.npf_ctl.specs.{declared.findings.Finding.{Finding, TheVariants.{Nothing, Something}}, Findings.{IsDone, status_of_finding}}
 use Rattle.npf_ctl.specs.{Ends.{AnswersWords, SaysFault}, Faults.{ChangesNoFile, IsFaulted, IsUntouched, LeavesFiles, MeetsFault, PutsFront, PutsNoText, PutsNothing, SaysWhy}}
 use Rattle.npf_ctl.{specs.{Run.Moment, Top.{HasStatus, DoesWords, IsQuiet, RanOutOfNodes}}, proofs.EndLemmas.reported_front}
 
 -- no fault has the status of work that was done
-never_zero : (fault : CommandFault) → status_of_fault fault ≢ 0
-never_zero Usage e = omega (arith, e)
-never_zero (Configuration _ _) e = omega (arith, e)
-never_zero (Unread _) e = omega (arith, e)
-never_zero (Long _ _) e = omega (arith, e)
-never_zero (Saved _ _) e = omega (arith, e)
-never_zero (Capture _ _) e = omega (arith, e)
-never_zero (Line _ _ _) e = omega (arith, e)
-never_zero (Many _ _) e = omega (arith, e)
-never_zero (Unwritten _) e = omega (arith, e)
-never_zero OutputUnwritten e = omega (arith, e)
-never_zero NoMemory e = omega (arith, e)
+between : (fault : CommandFault) → (1 ≤ status_of_fault fault) × (status_of_fault fault ≤ 9)
+between Usage = (omega arith, omega arith)
+between (Configuration _ _) = (omega arith, omega arith)
+between (Unread _) = (omega arith, omega arith)
+between (Long _ _) = (omega arith, omega arith)
+between (Saved _ _) = (omega arith, omega arith)
+between (Capture _ _) = (omega arith, omega arith)
+between (Line _ _ _) = (omega arith, omega arith)
+between (Many _ _) = (omega arith, omega arith)
+between (Steps _ _) = (omega arith, omega arith)
+between (Unwritten _) = (omega arith, omega arith)
+between OutputUnwritten = (omega arith, omega arith)
+between NoMemory = (omega arith, omega arith)
+
+never_done : (fault : CommandFault) → ¬ IsDone (status_of_fault fault)
+never_done fault (inl e) = omega (arith, (between fault).0, e)
+never_done fault (inr e) = omega (arith, (between fault).1, e)
+
+done_status : (finding : Finding) → IsDone (status_of_finding finding)
+done_status Nothing = inl refl
+done_status Something = inr refl
+
+one_finding : (a b : Finding) → status_of_finding a ≡ status_of_finding b → a ≡ b
+one_finding Nothing Nothing e = refl
+one_finding Something Something e = refl
+one_finding Nothing Something e = absurd (omega (arith, e))
+one_finding Something Nothing e = absurd (omega (arith, e))
+
+never_quiet : (status : ℕ) (finding : Finding) → status ≡ status_of_finding finding → IsQuiet status → ⊥
+never_quiet status Nothing is quiet = quiet.0 is
+never_quiet status Something is quiet = quiet.3 is
 
 module _ (words : List (List ℕ)) (before after : Moment) where
   -- nothing or a front was put before any fault, or what is said of one
@@ -30,6 +50,7 @@ module _ (words : List (List ℕ)) (before after : Moment) where
   put_before _ (MeetsFault.in_run said comes untouched) = inl (inl untouched.put)
   put_before _ (MeetsFault.in_nodes said named prepared lacks put same) = inl (inl put)
   put_before _ (MeetsFault.in_loading said loaded plain comes untouched) = inl (inl untouched.put)
+  put_before _ (MeetsFault.in_asking said loaded asks refuses untouched) = inl (inl untouched.put)
   put_before _ (MeetsFault.in_workload said holds comes untouched) = inl (inl untouched.put)
   put_before _ (MeetsFault.in_output rose same front) = inl (inr front)
   put_before _ (MeetsFault.in_writing {run = run} {plan = plan} {outputs = outputs} {outcomes = outcomes} fails reports passed) =
@@ -46,6 +67,7 @@ module _ (words : List (List ℕ)) (before after : Moment) where
   leaves status _ (MeetsFault.in_run said comes untouched) memory = LeavesFiles.unchanged untouched.files
   leaves status _ (MeetsFault.in_nodes said named prepared lacks put same) memory = LeavesFiles.unchanged same
   leaves status _ (MeetsFault.in_loading said loaded plain comes untouched) memory = LeavesFiles.unchanged untouched.files
+  leaves status _ (MeetsFault.in_asking said loaded asks refuses untouched) memory = LeavesFiles.unchanged untouched.files
   leaves status _ (MeetsFault.in_workload said holds comes untouched) memory = LeavesFiles.unchanged untouched.files
   leaves status _ (MeetsFault.in_output rose same front) memory = LeavesFiles.unchanged same
   leaves status _ (MeetsFault.in_writing fails reports passed) memory = LeavesFiles.at_first fails
@@ -73,6 +95,7 @@ module _ (words : List (List ℕ)) (before after : Moment) where
   quiet_by status _ (MeetsFault.in_nodes said named prepared lacks put same) is quiet =
       record { put = inl put; files = same; idle = inr (record { status_is = is; sweeps = lacks.lacks.2.sweeps }) }
   quiet_by status _ (MeetsFault.in_loading said loaded plain comes untouched) is quiet = stays_quiet untouched
+  quiet_by status _ (MeetsFault.in_asking said loaded asks refuses untouched) is quiet = stays_quiet untouched
   quiet_by status _ (MeetsFault.in_workload said holds comes untouched) is quiet = stays_quiet untouched
   quiet_by status _ (MeetsFault.in_output rose same front) is quiet = absurd (quiet.2 is)
   quiet_by status _ (MeetsFault.in_writing fails reports passed) is quiet = absurd (quiet.2 is)
@@ -94,21 +117,27 @@ module _ (words : List (List ℕ)) (before after : Moment) where
       flushed = λ not. absurd (not memory);
     })
 
-    pub was_done : AnswersWords words before after old new status → status ≡ 0 → DoesWords words before after × (after.out.waiting ≡ 0) × Appends old.held new.held []
-    was_done (AnswersWords.done zero does flushed silent) is = (does, flushed, silent)
-    was_done (AnswersWords.refused faulted) is = absurd (never_zero faulted.fault (sym faulted.status_is ∙ is))
+    pub was_done : AnswersWords words before after old new status → (finding : Finding) → status ≡ status_of_finding finding → DoesWords words finding before after
+    was_done (AnswersWords.done {finding = found} is does flushed silent) finding at =
+        subst (λ (it : Finding). DoesWords words it before after) (one_finding found finding (sym is ∙ at)) does
+    was_done (AnswersWords.refused faulted) finding at = absurd (never_done faulted.fault (subst IsDone (sym at ∙ faulted.status_is) (done_status finding)))
 
-    pub was_refused : AnswersWords words before after old new status → status ≢ 0 → IsFaulted words before after old new status
-    was_refused (AnswersWords.done zero does flushed silent) not = absurd (not zero)
+    pub was_put : AnswersWords words before after old new status → IsDone status → (after.out.waiting ≡ 0) × Appends old.held new.held []
+    was_put (AnswersWords.done is does flushed silent) done = (flushed, silent)
+    was_put (AnswersWords.refused faulted) done = absurd (never_done faulted.fault (subst IsDone faulted.status_is done))
+
+    pub was_refused : AnswersWords words before after old new status → ¬ IsDone status → IsFaulted words before after old new status
+    was_refused (AnswersWords.done {finding = found} is does flushed silent) not = absurd (not (subst IsDone (sym is) (done_status found)))
     was_refused (AnswersWords.refused faulted) not = faulted
 
     pub was_quiet : AnswersWords words before after old new status → IsQuiet status → StaysQuiet status
-    was_quiet (AnswersWords.done zero does flushed silent) quiet = absurd (quiet.0 zero)
+    was_quiet (AnswersWords.done {finding = found} is does flushed silent) quiet = absurd (never_quiet status found is quiet)
     was_quiet (AnswersWords.refused faulted) quiet = quiet_by status faulted.fault faulted.cause faulted.status_is quiet
 
-    pub was_kept : AnswersWords words before after old new status → status ≢ 0 → LeavesFiles words before after status
-    was_kept (AnswersWords.done zero does flushed silent) not = absurd (not zero)
-    was_kept (AnswersWords.refused faulted) not = leaves status faulted.fault faulted.cause (λ e. faulted.status_is ∙ ap status_of_fault e)
+    pub was_kept : AnswersWords words before after old new status → ¬ IsDone status → LeavesFiles words before after status
+    was_kept answers not =
+        let faulted = was_refused answers not in
+        leaves status faulted.fault faulted.cause (λ e. faulted.status_is ∙ ap status_of_fault e)
 
     -- words that are no command line are refused
     pub refuses_usage : is_command_line words ≡ false → AnswersWords words before after old new status → HasStatus 2 status
@@ -119,6 +148,7 @@ module _ (words : List (List ℕ)) (before after : Moment) where
       by _ (MeetsFault.in_run said comes untouched) is = absurd (false≢true (sym not ∙ said.taken))
       by _ (MeetsFault.in_nodes said named prepared lacks put same) is = absurd (false≢true (sym not ∙ said.taken))
       by _ (MeetsFault.in_loading said loaded plain comes untouched) is = absurd (false≢true (sym not ∙ said.taken))
+      by _ (MeetsFault.in_asking said loaded asks refuses untouched) is = absurd (false≢true (sym not ∙ said.taken))
       by _ (MeetsFault.in_workload said holds comes untouched) is = absurd (false≢true (sym not ∙ said.taken))
       by _ (MeetsFault.in_output rose same front) is = absurd (false≢true (sym not ∙ front.said.taken))
       by _ (MeetsFault.in_writing fails reports passed) is = absurd (false≢true (sym not ∙ fails.said.taken))

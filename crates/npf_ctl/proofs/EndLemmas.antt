@@ -12,7 +12,7 @@ use Rattle.npf_ctl_prepare.specs.Prepares.{RunPlan, PreparesRun}
 use Rattle.npf_ctl_saved.specs.Loads.{BeginsLoaded, interface_names}
 use Rattle.npf_traffic.specs.declared.packet.Packet.{Packet}
 use Rattle.npf_ctl_words.specs.{declared.command.{Invocation.{Invocation, TheVariants.Run}, RunWords.RunWords}, CommandLine.{SaysCommand, given_text}}
-use Rattle.npf_ctl.specs.{Commands.{names_of_run, spread_said}, Ends.{EndsIn, FailsReport}}
+use Rattle.npf_ctl.specs.{Commands.{names_of_run, spread_said}, declared.findings.Finding.{Finding, TheVariants.Nothing}, Ends.{EndsIn, FailsReport}}
 use Rattle.npf_ctl.specs.{Faults.{ChangesNoFile, FailsFirst, LeavesFiles, MeetsFault, PutsFront, PutsNothing}, Fragments.HasWholePackets}
 use Rattle.npf_ctl.{specs.{Run.{Moment, IsReported, PlaysWords}, Texts.TextOf, Top.{DoesCommand, PutsText}}, proofs.FileLemmas.front_of_whole}
 
@@ -37,9 +37,10 @@ module _ (words : List (List ℕ)) (before after : Moment) where
   early Says meets nothing same NoMemory told = MeetsFault.in_memory (inl nothing) (LeavesFiles.unchanged same)
   early Says meets nothing same fault told = meets fault told
 
-  module _ (command : Invocation) (text : List ℕ) (said : SaysCommand words command) (of : TextOf before after command text) (front : AppendsFront before.out.held after.out.held text) where
+  module _ (command : Invocation) (finding : Finding) (text : List ℕ) (said : SaysCommand words command) (of : TextOf before after command finding text)
+      (front : AppendsFront before.out.held after.out.held text) where
     puts_front : PutsFront words before after
-    puts_front = record { command = command; said = said; text = text; of = of; front = front }
+    puts_front = record { command = command; said = said; finding = finding; text = text; of = of; front = front }
 
     -- the text wasn't put whole
     pub unput : ChangesNoFile before after → (fault : CommandFault) → HasPutFault before.out.faults after.out.faults fault → MeetsFault words before after fault
@@ -75,13 +76,13 @@ module _ (words : List (List ℕ)) (before after : Moment) where
         FailsReport plan run.workers (spread_said run.spread) begun after.pass before.out after.out fault → MeetsFault words before after fault
     unreported same begun starts _ (FailsReport.unplayed nothing) = MeetsFault.in_memory (inl nothing) (LeavesFiles.unchanged same)
     unreported same begun starts fault (FailsReport.unput {outputs = outputs} {outcomes = outcomes} plays why front) =
-        unput (Run run) (report_text plan.ifaces plan.packets outcomes) said
+        unput (Run run) Nothing (report_text plan.ifaces plan.packets outcomes) said
         (TextOf.report {run = run} {plan = plan} {outputs = outputs} {outcomes = outcomes} (plays_run run plan begun starts outputs outcomes plays)) front same fault why
 
     module _ (outputs : List Packet) (outcomes : List Outcome) (reports : IsReported run before after plan outputs outcomes) where
       -- the report that was put is a front of itself
       pub reported_front : PutsFront words before after
-      reported_front = puts_front (Run run) (report_text plan.ifaces plan.packets outcomes) said (TextOf.report reports.played)
+      reported_front = puts_front (Run run) Nothing (report_text plan.ifaces plan.packets outcomes) said (TextOf.report reports.played)
           (front_of_whole before.out.held after.out.held (report_text plan.ifaces plan.packets outcomes) reports.reported)
 
       -- and what passed wasn't written
@@ -102,11 +103,11 @@ unnumbered_first last history none = subst (IsUnnumbered last) (sym none) (λ n 
     nothing_in : {X : Type 0} (x : X) → Contains [] x → ⊥
     nothing_in x has = let below = has.1 in omega (arith, below)
 
-module _ (words : List (List ℕ)) (before after : Moment) (command : Invocation) (text : List ℕ) (said : SaysCommand words command) (of : TextOf before after command text) where
+module _ (words : List (List ℕ)) (before after : Moment) (command : Invocation) (text : List ℕ) (said : SaysCommand words command) (of : TextOf before after command Nothing text) where
   -- a text that was put, or not
-  pub text_ends : ChangesNoFile before after → (PutsText command before after → DoesCommand command before after) → (result : Result (Unit {0}) CommandFault) →
+  pub text_ends : ChangesNoFile before after → (PutsText command Nothing before after → DoesCommand command Nothing before after) → (result : Result (Unit {0}) CommandFault) →
       OnOk result (Appends before.out.held after.out.held text) → OnOk result (after.out.waiting ≡ 0) → AppendsFront before.out.held after.out.held text →
       IfErr result (HasPutFault before.out.faults after.out.faults) → EndsIn words before after result
   text_ends same does (Ok unit) whole flushed front fault =
       (record { command = command; said = said; does = does (record { text = text; of = of; put = whole }) }, flushed)
-  text_ends same does (Err why) whole flushed front fault = unput words before after command text said of front same why fault
+  text_ends same does (Err why) whole flushed front fault = unput words before after command Nothing text said of front same why fault

@@ -1,4 +1,5 @@
 pub mod AnswerLemmas
+pub mod AnswerQuestionLemmas
 pub mod EndLemmas
 pub mod FileLemmas
 pub mod FragmentLemmas
@@ -7,6 +8,7 @@ pub mod LawLemmas
 pub mod ListingLemmas
 pub mod LookLemmas
 pub mod OneStartLemmas
+pub mod QuestionLemmas
 pub mod ReadyLemmas
 pub mod ReasonLemmas
 pub mod RunLemmas

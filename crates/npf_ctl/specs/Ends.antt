@@ -23,6 +23,9 @@ use Rattle.npf_ctl_words.specs.declared.command.RunWords.{RunWords}
 use Rattle.npf_ctl_words.specs.CommandLine.{given_text}
 use Rattle.npf_ctl.specs.Commands.{spread_said}
 use Rattle.npf_ctl.specs.Faults.{IsFaulted, MeetsFault, PutsLine}
+use Rattle.npf_ctl.specs.declared.findings.Finding.{Finding}
+use Rattle.npf_ctl.specs.declared.findings.Finding.TheVariants.{Nothing}
+use Rattle.npf_ctl.specs.Findings.{status_of_finding}
 use Rattle.npf_ctl.specs.Generated.{HoldsWorkload, PreparesOf}
 use Rattle.npf_ctl.specs.declared.reasons.Reason.{Reason}
 use Rattle.npf_ctl.specs.Run.{IsWrittenTo, Moment}
@@ -79,8 +82,13 @@ pub data PreparesGenerated (number : ℕ) : Result Prepared CommandFault → Typ
 
 -- what the words say was done, and the output is flushed; or the first fault was met
 abbrev pub EndsIn : List (List ℕ) → Moment → Moment → Result (Unit {0}) CommandFault → Type 0
-EndsIn words before after (Ok _) = DoesWords words before after × (after.out.waiting ≡ 0)
+EndsIn words before after (Ok _) = DoesWords words Nothing before after × (after.out.waiting ≡ 0)
 EndsIn words before after (Err fault) = MeetsFault words before after fault
+
+-- the same with what is found by it
+abbrev pub AnswersIn : List (List ℕ) → Moment → Moment → Result Finding CommandFault → Type 0
+AnswersIn words before after (Ok finding) = DoesWords words finding before after × (after.out.waiting ≡ 0)
+AnswersIn words before after (Err fault) = MeetsFault words before after fault
 
 -- the fault's line was put and flushed, or a front of it where the sink failed, and the status is the fault's; or memory was wanting for it, and nothing was
 -- put
@@ -97,5 +105,6 @@ pub data AnswersReason (old new : SinkMoment) (reason : Reason) : CommandFault �
 
 -- the words were answered with this status
 pub data AnswersWords (words : List (List ℕ)) (before after : Moment) (old new : SinkMoment) (status : ℕ) : Type 0 where
-  done : status ≡ 0 → DoesWords words before after → after.out.waiting ≡ 0 → Appends old.held new.held [] → AnswersWords words before after old new status
+  done : {finding : Finding} → status ≡ status_of_finding finding → DoesWords words finding before after → after.out.waiting ≡ 0 →
+      Appends old.held new.held [] → AnswersWords words before after old new status
   refused : IsFaulted words before after old new status → AnswersWords words before after old new status

@@ -6,6 +6,8 @@ use Rattle.npf_outside.specs.Files.{SameFiles, SameOthers, Tree}
 use Rattle.npf_outside.specs.Sink.{SinkMoment, Appends, AppendsFront}
 use Rattle.npf_engine.specs.declared.outcome.Outcome.{Outcome}
 use Rattle.npf_ctl_input.specs.Loads.{LoadsAlone}
+use Rattle.npf_model.specs.declared.iface.Iface.{Iface}
+use Rattle.npf_model.specs.Configuration.{Configuration}
 use Rattle.npf_ctl_output.specs.File.{KeepsUnnamed}
 use Rattle.npf_ctl_prepare.specs.Prepares.{RunPlan, PreparesRun}
 use Rattle.npf_ctl_saved.specs.Loads.{LacksNode, interface_names}
@@ -15,16 +17,19 @@ use Rattle.npf_ctl_messages.specs.declared.fault.CommandFault.TheVariants.{Usage
 use Rattle.npf_ctl_messages.specs.declared.fault.SavedRefusal.TheVariants.{SavedNoNode}
 use Rattle.npf_ctl_messages.specs.Message.{message_line, status_of_fault}
 use Rattle.npf_ctl_words.specs.declared.command.Invocation.{Invocation}
-use Rattle.npf_ctl_words.specs.declared.command.Invocation.TheVariants.{Run, Why, Gen}
+use Rattle.npf_ctl_words.specs.declared.command.Invocation.TheVariants.{Run, Gen}
 use Rattle.npf_ctl_words.specs.declared.command.Load.{Load}
 use Rattle.npf_ctl_words.specs.declared.command.RunWords.{RunWords}
 use Rattle.npf_ctl_words.specs.CommandLine.{SaysCommand, given_text, is_command_line}
+use Rattle.npf_ctl.specs.Questions.{RefusesQuestion}
 use Rattle.npf_ctl.specs.Commands.{loaded_by, names_of_run}
+use Rattle.npf_ctl.specs.declared.findings.Finding.{Finding}
 use Rattle.npf_ctl.specs.Generated.{HoldsWorkload, PreparesOf}
-use Rattle.npf_ctl.specs.Reasons.{ExplainsFirst, is_explained}
+use Rattle.npf_ctl.specs.declared.reasons.WhichFaults.{WhichFaults}
+use Rattle.npf_ctl.specs.Reasons.{ExplainsFirst, is_explained, telling_command}
 use Rattle.npf_ctl.specs.Run.{Moment, IsReported, WritesPassed}
 use Rattle.npf_ctl.specs.Starting.{StartsRun}
-use Rattle.npf_ctl.specs.Texts.{TextOf}
+use Rattle.npf_ctl.specs.Texts.{IsAskedOf, TextOf}
 
 -- The text was put on the sink; or a front of it, where the sink's own count rose.
 abbrev pub PutsLine : SinkMoment → SinkMoment → List ℕ → Type 0
@@ -50,16 +55,18 @@ module _ (words : List (List ℕ)) (before after : Moment) where
   pub record PutsFront : Type 0 where
     pub command : Invocation
     pub said : SaysCommand words command
+    pub finding : Finding
     pub text : List ℕ
-    pub of : TextOf before after command text
+    pub of : TextOf before after command finding text
     pub front : AppendsFront before.out.held after.out.held text
 
-  -- what is said of a fault was put on the output, or a front of it where that failed; no file changed, and the table was asked nothing
+  -- what is said of a fault, or of it and those that are left, was put on the output, or a front of it where that failed; no file changed, and the table was asked nothing
   pub record SaysWhy (fault : CommandFault) : Type 0 where
+    pub which : WhichFaults
     pub load : Load
-    pub said : SaysCommand words (Why load)
+    pub said : SaysCommand words (telling_command which load)
     pub text : List ℕ
-    pub explains : ExplainsFirst before.files after.files (given_text load.ifaces) load.conf.now fault text
+    pub explains : ExplainsFirst which before.files after.files (given_text load.ifaces) load.conf.now fault text
     pub put : PutsLine before.out after.out text
     pub flushed : (after.out.waiting ≡ 0) ⊎ Rose before.out.faults after.out.faults
     pub files : ChangesNoFile before after
@@ -124,6 +131,9 @@ module _ (words : List (List ℕ)) (before after : Moment) where
         ChangesNoFile before after → MeetsFault (Saved file SavedNoNode)
     in_loading : {command : Invocation} {load : Load} {fault : CommandFault} → SaysCommand words command → loaded_by command ≡ Some load →
         is_explained command fault ≡ false → LoadsAlone before.files after.files (given_text load.ifaces) load.conf.now (Err fault) →
+        IsUntouched before after → MeetsFault fault
+    in_asking : {command : Invocation} {load : Load} {given : List Iface} {config : Configuration} {fault : CommandFault} → SaysCommand words command →
+        loaded_by command ≡ Some load → IsAskedOf before after load given config → RefusesQuestion before.files after.files given config command fault →
         IsUntouched before after → MeetsFault fault
     in_explaining : {fault : CommandFault} → SaysWhy fault → MeetsFault fault
     in_workload : {number : ℕ} {tree : Tree} {fault : CommandFault} → SaysCommand words (Gen number) → HoldsWorkload number tree →

@@ -1,10 +1,13 @@
+pub mod Checks
 pub mod Commands
 pub mod Ends
 pub mod Faults
+pub mod Findings
 pub mod Fragments
 pub mod Generated
-pub mod Limits
 pub mod Inspection
+pub mod Limits
+pub mod Questions
 pub mod Reasons
 pub mod Run
 pub mod Starting

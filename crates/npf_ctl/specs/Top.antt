@@ -1,6 +1,6 @@
 -- What the program answers to its words.
 -- READ 1 of docs/READING.md
-use Rattle.std.specs.Prelude.{◌≡◌, ◌≢◌, ◌⊎◌, ◌+◌, ◌≤◌, ℕ, ⊤, Ok, Err, Result, Option, Some, None, List}
+use Rattle.std.specs.Prelude.{◌≡◌, ◌≢◌, ◌⊎◌, ◌+◌, ◌≤◌, ℕ, false, ⊤, Ok, Err, Result, Option, Some, None, List}
 use Rattle.npf_outside.specs.Files.{Tree}
 use Rattle.npf_outside.specs.Sink.{Appends}
 use Rattle.npf_model.specs.Configuration.{Configuration}
@@ -15,28 +15,31 @@ use Rattle.npf_ctl_words.specs.declared.command.Invocation.TheVariants as Words
 use Rattle.npf_ctl_words.specs.declared.command.Load.{Load}
 use Rattle.npf_ctl_words.specs.declared.command.RunWords.{RunWords}
 use Rattle.npf_ctl_words.specs.CommandLine.{SaysCommand, given_text}
-use Rattle.npf_ctl.specs.Commands.{loaded_by, names_of_run}
+use Rattle.npf_ctl.specs.Commands.{is_question, loaded_by, names_of_run}
+use Rattle.npf_ctl.specs.declared.findings.Finding.{Finding}
+use Rattle.npf_ctl.specs.declared.findings.Finding.TheVariants.{Nothing, Something}
 use Rattle.npf_ctl.specs.Generated.{HoldsWorkload, PreparesOf}
 use Rattle.npf_ctl.specs.Run.{Moment, IsRun}
 use Rattle.npf_ctl.specs.Starting.{StartsRun}
 use Rattle.npf_ctl.specs.Texts.{TextOf}
 
 -- the command's whole text was put on the output
-pub record PutsText (command : Invocation) (before after : Moment) : Type 0 where
+pub record PutsText (command : Invocation) (finding : Finding) (before after : Moment) : Type 0 where
   pub text : List ℕ
-  pub of : TextOf before after command text
+  pub of : TextOf before after command finding text
   pub put : Appends before.out.held after.out.held text
 
--- what the command does was done
-abbrev pub DoesCommand : Invocation → Moment → Moment → Type 0
-DoesCommand (Words.Run run) before after = IsRun run before after
-DoesCommand command before after = PutsText command before after
+-- what the command does was done; a run looks for nothing
+abbrev pub DoesCommand : Invocation → Finding → Moment → Moment → Type 0
+DoesCommand (Words.Run run) Nothing before after = IsRun run before after
+DoesCommand (Words.Run run) Something before after = ⊥
+DoesCommand command finding before after = PutsText command finding before after
 
--- what the words say was done
-pub record DoesWords (words : List (List ℕ)) (before after : Moment) : Type 0 where
+-- what the words say was done, with what is found by it
+pub record DoesWords (words : List (List ℕ)) (finding : Finding) (before after : Moment) : Type 0 where
   pub command : Invocation
   pub said : SaysCommand words command
-  pub does : DoesCommand command before after
+  pub does : DoesCommand command finding before after
 
 -- the words name this file to be written: that of the packets that pass, or of the connections that are saved
 pub record NamesOutput (words : List (List ℕ)) (name : List ℕ) : Type 0 where
@@ -52,7 +55,7 @@ KeepsOtherFiles words _ _ = ⊥
 
 -- with these statuses no command's text is put on the output, and no file changes
 abbrev pub IsQuiet : ℕ → Type 0
-IsQuiet status = (status ≢ 0) × (status ≢ 1) × (status ≢ 5)
+IsQuiet status = (status ≢ 0) × (status ≢ 1) × (status ≢ 5) × (status ≢ 10)
 
 -- this status, or want of memory
 abbrev pub HasStatus : ℕ → ℕ → Type 0
@@ -76,12 +79,12 @@ module _ (words : List (List ℕ)) (tree : Tree) (slots : ℕ) where
     load : {command : Invocation} {load_of : Load} → SaysCommand words command → loaded_by command ≡ Some load_of →
         LoadsAlone (told_files tree) (told_files tree) (given_text load_of.ifaces) load_of.conf.now (Err fault) → MustRefuse fault
 
-  -- the command's files are in their grammars and limits: they come to a plan, or to a configuration
+  -- the command's files are in their grammars and limits: they come to a plan, or to a configuration of which nothing is asked
   pub data CanDo : Type 0 where
     run : {words_of : RunWords} {plan : RunPlan} → SaysCommand words (Words.Run words_of) →
         StartsRun (told_files tree) (told_files tree) (names_of_run words_of) (given_text words_of.load) slots (Ok plan) → CanDo
     load : {command : Invocation} {load_of : Load} {config : Configuration} → SaysCommand words command → loaded_by command ≡ Some load_of →
-        LoadsAlone (told_files tree) (told_files tree) (given_text load_of.ifaces) load_of.conf.now (Ok config) → CanDo
+        is_question command ≡ false → LoadsAlone (told_files tree) (told_files tree) (given_text load_of.ifaces) load_of.conf.now (Ok config) → CanDo
 
 -- the words ask for a generated run, whose files, which stand in memory, are in their grammars and limits
 pub record CanGenerate (words : List (List ℕ)) : Type 0 where

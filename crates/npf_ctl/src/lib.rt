@@ -2,7 +2,8 @@
 //
 // Each command is a few steps, the first fault of which is answered: `running` prepares a run, puts its fragments together (`fragments`), loads
 // its connections, plays it, puts and writes what it makes, and saves its connections (`saving`);
-// `looking` loads a configuration and puts what is to be seen of it; `reasons` puts what is to be said of its first fault; `generating` runs a
+// `looking` loads a configuration and puts what is to be seen of it; `reasons` puts what is to be said of its first fault; `questions` puts the answer to
+// what is asked of it, `checks` which expectations it doesn't meet, and `lints` which of its rules do nothing; `generating` runs a
 // generated input from files in memory (`generated_files`); `top` gives the status, and puts the line of a fault.
 //
 // The contract is that of `npfctl_top`. With status 0 what the words say was done (specs/Top): for a run, what its files say was prepared,
@@ -10,16 +11,21 @@
 // other status is that of the first fault met, with its cause (specs/Faults), and its line was put on the error sink.
 #![tactic(auto)]
 
+mod checks;
+mod findings;
 mod flushed;
 mod fragments;
 mod generated_files;
 mod generation;
 mod inspection;
 pub mod laws;
+mod lints;
 mod programs;
+mod questions;
 mod reasons;
 mod run;
 mod saves;
 mod top;
 
+pub use findings::Finding;
 pub use top::{Status, npfctl_top};

@@ -1,5 +1,5 @@
 // The top call of the program: its words, the files and both sinks, the table of connections, and the status.
-ghost use Rattle.std.specs.Prelude.{◌≡◌, ◌≢◌, ◌⊎◌, Some, false, []};
+ghost use Rattle.std.specs.Prelude.{◌≡◌, ◌⊎◌, ℕ, List, Result, Some, false, []};
 ghost use Rattle.npf_connections.specs.Pass.{all_places};
 ghost use Rattle.npf_connections.specs.Stay.{IsLater, IsOut};
 ghost use Rattle.npf_flow.specs.Flows.{flow_law};
@@ -10,15 +10,21 @@ ghost use Rattle.npf_outside.specs.Files.{SameFiles, Tree};
 ghost use Rattle.npf_outside.specs.Sink.{Appends};
 ghost use Rattle.npf_ctl_words.specs.CommandLine.{is_command_line, word_texts};
 ghost use Rattle.npf_ctl_input.specs.File.{ReadsWell};
-ghost use Rattle.npf_ctl.specs.Ends.{EndsIn, AnswersWords, IsFresh, SaysFault};
+ghost use Rattle.npf_ctl.specs.declared.findings.Finding.TheVariants.{Nothing, Something};
+ghost use Rattle.npf_ctl.specs.Ends.{AnswersIn, AnswersWords, EndsIn, IsFresh, SaysFault};
 ghost use Rattle.npf_ctl.specs.Faults.{IsFaulted, LeavesFiles, PutsNoText};
-ghost use Rattle.npf_ctl.specs.Run.{moment};
+ghost use Rattle.npf_ctl.specs.Findings.{IsDone};
+ghost use Rattle.npf_ctl.specs.Run.{Moment, moment};
 ghost use Rattle.npf_ctl.specs.Top.{HasStatus, CanDo, CanGenerate, DoesWords, IsQuiet, KeepsOtherFiles, MustRefuse, RanOutOfNodes};
 
+use crate::checks::check;
+use crate::findings::Finding;
 use crate::flushed::put_flushed;
 use crate::generation::run_generated;
 use crate::inspection::{ConfigText, look_at};
-use crate::reasons::explain;
+use crate::lints::lint;
+use crate::questions::{ConfigQuestion, ask};
+use crate::reasons::{WhichFaults, explain};
 use crate::run::run;
 use npf_connections::Connections;
 use npf_ctl_messages::{CommandFault, message};
@@ -32,7 +38,7 @@ use std::alloc::Global;
 use std::sync::Wait;
 use std::thread::Threads;
 
-/// The exit status of the program: 0 where the work was done, and otherwise that of the first fault met.
+/// The exit status of the program: 0 where the work was done, 10 where it was and something was found, and otherwise that of the first fault met.
 pub type Status = u8;
 
 /// Does what the words ask; they leave out the program's name.
@@ -41,7 +47,13 @@ pub type Status = u8;
 ///   captures, or of a capture alone, through a configuration of npf.conf(5), and puts a line for each packet and the total line on `out`
 /// - `validate CONF`, `show CONF` and `debug CONF`, each with `[--ifaces FILE]`, put the count of a configuration's rules, its canonical text, and
 ///   the programs of its rules
-/// - `why CONF [--ifaces FILE]` puts what is to be said of a configuration's first fault on `out`, and nothing where there is none
+/// - `why CONF [--ifaces FILE] [--all]` puts what is to be said of a configuration's first fault on `out`, with `--all` also of each that is left
+///   when what holds those before is taken out, and nothing where there is none
+/// - `explain CONF IF in|out CLASS [--ifaces FILE]` puts how a configuration treats a packet of a class that passes there
+/// - `query CONF CLASS [--ifaces FILE] [--steps N]` puts which of a configuration's rules decide on the packets of a class, each with such a packet
+/// - `check CONF EXPECTATIONS [--ifaces FILE] [--steps N]` puts which expectations of a file a configuration doesn't meet, each with a packet
+/// - `lint CONF [--ifaces FILE] [--steps N]` puts which of a configuration's rules decide on no packet, and without which every packet would be treated
+///   alike
 /// - `gen NUMBER` runs the generated input of this number, and puts the total line
 ///
 /// Where it is refused, the line of the first fault met is put on `err`. The table of connections is new, and `pass` is its first pass.
@@ -67,14 +79,17 @@ pub fn npfctl_top<
     requires places { (C.view pass.old).places ≡ all_places }
     requires first { (C.view pass.old).history ≡ [] }
 
-    // 0: what the words say was done, the output is flushed, and nothing was put on the error sink.
-    ensures done { result ≡ 0 → DoesWords (word_texts words.now)
+    // 0: what the words say was done, and nothing was found that they ask for; 10: it was, and something was found, which a run never does. The output
+    // is flushed, and nothing was put on the error sink.
+    ensures done { result ≡ 0 → DoesWords (word_texts words.now) Nothing
         (moment (F.moment files.old) (O.moment out.old) (C.view pass.old)) (moment (F.moment files.new) (O.moment out.new) (C.view pass.new)) }
-    ensures flushed { result ≡ 0 → (O.moment out.new).waiting ≡ 0 }
-    ensures silent { result ≡ 0 → Appends (E.moment err.old).held (E.moment err.new).held [] }
+    ensures found { result ≡ 10 → DoesWords (word_texts words.now) Something
+        (moment (F.moment files.old) (O.moment out.old) (C.view pass.old)) (moment (F.moment files.new) (O.moment out.new) (C.view pass.new)) }
+    ensures flushed { IsDone result → (O.moment out.new).waiting ≡ 0 }
+    ensures silent { IsDone result → Appends (E.moment err.old).held (E.moment err.new).held [] }
 
     // Any other status: that of the first fault met, with its cause, and its line was put.
-    ensures faulted { result ≢ 0 → IsFaulted (word_texts words.now)
+    ensures faulted { ¬ IsDone result → IsFaulted (word_texts words.now)
         (moment (F.moment files.old) (O.moment out.old) (C.view pass.old)) (moment (F.moment files.new) (O.moment out.new) (C.view pass.new))
         (E.moment err.old) (E.moment err.new) result }
 
@@ -93,13 +108,13 @@ pub fn npfctl_top<
         → StoodStill (O.moment out.old).faults (O.moment out.new).faults → HasStatus 0 result }
 
     // With 2, 3, 4, 6, 7, 8 and 9 nothing is put on the output but what `why` says of a fault, no file changes, and the table of connections is
-    // asked nothing, unless it had no node for a connection that was to be loaded; with any status but 0 no file changes unless a write failed, or memory ran out at the second
+    // asked nothing, unless it had no node for a connection that was to be loaded; with any status but 0 and 10 no file changes unless a write failed, or memory ran out at the second
     // of two files; and with any at all none but those that are to be written.
     ensures quiet { IsQuiet result → PutsNoText (word_texts words.now)
         (moment (F.moment files.old) (O.moment out.old) (C.view pass.old)) (moment (F.moment files.new) (O.moment out.new) (C.view pass.new)) }
     ensures same { IsQuiet result → SameFiles (F.moment files.old).contents (F.moment files.new).contents }
     ensures idle { IsQuiet result → (C.view pass.new ≡ C.view pass.old) ⊎ RanOutOfNodes (C.view pass.old) (C.view pass.new) result }
-    ensures kept { result ≢ 0 → LeavesFiles (word_texts words.now)
+    ensures kept { ¬ IsDone result → LeavesFiles (word_texts words.now)
         (moment (F.moment files.old) (O.moment out.old) (C.view pass.old)) (moment (F.moment files.new) (O.moment out.new) (C.view pass.new)) result }
     ensures files { KeepsOtherFiles (word_texts words.now) (F.moment files.old).contents (F.moment files.new).contents }
 
@@ -136,7 +151,7 @@ fn answer<R: Threads + Wait + Sync, F: Files, O: Sink, E: Sink, C: Connections<F
     ensures later { IsLater (C.view pass.old) (C.view pass.new) }
 {
     match do_words(rt, alloc, words, files, out, conns, pass, gate) {
-        Ok(()) => 0,
+        Ok(finding) => finding.status(),
         Err(fault) => say(alloc, &fault, err),
     }
 }
@@ -151,10 +166,10 @@ fn do_words<R: Threads + Wait + Sync, F: Files, O: Sink, C: Connections<FlowLaw>
     conns: &C,
     pass: &mut C::Pass,
     gate: &G,
-) -> Result<(), CommandFault>
+) -> Result<Finding, CommandFault>
     requires out { IsOut flow_law (C.fits conns.now) C.view pass.old }
     requires fresh { IsFresh (C.view pass.old) }
-    ensures ends { EndsIn (word_texts words.now)
+    ensures ends { AnswersIn (word_texts words.now)
         (moment (F.moment files.old) (O.moment out.old) (C.view pass.old)) (moment (F.moment files.new) (O.moment out.new) (C.view pass.new)) result }
     ensures files { KeepsOtherFiles (word_texts words.now) (F.moment files.old).contents (F.moment files.new).contents }
     ensures out { IsOut flow_law (C.fits conns.now) C.view pass.new }
@@ -166,12 +181,31 @@ fn do_words<R: Threads + Wait + Sync, F: Files, O: Sink, C: Connections<FlowLaw>
         Err(WordsFault::NoMemory) => return Err(CommandFault::NoMemory),
     };
     match command {
-        Invocation::Run(words) => run(rt, alloc, words, files, out, conns, pass, gate),
-        Invocation::Validate(load) => look_at(alloc, ConfigText::Count, load, files, out),
-        Invocation::Show(load) => look_at(alloc, ConfigText::Model, load, files, out),
-        Invocation::Debug(load) => look_at(alloc, ConfigText::Programs, load, files, out),
-        Invocation::Why(load) => explain(alloc, load, files, out),
-        Invocation::Gen { number } => run_generated(rt, alloc, number, out, conns, pass, gate),
+        Invocation::Run(words) => plainly(run(rt, alloc, words, files, out, conns, pass, gate)),
+        Invocation::Validate(load) => plainly(look_at(alloc, ConfigText::Count, load, files, out)),
+        Invocation::Show(load) => plainly(look_at(alloc, ConfigText::Model, load, files, out)),
+        Invocation::Debug(load) => {
+            plainly(look_at(alloc, ConfigText::Programs, load, files, out))
+        }
+        Invocation::Why(load) => plainly(explain(alloc, WhichFaults::First, load, files, out)),
+        Invocation::WhyAll(load) => plainly(explain(alloc, WhichFaults::Each, load, files, out)),
+        Invocation::Explain(words) => ask(alloc, ConfigQuestion::Explain(words), files, out),
+        Invocation::Query(words) => ask(alloc, ConfigQuestion::Query(words), files, out),
+        Invocation::Check(words) => check(alloc, words, files, out),
+        Invocation::Lint(words) => lint(alloc, words, files, out),
+        Invocation::Gen { number } => {
+            plainly(run_generated(rt, alloc, number, out, conns, pass, gate))
+        }
+    }
+}
+
+// What a command that looks for nothing comes to.
+fn plainly(done: Result<(), CommandFault>) -> Result<Finding, CommandFault>
+    ensures { (words : List (List ℕ)) (before after : Moment) → EndsIn words before after done → AnswersIn words before after result }
+{
+    match done {
+        Ok(()) => Ok(Finding::Nothing),
+        Err(fault) => Err(fault),
     }
 }
 

@@ -12,7 +12,7 @@ use Rattle.npf_pcap.specs.declared.fault.CaptureFault.{CaptureFault}
 use Rattle.npf_pcap.specs.Fault.{number_of, name_of, record_of}
 use Rattle.npf_table.specs.Fault.{table_fault_number, table_fault_name}
 use Rattle.npf_ctl_messages.specs.declared.fault.CommandFault.{CommandFault}
-use Rattle.npf_ctl_messages.specs.declared.fault.CommandFault.TheVariants.{Usage, Configuration, Unread, Long, Saved, Capture, Line, Many, Unwritten, OutputUnwritten, NoMemory}
+use Rattle.npf_ctl_messages.specs.declared.fault.CommandFault.TheVariants.{Usage, Configuration, Unread, Long, Saved, Capture, Line, Many, Steps, Unwritten, OutputUnwritten, NoMemory}
 use Rattle.npf_ctl_messages.specs.declared.fault.LineFault.{LineFault}
 use Rattle.npf_ctl_messages.specs.declared.fault.LineFault.TheVariants.{BadLine, Conf, UnknownTable, Table, UnknownRuleset, UnknownRule}
 use Rattle.npf_ctl_messages.specs.declared.fault.Quantity.{Quantity}
@@ -32,6 +32,7 @@ status_of_fault (Capture _ _) = 7
 status_of_fault (Line _ _ _) = 8
 status_of_fault (Long _ _) = 9
 status_of_fault (Many _ _) = 9
+status_of_fault (Steps _ _) = 9
 
 -- the most that a configuration may have of it
 abbrev pub most_excess : Excess → ℕ
@@ -144,6 +145,7 @@ said_of (Saved file fault) = file ++ (codes ": " ++ saved_fault_text fault)
 said_of (Capture file fault) = file ++ (codes ": " ++ capture_fault_text fault)
 said_of (Line script line fault) = script ++ (codes ":" ++ (decimal line ++ (codes ": " ++ line_fault_text fault)))
 said_of (Many what count) = codes "limit " ++ over_text (quantity_name what) count (most_of what)
+said_of (Steps count most) = codes "limit " ++ over_text (codes "steps") count most
 said_of (Unwritten file) = codes "cannot write " ++ file
 said_of OutputUnwritten = codes "cannot write standard output"
 said_of NoMemory = codes "out of memory"

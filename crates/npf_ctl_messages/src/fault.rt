@@ -49,6 +49,11 @@ pub enum CommandFault {
         what: Quantity,
         count: u64,
     },
+    /// The search wants more steps than it may take: so many at least, and the most.
+    Steps {
+        count: u64,
+        most: u64,
+    },
     /// The file can't be written.
     Unwritten {
         file: Text,
@@ -185,7 +190,7 @@ impl CommandFault {
             CommandFault::Saved { .. } => 6,
             CommandFault::Capture { .. } => 7,
             CommandFault::Line { .. } => 8,
-            CommandFault::Long { .. } | CommandFault::Many { .. } => 9,
+            CommandFault::Long { .. } | CommandFault::Many { .. } | CommandFault::Steps { .. } => 9,
         }
     }
 }

@@ -53,6 +53,10 @@ fn write_said(into: &mut Vec<u8>, fault: &CommandFault) -> Result<(), NoMemory>
             write_text(into, "limit ")?;
             write_over(into, quantity_name(*what), *count, most_of(*what))
         }
+        CommandFault::Steps { count, most } => {
+            write_text(into, "limit ")?;
+            write_over(into, "steps", *count, *most)
+        }
         CommandFault::Unwritten { file } => write_named(into, "cannot write ", file.as_slice()),
         CommandFault::OutputUnwritten => write_text(into, "cannot write standard output"),
         CommandFault::NoMemory => write_text(into, "out of memory"),

@@ -1,2 +1,4 @@
+mod LawLemmas
+mod LeftOutLemmas
 mod ListedLemmas
 mod ReasonLemmas

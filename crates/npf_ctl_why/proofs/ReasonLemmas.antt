@@ -1,13 +1,9 @@
 -- Facts of a refusal, where it is known to be a fault.
-use Rattle.std.proofs.Common.{◌≡◌, ℕ, Err, List, subst}
-use Rattle.npf_types.specs.Reading.{IsOnly}
+use Rattle.std.proofs.Common.{◌≡◌, Err, List, subst}
 use Rattle.npf_faults.specs.declared.{fault.ConfFault.ConfFault, fault.Refused.Refused}
-use Rattle.npf_lexer.specs.{declared.token.Token.Token, Lexer.{IfFault, IsLexed}}
+use Rattle.npf_lexer.specs.declared.token.Token.{Token}
 use Rattle.npf_parser.specs.{Parse.{HasMeaning, OnFault}, Stmt.file}
 use Rattle.npf_syntax.specs.declared.stmt.Tree.{Tree}
-
-pub lexed_fault : (text : List ℕ) (refused : Refused) (fault : ConfFault) → refused ≡ Refused.Fault fault → IfFault (λ f. IsOnly IsLexed text (Err f)) refused → IsOnly IsLexed text (Err fault)
-lexed_fault text refused fault is holds = subst (IfFault (λ f. IsOnly IsLexed text (Err f))) is holds
 
 pub no_meaning : (tokens given : List Token) (refused : Refused) (fault : ConfFault) → given ≡ tokens → refused ≡ Refused.Fault fault →
     OnFault {A = Tree} (Err refused) (λ f. ¬ HasMeaning file given) → ¬ HasMeaning file tokens

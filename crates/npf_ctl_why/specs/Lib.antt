@@ -1,5 +1,8 @@
 pub mod Excerpt
+pub mod LeftOut
+pub mod Laws
 pub mod Listed
+pub mod Map
 pub mod Names
 pub mod Reason
 pub mod Sentences

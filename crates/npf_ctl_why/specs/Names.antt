@@ -15,10 +15,10 @@ use Rattle.npf_why.specs.Known.{given_by, iface_text, setting_names}
 use Rattle.npf_why.specs.declared.known.GivenNames.{GivenNames}
 use Rattle.npf_why.specs.NameTable.{looked_up}
 use Rattle.npf_why.specs.Nearest.{nearest}
+use Rattle.npf_why.specs.Tokens.{tokens_at, tokens_before}
 use Rattle.npf_ctl_why.specs.declared.listed.Marks.{Marks}
 use Rattle.npf_ctl_why.specs.declared.listed.Marks.TheVariants as Mark
 use Rattle.npf_ctl_why.specs.Listed.{names_text}
-use Rattle.npf_ctl_why.specs.Sentences.{tokens_at, tokens_before}
 
 -- the text of a word or a string
 abbrev pub worded : TokenKind → Option (List ℕ)
@@ -53,13 +53,17 @@ interface_by (Some token) tokens = interface_before token.kind tokens
 abbrev pub interface_in : List Token → Option (List ℕ)
 interface_in tokens = interface_by (slice_get tokens 1) tokens
 
-abbrev pub behind_set : Option (List ℕ) → List Token → Option (List ℕ)
-behind_set None tokens = None
-behind_set (Some word) tokens = if bytes_eq word (codes "set") then word_in tokens 1 else None
+abbrev pub if_first : List ℕ → Option (List ℕ) → Option (List ℕ) → Option (List ℕ)
+if_first first None word = None
+if_first first (Some found) word = if bytes_eq found first then word else None
+
+-- the word at a place, where this word is the first
+abbrev pub word_behind : List ℕ → ℕ → List Token → Option (List ℕ)
+word_behind first place tokens = if_first first (word_in tokens 0) (word_in tokens place)
 
 -- what a statement sets
 abbrev pub setting_in : List Token → Option (List ℕ)
-setting_in tokens = behind_set (word_in tokens 0) tokens
+setting_in tokens = word_behind (codes "set") 1 tokens
 
 -- the name that isn't known, of the tokens at the fault's place: a variable's; an interface's; what is looked up for its number; a table's,
 -- behind its sign; a procedure's; a setting's

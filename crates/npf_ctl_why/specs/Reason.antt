@@ -4,7 +4,7 @@ use Rattle.npf_types.specs.Reading.{IsOnly}
 use Rattle.npf_types.specs.declared.span.Span.{Span}
 use Rattle.npf_faults.specs.declared.fault.ConfFault.{ConfFault}
 use Rattle.npf_faults.specs.declared.fault.Fault.{Fault}
-use Rattle.npf_faults.specs.declared.fault.Fault.TheVariants.{BadByte, Expected}
+use Rattle.npf_faults.specs.declared.fault.Fault.TheVariants.{BadByte, BadMap, Expected}
 use Rattle.npf_lexer.specs.Lexer.{IsLexed}
 use Rattle.npf_lexer.specs.declared.token.Token.{Token}
 use Rattle.npf_lexer.specs.declared.token.TokenKind.{TokenKind}
@@ -18,9 +18,11 @@ use Rattle.npf_why.specs.Candidate.{candidate_kinds}
 use Rattle.npf_why.specs.Halt.{sentence_at}
 use Rattle.npf_why.specs.Sentence.{sentence_of}
 use Rattle.npf_why.specs.Stand.{ThoseThatStand, before}
+use Rattle.npf_why.specs.Tokens.{tokens_at}
 use Rattle.npf_ctl_why.specs.Listed.{standing_text}
+use Rattle.npf_ctl_why.specs.Map.{ExplainsMap}
 use Rattle.npf_ctl_why.specs.Names.{near_text}
-use Rattle.npf_ctl_why.specs.Sentences.{is_hardware_address, sentence_text, shown_at, tokens_at}
+use Rattle.npf_ctl_why.specs.Sentences.{is_hardware_address, sentence_text, shown_at}
 
 -- something of which this holds was added to what stood there
 abbrev pub PutsBehind : (List ℕ → Type 0) → List ℕ → List ℕ → Type 0
@@ -61,6 +63,7 @@ ExplainsNamed ifaces text fault out =
 abbrev pub ExplainsBy : Fault → List Iface → List ℕ → ConfFault → List ℕ → Type 0
 ExplainsBy BadByte ifaces text fault out = out ≡ sentence_text (byte_sentence (drop fault.span.at text)) []
 ExplainsBy Expected ifaces text fault out = ExplainsExpected text fault.span out
+ExplainsBy BadMap ifaces text fault out = ExplainsMap ifaces text fault.span.at out
 ExplainsBy _ ifaces text fault out = ExplainsNamed ifaces text fault out
 
 -- what is said of a fault

@@ -1,9 +1,7 @@
 -- The line of a sentence, what it shows, and what of a text decides it.
-use Rattle.std.specs.Prelude.{ℕ, ◌+◌, ◌==◌, ◌&&◌, nat_le, nat_lt, Bool, List, [], ◌++◌, codes, drop, length, slice_index, take}
+use Rattle.std.specs.Prelude.{ℕ, ◌+◌, ◌==◌, ◌&&◌, nat_le, Bool, List, [], ◌++◌, codes, drop, length, slice_index, take}
 use Rattle.std.specs.Char.{is_ascii_hexdigit}
-use Rattle.std.specs.List.{prefix_len}
 use Rattle.npf_types.specs.declared.span.Span.{Span}
-use Rattle.npf_lexer.specs.declared.token.Token.{Token}
 use Rattle.std.specs.Fmt.{decimal}
 use Rattle.npf_why.specs.declared.sentence.Sentence.{Sentence}
 use Rattle.npf_why.specs.declared.sentence.Sentence.TheVariants as Say
@@ -27,14 +25,6 @@ sentence_text sentence shown = codes "  " ++ (words sentence ++ (tail_text sente
 -- the bytes of a place
 abbrev pub shown_at : List ℕ → Span → List ℕ
 shown_at text span = take span.len (drop span.at text)
-
--- the tokens before a byte of the text
-abbrev pub tokens_before : ℕ → List Token → List Token
-tokens_before at tokens = take (prefix_len (λ token. nat_lt token.span.at at) tokens) tokens
-
--- the tokens from a byte of the text on
-abbrev pub tokens_at : ℕ → List Token → List Token
-tokens_at at tokens = drop (prefix_len (λ token. nat_lt token.span.at at) tokens) tokens
 
 -- two hexadecimal digits
 abbrev pub is_pair : List ℕ → ℕ → Bool

@@ -1,11 +1,10 @@
 // The line of a text at a place, and a caret below the place.
-ghost use Rattle.std.specs.Prelude.{◌≡◌, ◌≤◌, ◌++◌, OnOk, drop, length, replicate};
-ghost use Rattle.std.specs.List.{prefix_len};
-ghost use Rattle.npf_lexer.specs.ByteClass.{is_line_byte};
+ghost use Rattle.std.specs.Prelude.{◌≡◌, ◌++◌, OnOk, drop, replicate};
 ghost use Rattle.npf_ctl_why.specs.Excerpt.{caret_text, excerpt_text, line_at, shown_line_text, shown_byte, shown_text};
 
 use npf_text::write_text;
 use npf_types::{NoMemory, Span};
+use npf_why::line_len;
 
 /// Appends two lines: that of the text, and one with a caret below the first byte of the place.
 pub(crate) fn write_excerpt(into: &mut Vec<u8>, text: &[u8], span: Span) -> Result<(), NoMemory>
@@ -69,20 +68,6 @@ fn line_at(text: &[u8], span: Span) -> &[u8]
     let start = (span.at as usize + 1).saturating_sub(span.col as usize);
     let rest = from(text, start);
     rest.split_at(line_len(rest)).0
-}
-
-/// How many bytes come before the next line feed.
-fn line_len(rest: &[u8]) -> usize
-    ensures len { result ≡ prefix_len is_line_byte rest.now }
-    ensures within { result ≤ length rest.now }
-{
-    rest.iter().take_while(|byte| is_line_byte(**byte)).count()
-}
-
-fn is_line_byte(byte: u8) -> bool
-    ensures { result ≡ is_line_byte byte }
-{
-    byte != b'\n'
 }
 
 /// The bytes from a place on.

@@ -1,18 +1,18 @@
 // What is said of a fault below the line of the text.
-ghost use Rattle.std.specs.Prelude.{◌≡◌, ◌≤◌, ◌+◌, ◌++◌, [], IfOk, Ok, OnOk, length, map, nat_lt, option_map};
-ghost use Rattle.std.specs.List.{prefix_len};
+ghost use Rattle.std.specs.Prelude.{◌≡◌, ◌≤◌, ◌+◌, ◌++◌, [], IfOk, Ok, OnOk, length, map, option_map};
 ghost use Rattle.npf_types.specs.Reading.{IsOnly};
 ghost use Rattle.npf_lexer.specs.Lexer.{IsLexed};
 ghost use Rattle.npf_why.specs.Candidate.{candidate_kind};
-ghost use Rattle.npf_ctl_why.specs.Names.{interface_in, known_names, marks, near_text, setting_in, unknown_word, variable_in, word_in};
+ghost use Rattle.npf_ctl_why.specs.Names.{interface_in, known_names, marks, near_text, setting_in, unknown_word, variable_in, word_behind, word_in};
 ghost use Rattle.npf_ctl_why.specs.Reason.{PutsBehind, ExplainsExpected, ExplainsFault, ExplainsHalt, ExplainsNamed, NamesNear, byte_sentence, halt_sentence};
-ghost use Rattle.npf_ctl_why.specs.Sentences.{is_hardware_address, is_pair, is_pair_behind_colon, sentence_text, shown_at, tail_text, tokens_at, tokens_before};
+ghost use Rattle.npf_ctl_why.specs.Sentences.{is_hardware_address, is_pair, is_pair_behind_colon, sentence_text, shown_at, tail_text};
 
 use crate::excerpt::{from, write_shown};
 use crate::listed::{Marks, write_names, write_standing};
+use crate::map::write_map;
 use npf_faults::{ConfFault, Fault, Refused};
 use npf_lexer::{Sign, Token, TokenKind, lex};
-use npf_model::Iface;
+use npf_model::{Iface, Ifaces};
 use npf_parser::parse;
 use npf_syntax::Tree;
 use npf_text::{write_number, write_text};
@@ -20,7 +20,7 @@ use npf_types::limits::MAX_TEXT_BYTES;
 use npf_types::{NoMemory, Span};
 use npf_why::{
     Candidate, GivenNames, Sentence, could_stand, given_names, interfaces, looked_up, near,
-    sentence_at, settings,
+    sentence_at, settings, tokens_at, tokens_before,
 };
 use std::alloc::Global;
 
@@ -29,15 +29,16 @@ pub(crate) fn write_reason(
     alloc: Global,
     into: &mut Vec<u8>,
     text: &[u8],
-    ifaces: &[Iface],
+    ifaces: &Ifaces,
     fault: &ConfFault,
 ) -> Result<(), NoMemory>
     requires { length text.now ≤ MAX_TEXT_BYTES }
-    ensures { OnOk result (PutsBehind (ExplainsFault ifaces.now text.now fault.now) into.old.items into.new.items) }
+    ensures { OnOk result (PutsBehind (ExplainsFault ifaces.now.list text.now fault.now) into.old.items into.new.items) }
 {
     match fault.fault {
         Fault::BadByte => write_bad_byte(into, from(text, fault.span.at as usize)),
         Fault::Expected => write_expected(alloc, into, text, fault.span),
+        Fault::BadMap => write_map(alloc, into, text, ifaces, fault.span.at),
         _ => write_named(alloc, into, fault, text, ifaces),
     }
 }
@@ -53,14 +54,14 @@ fn write_named(
     into: &mut Vec<u8>,
     fault: &ConfFault,
     text: &[u8],
-    ifaces: &[Iface],
+    ifaces: &Ifaces,
 ) -> Result<(), NoMemory>
     requires { length text.now ≤ MAX_TEXT_BYTES }
-    ensures { OnOk result (PutsBehind (ExplainsNamed ifaces.now text.now fault.now) into.old.items into.new.items) }
+    ensures { OnOk result (PutsBehind (ExplainsNamed ifaces.now.list text.now fault.now) into.old.items into.new.items) }
 {
     let sentence = Sentence::of(&fault.fault);
     write_sentence(into, sentence, shown(text, fault.span))?;
-    write_near(alloc, into, fault, ifaces, text)
+    write_near(alloc, into, fault, ifaces.list.as_slice(), text)
 }
 
 /// The bytes of a place.
@@ -187,27 +188,6 @@ fn halt_sentence(tokens: &[Token], standing: &[Candidate]) -> Sentence
     }
 }
 
-/// The tokens from a place on.
-fn tokens_at(tokens: &[Token], at: u32) -> &[Token]
-    ensures { result.now ≡ tokens_at at tokens.now }
-{
-    tokens.split_at(count_before(tokens, at)).1
-}
-
-/// The tokens before a place.
-fn tokens_before(tokens: &[Token], at: u32) -> &[Token]
-    ensures { result.now ≡ tokens_before at tokens.now }
-{
-    tokens.split_at(count_before(tokens, at)).0
-}
-
-fn count_before(tokens: &[Token], at: u32) -> usize
-    ensures count { result ≡ prefix_len (λ token. nat_lt token.span.at at) tokens.now }
-    ensures within { result ≤ length tokens.now }
-{
-    tokens.iter().take_while(|token| token.span.at < at).count()
-}
-
 /// Appends the line of near names, where the fault is one of names.
 fn write_near(
     alloc: Global,
@@ -250,7 +230,7 @@ fn write_near_names(
 }
 
 /// The name that isn't known, of the tokens at its fault's place; None of other faults.
-fn unknown_word(fault: Fault, tokens: &[Token]) -> Option<&[u8]>
+pub(crate) fn unknown_word(fault: Fault, tokens: &[Token]) -> Option<&[u8]>
     ensures { option_map (λ word. word.now) result ≡ unknown_word fault tokens.now }
 {
     match fault {
@@ -264,7 +244,7 @@ fn unknown_word(fault: Fault, tokens: &[Token]) -> Option<&[u8]>
     }
 }
 
-fn variable_in(tokens: &[Token]) -> Option<&[u8]>
+pub(crate) fn variable_in(tokens: &[Token]) -> Option<&[u8]>
     ensures { option_map (λ word. word.now) result ≡ variable_in tokens.now }
 {
     match tokens.first() {
@@ -280,8 +260,15 @@ fn variable_in(tokens: &[Token]) -> Option<&[u8]>
 fn setting_in(tokens: &[Token]) -> Option<&[u8]>
     ensures { option_map (λ word. word.now) result ≡ setting_in tokens.now }
 {
-    if word_in(tokens, 0)? == "set".as_bytes() {
-        word_in(tokens, 1)
+    word_behind(tokens, "set", 1)
+}
+
+/// The word at a place, where this word is the first; None elsewhere.
+pub(crate) fn word_behind<'a>(tokens: &'a [Token], first: &str, place: usize) -> Option<&'a [u8]>
+    ensures { option_map (λ word. word.now) result ≡ word_behind first.now place tokens.now }
+{
+    if word_in(tokens, 0)? == first.as_bytes() {
+        word_in(tokens, place)
     } else {
         None
     }

@@ -24,7 +24,7 @@ pub fn explanation(
     let mut into = message(alloc, told)?;
     if let (CommandFault::Configuration { fault, .. }, Some(text)) = (told, text) {
         write_excerpt(&mut into, text, fault.span)?;
-        write_reason(alloc, &mut into, text, ifaces.list.as_slice(), fault)?;
+        write_reason(alloc, &mut into, text, ifaces, fault)?;
         return Ok(into);
     }
     Ok(into)

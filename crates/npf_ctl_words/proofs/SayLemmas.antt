@@ -1,11 +1,14 @@
 -- What the values of a definition's arguments are to the command that is read of them.
-use Rattle.std.proofs.Common.{◌≡◌, ◌∙◌, ◌≤◌, ◌&&◌, Bool, true, false, List, [], ◌∷◌, Option, Some, None, Result, Ok, Err, is_some, refl, sym, ap, subst, arith, codes}
+use Rattle.std.proofs.Common.{◌≡◌, ◌∙◌, ◌≤◌, ◌&&◌, ◌↔◌, if◌then◌else◌, IfSome, IsSome, IsTrue, Bool, true, false, List, [], ◌∷◌, Option, Some, None}
+use Rattle.std.proofs.Common.{Result, Ok, Err, is_some, refl, sym, ap, subst, arith, codes}
 use Rattle.std.specs.{Prelude.{pos, unwrap_or}, Option.option_map_or, Str.Parse.{IsNumeral, starts_with_minus, without_leading_plus}}
 use Rattle.std.proofs.lemmas.{Bool.ne_eqb, Int.ints}
 use Rattle.clap.specs.{Kinds.{IsAmong, Kinds}, Walk.is_empty, Words.{IsSignedIn, IsUnsignedIn, Row, Rule, Text, first_of, found_of, rows_of}}
 use Rattle.clap.specs.declared.{error.kind.ErrorKind.ErrorKind, parser.matches.ArgMatches.ArgMatches}
-use Rattle.npf_ctl_words.specs.CommandLine.{SaysCommand, TellsCommand, command_name, is_command_line, knows_spread, name_in, rows_in, signed_number, takes_words}
-use Rattle.npf_ctl_words.specs.Definitions.{definition_of, gen_command, loading_command, number_parser, number_rule, run_command, spread_rule, word_rule, workers_parser, workers_rule}
+use Rattle.npf_types.specs.{NameText.is_name, Named.named, declared.name.Name.Name}
+use Rattle.npf_ctl_words.specs.CommandLine.{SaysCommand, TellsCommand, command_name, iface_named, is_command_line, knows_names, name_in, rows_in, signed_number, takes_words}
+use Rattle.npf_ctl_words.specs.Definitions.{check_command, definition_of, explain_command, gen_command, lint_command, loading_command, number_parser, number_rule}
+use Rattle.npf_ctl_words.specs.Definitions.{query_command, reasons_command, run_command, spread_rule, steps_rule, word_rule, workers_parser, workers_rule}
 use Rattle.npf_ctl_words.specs.{Values.{HasEachValue, HasValue, IsMatched}, declared.command.{Invocation.Invocation, CommandName.CommandName}}
 use Rattle.npf_ctl_words.specs.declared.fault.WordsFault.{WordsFault}
 
@@ -20,13 +23,13 @@ err_fault (Ok v) other = other
 -- ---- words that are refused, and the command of the others
 
 abbrev pub is_line_of : List Text → Option CommandName → Bool
-is_line_of words o = option_map_or (λ n. takes_words n words && knows_spread n (rows_in n words)) o false
+is_line_of words o = option_map_or (λ n. takes_words n words && knows_names n (rows_in n words)) o false
 
 pub refused_unnamed : (words : List Text) → name_in words ≡ None → is_command_line words ≡ false
 refused_unnamed words none = ap (is_line_of words) none
 
 pub refused_words : (words : List Text) (n : CommandName) → name_in words ≡ Some n → takes_words n words ≡ false → is_command_line words ≡ false
-refused_words words n named refused = ap (is_line_of words) named ∙ ap (λ b. b && knows_spread n (rows_in n words)) refused
+refused_words words n named refused = ap (is_line_of words) named ∙ ap (λ b. b && knows_names n (rows_in n words)) refused
 
 -- what is known of the words of a command once `clap` has taken them
 pub record IsTaken (words : List Text) (n : CommandName) (m : ArgMatches) : Type 0 where
@@ -35,17 +38,17 @@ pub record IsTaken (words : List Text) (n : CommandName) (m : ArgMatches) : Type
   pub found : IsMatched (definition_of n) words m
 
 line_knows : (words : List Text) (n : CommandName) (m : ArgMatches) (b : Bool) → IsTaken words n m
-    → knows_spread n (rows_of (found_of m)) ≡ b → is_command_line words ≡ b
+    → knows_names n (rows_of (found_of m)) ≡ b → is_command_line words ≡ b
 line_knows words n m b t knows = ap (is_line_of words) t.named
-    ∙ (ap (λ x. x && knows_spread n (rows_in n words)) t.taken
-    ∙ (ap (knows_spread n) (sym t.found.rows) ∙ knows))
+    ∙ (ap (λ x. x && knows_names n (rows_in n words)) t.taken
+    ∙ (ap (knows_names n) (sym t.found.rows) ∙ knows))
 
-pub refused_spread : (words : List Text) (n : CommandName) (m : ArgMatches) → IsTaken words n m
-    → knows_spread n (rows_of (found_of m)) ≡ false → is_command_line words ≡ false
-refused_spread words n m t unknown = line_knows words n m false t unknown
+pub refused_names : (words : List Text) (n : CommandName) (m : ArgMatches) → IsTaken words n m
+    → knows_names n (rows_of (found_of m)) ≡ false → is_command_line words ≡ false
+refused_names words n m t unknown = line_knows words n m false t unknown
 
 pub says : (words : List Text) (n : CommandName) (m : ArgMatches) (c : Invocation) → IsTaken words n m
-    → knows_spread n (rows_of (found_of m)) ≡ true → command_name c ≡ n → TellsCommand (rows_of (found_of m)) c → SaysCommand words c
+    → knows_names n (rows_of (found_of m)) ≡ true → command_name c ≡ n → TellsCommand (rows_of (found_of m)) c → SaysCommand words c
 says words n m c t knows name told = record {
   taken = line_knows words n m true t knows;
   name = t.named ∙ ap Some (sym name);
@@ -82,6 +85,75 @@ spread_of_run rows h = some_value spread_rule rows (h 4 _ refl refl)
 pub conf_of_load : (id : Text) (rows : List Row) → HasEachValue (loading_command id) rows → is_some (first_of (codes "conf") rows) ≡ true
 conf_of_load id rows h = some_value (word_rule (codes "conf")) rows (h 0 _ refl refl)
 
+pub conf_of_why : (rows : List Row) → HasEachValue reasons_command rows → is_some (first_of (codes "conf") rows) ≡ true
+conf_of_why rows h = some_value (word_rule (codes "conf")) rows (h 0 _ refl refl)
+
+pub conf_of_explain : (rows : List Row) → HasEachValue explain_command rows → is_some (first_of (codes "conf") rows) ≡ true
+conf_of_explain rows h = some_value (word_rule (codes "conf")) rows (h 0 _ refl refl)
+
+pub iface_of_explain : (rows : List Row) → HasEachValue explain_command rows → is_some (first_of (codes "iface") rows) ≡ true
+iface_of_explain rows h = some_value (word_rule (codes "iface")) rows (h 1 _ refl refl)
+
+pub dir_of_explain : (rows : List Row) → HasEachValue explain_command rows → is_some (first_of (codes "dir") rows) ≡ true
+dir_of_explain rows h = some_value (word_rule (codes "dir")) rows (h 2 _ refl refl)
+
+pub class_of_explain : (rows : List Row) → HasEachValue explain_command rows → is_some (first_of (codes "class") rows) ≡ true
+class_of_explain rows h = some_value (word_rule (codes "class")) rows (h 3 _ refl refl)
+
+pub conf_of_query : (rows : List Row) → HasEachValue query_command rows → is_some (first_of (codes "conf") rows) ≡ true
+conf_of_query rows h = some_value (word_rule (codes "conf")) rows (h 0 _ refl refl)
+
+pub class_of_query : (rows : List Row) → HasEachValue query_command rows → is_some (first_of (codes "class") rows) ≡ true
+class_of_query rows h = some_value (word_rule (codes "class")) rows (h 1 _ refl refl)
+
+steps_value : (rows : List Row) → HasEachValue query_command rows → HasValue steps_rule rows
+steps_value rows h = h 3 _ refl refl
+
+pub steps_of_query : (rows : List Row) → HasEachValue query_command rows → is_some (first_of (codes "steps") rows) ≡ true
+steps_of_query rows h = some_value steps_rule rows (steps_value rows h)
+
+pub in_range_of_query : (rows : List Row) (t : Text) → HasEachValue query_command rows → first_of (codes "steps") rows ≡ Some t
+    → IsUnsignedIn 0 18446744073709551615 t
+in_range_of_query rows t h found =
+    let v = steps_value rows h in
+    let same : v.0 ≡ t = ap (λ o. unwrap_or o t) (sym v.1 ∙ found) in
+    subst (IsUnsignedIn 0 18446744073709551615) same (v.2 number_parser refl)
+
+pub conf_of_check : (rows : List Row) → HasEachValue check_command rows → is_some (first_of (codes "conf") rows) ≡ true
+conf_of_check rows h = some_value (word_rule (codes "conf")) rows (h 0 _ refl refl)
+
+pub file_of_check : (rows : List Row) → HasEachValue check_command rows → is_some (first_of (codes "expectations") rows) ≡ true
+file_of_check rows h = some_value (word_rule (codes "expectations")) rows (h 1 _ refl refl)
+
+check_steps : (rows : List Row) → HasEachValue check_command rows → HasValue steps_rule rows
+check_steps rows h = h 3 _ refl refl
+
+pub steps_of_check : (rows : List Row) → HasEachValue check_command rows → is_some (first_of (codes "steps") rows) ≡ true
+steps_of_check rows h = some_value steps_rule rows (check_steps rows h)
+
+pub in_range_of_check : (rows : List Row) (t : Text) → HasEachValue check_command rows → first_of (codes "steps") rows ≡ Some t
+    → IsUnsignedIn 0 18446744073709551615 t
+in_range_of_check rows t h found =
+    let v = check_steps rows h in
+    let same : v.0 ≡ t = ap (λ o. unwrap_or o t) (sym v.1 ∙ found) in
+    subst (IsUnsignedIn 0 18446744073709551615) same (v.2 number_parser refl)
+
+pub conf_of_lint : (rows : List Row) → HasEachValue lint_command rows → is_some (first_of (codes "conf") rows) ≡ true
+conf_of_lint rows h = some_value (word_rule (codes "conf")) rows (h 0 _ refl refl)
+
+lint_steps : (rows : List Row) → HasEachValue lint_command rows → HasValue steps_rule rows
+lint_steps rows h = h 2 _ refl refl
+
+pub steps_of_lint : (rows : List Row) → HasEachValue lint_command rows → is_some (first_of (codes "steps") rows) ≡ true
+steps_of_lint rows h = some_value steps_rule rows (lint_steps rows h)
+
+pub in_range_of_lint : (rows : List Row) (t : Text) → HasEachValue lint_command rows → first_of (codes "steps") rows ≡ Some t
+    → IsUnsignedIn 0 18446744073709551615 t
+in_range_of_lint rows t h found =
+    let v = lint_steps rows h in
+    let same : v.0 ≡ t = ap (λ o. unwrap_or o t) (sym v.1 ∙ found) in
+    subst (IsUnsignedIn 0 18446744073709551615) same (v.2 number_parser refl)
+
 number_value : (rows : List Row) → HasEachValue gen_command rows → HasValue number_rule rows
 number_value rows h = h 0 _ refl refl
 
@@ -113,5 +185,21 @@ few_digits t h = go (starts_with_minus t) refl
 pub known : (n k : CommandName) (rows : List Row) → n ≡ k → HasEachValue (definition_of n) rows → HasEachValue (definition_of k) rows
 known n k rows is h = subst (λ (z : CommandName). HasEachValue (definition_of z) rows) is h
 
-pub needless : (n k : CommandName) (rows : List Row) → n ≡ k → knows_spread k rows ≡ true → knows_spread n rows ≡ true
-needless n k rows is h = ap (λ z. knows_spread z rows) is ∙ h
+pub needless : (n k : CommandName) (rows : List Row) → n ≡ k → knows_names k rows ≡ true → knows_names n rows ≡ true
+needless n k rows is h = ap (λ z. knows_names z rows) is ∙ h
+
+-- ---- the interface that a word names
+
+pub named_once : (word : Text) (found : Option Name) → (IsSome found ↔ IsTrue (is_name word)) → IfSome found (λ name. name ≡ named word) →
+    found ≡ iface_named word
+named_once word found both is = go (is_name word) refl found both is
+  where
+    picked : Bool → Option Name
+    picked b = if b then Some (named word) else None
+
+    go : (b : Bool) → is_name word ≡ b → (found : Option Name) → (IsSome found ↔ IsTrue (is_name word)) → IfSome found (λ name. name ≡ named word) →
+        found ≡ iface_named word
+    go true e None both is = (let bad : false ≡ true = both.1 e in cc)
+    go false e None both is = sym (ap picked e)
+    go true e (Some name) both is = ap Some is ∙ sym (ap picked e)
+    go false e (Some name) both is = (let bad : false ≡ true = sym e ∙ both.0 refl in cc)

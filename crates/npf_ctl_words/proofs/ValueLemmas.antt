@@ -1,5 +1,5 @@
 -- In each parse of a sound definition an argument that is required, or has a default, has a value that its parser takes.
-use Rattle.std.proofs.Common.{◌≡◌, ◌∙◌, ◌<◌, ◌≤◌, ◌&&◌, ◌⊎◌, ℕ, zero, suc, Bool, true, false, not, List, [], ◌∷◌, length, map, Option}
+use Rattle.std.proofs.Common.{◌≡◌, ◌∙◌, ◌<◌, ◌≤◌, ◌&&◌, ◌||◌, ◌⊎◌, ℕ, zero, suc, Bool, true, false, not, List, [], ◌∷◌, length, map, Option}
 use Rattle.std.{proofs.Common.{Some, None, is_some, refl, sym, ap, subst, inl, inr, arith, codes}, specs.Prelude.{find, option_map, slice_get, unwrap_or}}
 use Rattle.std.{specs.{List.{All, list_all, slice_index_or}, Str.bytes_eq, Borrow.Bor}, proofs.lemmas.{List.Elements.All-get_or, Slice.Eq.bytes_eq-Decides}}
 use Rattle.clap.specs.{Texts.items_of, Words.{Accepts, App, IsParsed, IsParsedFrom, IsPlain, IsPlainArg, Rule, SameRules, Text, app_of, args_of, first_value}}
@@ -24,6 +24,14 @@ sets_value _ = false
 abbrev pub sets_one : Rule → Bool
 sets_one r = sets_value r.action && not (is_some r.range)
 
+-- an argument that has a value in every parse takes one value a use
+abbrev pub sets_where_always : Rule → Bool
+sets_where_always r = not (has_always r) || sets_one r
+
+sets_always : (always sets : Bool) → not always || sets ≡ true → always ≡ true → sets ≡ true
+sets_always true sets e given = e
+sets_always false sets e given = cc
+
 set_of : (o : Option ArgAction) → sets_value o ≡ true → o ≡ Some Set
 set_of (Some Set) e = refl
 set_of _ e = cc
@@ -38,7 +46,7 @@ pub record IsSound (app : App) : Type 0 where
   pub negates : app.top.subcommand_negates_reqs ≡ false
   pub rules : list_all is_sound_rule app.top.rules ≡ true
   pub differ : ids_differ app.top.rules ≡ true
-  pub sets : list_all sets_one app.top.rules ≡ true
+  pub sets : list_all sets_where_always app.top.rules ≡ true
 
 -- ---- the arguments behind the rules
 
@@ -267,8 +275,10 @@ each_value old m app is sound p k r at given =
     let fields = plain_fields old (ap (λ (z : App). z.top.is_plain) is ∙ sound.plain) in
     let plain : IsPlain old = ((λ j d low. (plain_one (slice_index_or (args_of old) j d) (each j d low)).plain), fields.groups) in
     let differ : ids_differ (map rule_of (args_of old)) ≡ true = ap (λ (z : App). ids_differ z.top.rules) is ∙ sound.differ in
-    let sets : list_all sets_one (map rule_of (args_of old)) ≡ true = ap (λ (z : App). list_all sets_one z.top.rules) is ∙ sound.sets in
-    let set = both _ _ (subst (λ (w : Arg). sets_one (rule_of w) ≡ true) found.2 (each_rule sets_one (args_of old) sets k a found.1)) in
+    let always_given : has_always (rule_of a) ≡ true = ap has_always found.3 ∙ given in
+    let sets : list_all sets_where_always (map rule_of (args_of old)) ≡ true = ap (λ (z : App). list_all sets_where_always z.top.rules) is ∙ sound.sets in
+    let own = subst (λ (w : Arg). sets_where_always (rule_of w) ≡ true) found.2 (each_rule sets_where_always (args_of old) sets k a found.1) in
+    let set = both _ _ (sets_always (has_always (rule_of a)) (sets_one (rule_of a)) own always_given) in
     let place : IsAt old k a = record {
       low = found.1;
       here = found.2;
@@ -278,7 +288,6 @@ each_value old m app is sound p k r at given =
       sets = set_of a.action set.0;
       least = one_value a (no_some _ set.1);
     } in
-    let always_given : has_always (rule_of a) ≡ true = ap has_always found.3 ∙ given in
     let value = value_of_entry old m p k a place (p.from.plain plain).1 (p.parsed (p.from.globals ∙ fields.globals))
     (entry_of old m p k a place plain app is sound always_given) in
     subst (λ (w : Rule). HasValue w (rows_of (found_of m))) found.3 (value_of_rows (found_of m) a value)

@@ -1,4 +1,5 @@
 // What a command line says. File names stand as they are in the words.
+use npf_types::{Dir, Name};
 
 /// How a run deals its packets to its workers, as the word of `--spread` has it.
 #[derive(Clone, Copy, Debug, PartialEq, Eq)]
@@ -9,7 +10,7 @@ pub enum SpreadWord {
     Flow,
 }
 
-/// The six names of commands.
+/// The ten names of commands.
 #[derive(Clone, Copy, Debug, PartialEq, Eq)]
 pub enum CommandName {
     Run,
@@ -17,6 +18,10 @@ pub enum CommandName {
     Show,
     Debug,
     Why,
+    Explain,
+    Query,
+    Check,
+    Lint,
     Gen,
 }
 
@@ -50,6 +55,58 @@ pub struct Load<'a> {
     pub ifaces: Option<&'a str>,
 }
 
+/// The packets that `explain` is asked about, one of which it explains.
+#[derive(Clone, Copy, Debug, PartialEq, Eq)]
+pub struct ExplainWords<'a> {
+    /// The configuration's file.
+    pub conf: &'a str,
+    /// The interface that they pass on.
+    pub iface: Name,
+    /// The direction that they pass in.
+    pub dir: Dir,
+    /// What a rule says of them, without `pass` and `block`.
+    pub class: &'a str,
+    /// The file of the interfaces' addresses.
+    pub ifaces: Option<&'a str>,
+}
+
+/// The packets that `query` is asked about.
+#[derive(Clone, Copy, Debug, PartialEq, Eq)]
+pub struct QueryWords<'a> {
+    /// The configuration's file.
+    pub conf: &'a str,
+    /// What a rule says of them, without `pass` and `block`.
+    pub class: &'a str,
+    /// The file of the interfaces' addresses.
+    pub ifaces: Option<&'a str>,
+    /// The most steps that the search may take.
+    pub steps: u64,
+}
+
+/// The expectations that `check` holds a configuration against.
+#[derive(Clone, Copy, Debug, PartialEq, Eq)]
+pub struct CheckWords<'a> {
+    /// The configuration's file.
+    pub conf: &'a str,
+    /// The file of what is expected of it.
+    pub expectations: &'a str,
+    /// The file of the interfaces' addresses.
+    pub ifaces: Option<&'a str>,
+    /// The most steps that the searches for all of them may take.
+    pub steps: u64,
+}
+
+/// The configuration that `lint` looks at.
+#[derive(Clone, Copy, Debug, PartialEq, Eq)]
+pub struct LintWords<'a> {
+    /// The configuration's file.
+    pub conf: &'a str,
+    /// The file of the interfaces' addresses.
+    pub ifaces: Option<&'a str>,
+    /// The most steps that the search may take.
+    pub steps: u64,
+}
+
 /// A command, with what its words say.
 #[derive(Clone, Copy, Debug, PartialEq, Eq)]
 pub enum Invocation<'a> {
@@ -63,6 +120,16 @@ pub enum Invocation<'a> {
     Debug(Load<'a>),
     /// Loads a configuration, and explains its first fault.
     Why(Load<'a>),
+    /// The same of each fault that is left when what holds those before is taken out.
+    WhyAll(Load<'a>),
+    /// Loads a configuration, and explains how it treats a packet.
+    Explain(ExplainWords<'a>),
+    /// Loads a configuration, and says which of its rules decide on packets.
+    Query(QueryWords<'a>),
+    /// Loads a configuration, and says which expectations it doesn't meet.
+    Check(CheckWords<'a>),
+    /// Loads a configuration, and says which of its rules do nothing.
+    Lint(LintWords<'a>),
     /// Runs the generated input of this number.
     Gen { number: u64 },
 }

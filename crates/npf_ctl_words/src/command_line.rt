@@ -1,18 +1,23 @@
 // The command that a list of words says. The first word is compared before `clap` is asked, so that one which names no command is refused
 // whether there is memory or not.
-ghost use Rattle.std.specs.Prelude.{◌≡◌, ◌≤◌, IfOk, IfSome, IsErrOf, IsNone, None, Some, false, is_some, option_map, pos, true};
+ghost use Rattle.std.specs.Prelude.{◌≡◌, ◌≤◌, ◌&&◌, IfOk, IfSome, IsErrOf, IsNone, None, Some, codes, false, is_some, option_map, pos, true};
 ghost use Rattle.clap.specs.Words.{IsSignedIn, IsUnsignedIn, first_of, found_of, rows_of};
-ghost use Rattle.npf_ctl_words.specs.CommandLine.{SaysCommand, TellsCommand, TellsLoad, TellsNumber, TellsRun};
-ghost use Rattle.npf_ctl_words.specs.CommandLine.{command_name, command_named, is_command_line, knows_spread, name_in, signed_number};
-ghost use Rattle.npf_ctl_words.specs.CommandLine.{spread_in, spread_named, takes_words, word_texts};
-ghost use Rattle.npf_ctl_words.specs.Definitions.{definition_of, gen_command, loading_command, run_command};
+ghost use Rattle.npf_ctl_words.specs.CommandLine.{SaysCommand, TellsCheck, TellsCommand, TellsExplain, TellsLint, TellsLoad, TellsNumber, TellsQuery, TellsRun};
+ghost use Rattle.npf_ctl_words.specs.CommandLine.{asks_all, command_name, command_named, dir_in, dir_named, iface_in, iface_named, is_command_line};
+ghost use Rattle.npf_ctl_words.specs.CommandLine.{knows_names, name_in, signed_number, spread_in, spread_named, takes_words, word_texts};
+ghost use Rattle.npf_ctl_words.specs.Definitions.{check_command, definition_of, explain_command, gen_command, lint_command, query_command, run_command};
 ghost use Rattle.npf_ctl_words.specs.Values.{HasEachValue, IsMatched};
+ghost use Rattle.npf_ctl_words.specs.declared.command.CommandName.TheVariants.{Why};
 
-use crate::command::{CommandName, Invocation, Load, RunWords, SpreadWord};
+use crate::command::{
+    CheckWords, CommandName, ExplainWords, Invocation, LintWords, Load, QueryWords, RunWords,
+    SpreadWord,
+};
 use crate::definitions::definition;
 use crate::fault::WordsFault;
 use clap::ArgMatches;
 use clap::error::ErrorKind;
+use npf_types::{Dir, Name};
 use std::alloc::Global;
 
 /// The command that the words say, without the program's name before them.
@@ -20,9 +25,9 @@ use std::alloc::Global;
 /// # Errors
 ///
 /// `Usage` exactly where the first word is missing or names no command, `clap`'s definition of the
-/// command refuses the words behind it, or a run's spread is neither `rr` nor `flow`; words that ask
-/// for help or a version are refused. `NoMemory` where memory runs out.
-#[tactic(auto, using(crate::proofs::SayLemmas::refused_unnamed, crate::proofs::SayLemmas::refused_words, crate::proofs::SayLemmas::refused_spread, crate::proofs::SayLemmas::says))]
+/// command refuses the words behind it, a run's spread is neither `rr` nor `flow`, a direction is
+/// neither `in` nor `out`, or an interface is no name; words that ask for help or a version are refused. `NoMemory` where memory runs out.
+#[tactic(auto, using(crate::proofs::SayLemmas::refused_unnamed, crate::proofs::SayLemmas::refused_words, crate::proofs::SayLemmas::refused_names, crate::proofs::SayLemmas::says))]
 pub fn read_words<'a>(alloc: Global, words: &'a [String]) -> Result<Invocation<'a>, WordsFault>
     ensures read { IfOk result (SaysCommand (word_texts words.entry.now)) }
     ensures refused { IsErrOf result WordsFault.Usage → is_command_line (word_texts words.entry.now) ≡ false }
@@ -60,6 +65,10 @@ fn named(word: &str) -> Option<CommandName>
         "show" => Some(CommandName::Show),
         "debug" => Some(CommandName::Debug),
         "why" => Some(CommandName::Why),
+        "explain" => Some(CommandName::Explain),
+        "query" => Some(CommandName::Query),
+        "check" => Some(CommandName::Check),
+        "lint" => Some(CommandName::Lint),
         "gen" => Some(CommandName::Gen),
         _ => None,
     }
@@ -85,11 +94,11 @@ fn matched<'a>(
     }
 }
 
-/// The command that the matches of its definition tell; None where a run's spread is unknown.
+/// The command that the matches of its definition tell; None where a spread or a direction is unknown.
 #[tactic(auto, using(crate::proofs::SayLemmas::known, crate::proofs::SayLemmas::needless))]
 fn command_of<'a>(name: CommandName, matches: &ArgMatches<'a>) -> Option<Invocation<'a>>
     requires { HasEachValue (definition_of name) (rows_of (found_of matches.now)) }
-    ensures known { knows_spread name (rows_of (found_of matches.now)) ≡ is_some result }
+    ensures known { knows_names name (rows_of (found_of matches.now)) ≡ is_some result }
     ensures name { IfSome result (λ c. command_name c ≡ name) }
     ensures told { IfSome result (TellsCommand (rows_of (found_of matches.now))) }
 {
@@ -98,10 +107,17 @@ fn command_of<'a>(name: CommandName, matches: &ArgMatches<'a>) -> Option<Invocat
             Some(run) => Some(Invocation::Run(run)),
             None => None,
         },
-        CommandName::Validate => Some(Invocation::Validate(load_of(matches, "validate"))),
-        CommandName::Show => Some(Invocation::Show(load_of(matches, "show"))),
-        CommandName::Debug => Some(Invocation::Debug(load_of(matches, "debug"))),
-        CommandName::Why => Some(Invocation::Why(load_of(matches, "why"))),
+        CommandName::Validate => Some(Invocation::Validate(load_of(matches))),
+        CommandName::Show => Some(Invocation::Show(load_of(matches))),
+        CommandName::Debug => Some(Invocation::Debug(load_of(matches))),
+        CommandName::Why => Some(why_of(matches)),
+        CommandName::Explain => match explain_of(matches) {
+            Some(words) => Some(Invocation::Explain(words)),
+            None => None,
+        },
+        CommandName::Query => Some(Invocation::Query(query_of(matches))),
+        CommandName::Check => Some(Invocation::Check(check_of(matches))),
+        CommandName::Lint => Some(Invocation::Lint(lint_of(matches))),
         CommandName::Gen => Some(Invocation::Gen {
             number: number_in(matches),
         }),
@@ -129,14 +145,95 @@ fn run_of<'a>(matches: &ArgMatches<'a>) -> Option<RunWords<'a>>
     })
 }
 
-#[tactic(auto, using(crate::proofs::SayLemmas::conf_of_load))]
-fn load_of<'a>(matches: &ArgMatches<'a>, name: &str) -> Load<'a>
-    requires { HasEachValue (loading_command name.now) (rows_of (found_of matches.now)) }
+fn load_of<'a>(matches: &ArgMatches<'a>) -> Load<'a>
+    requires { is_some (first_of (codes "conf") (rows_of (found_of matches.now))) ≡ true }
     ensures { TellsLoad (rows_of (found_of matches.now)) result }
 {
     Load {
         conf: value(matches, "conf"),
         ifaces: given(matches, "ifaces"),
+    }
+}
+
+fn why_of<'a>(matches: &ArgMatches<'a>) -> Invocation<'a>
+    requires { is_some (first_of (codes "conf") (rows_of (found_of matches.now))) ≡ true }
+    ensures name { command_name result ≡ Why }
+    ensures told { TellsCommand (rows_of (found_of matches.now)) result }
+{
+    let load = load_of(matches);
+    if is_all(matches) {
+        Invocation::WhyAll(load)
+    } else {
+        Invocation::Why(load)
+    }
+}
+
+/// Whether `--all` is among the words.
+fn is_all(matches: &ArgMatches) -> bool
+    ensures { result ≡ asks_all (rows_of (found_of matches.now)) }
+{
+    match given(matches, "all") {
+        Some(text) => text == "true",
+        None => false,
+    }
+}
+
+#[tactic(auto, using(crate::proofs::SayLemmas::conf_of_explain, crate::proofs::SayLemmas::iface_of_explain, crate::proofs::SayLemmas::dir_of_explain, crate::proofs::SayLemmas::class_of_explain))]
+fn explain_of<'a>(matches: &ArgMatches<'a>) -> Option<ExplainWords<'a>>
+    requires { HasEachValue explain_command (rows_of (found_of matches.now)) }
+    ensures known { (is_some (iface_in (rows_of (found_of matches.now))) && is_some (dir_in (rows_of (found_of matches.now)))) ≡ is_some result }
+    ensures told { IfSome result (TellsExplain (rows_of (found_of matches.now))) }
+{
+    let Some(iface) = iface_named(value(matches, "iface")) else {
+        return None;
+    };
+    let Some(dir) = dir_named(value(matches, "dir")) else {
+        return None;
+    };
+    Some(ExplainWords {
+        conf: value(matches, "conf"),
+        iface,
+        dir,
+        class: value(matches, "class"),
+        ifaces: given(matches, "ifaces"),
+    })
+}
+
+#[tactic(auto, using(crate::proofs::SayLemmas::conf_of_query, crate::proofs::SayLemmas::class_of_query, crate::proofs::SayLemmas::steps_of_query, crate::proofs::SayLemmas::in_range_of_query))]
+fn query_of<'a>(matches: &ArgMatches<'a>) -> QueryWords<'a>
+    requires { HasEachValue query_command (rows_of (found_of matches.now)) }
+    ensures { TellsQuery (rows_of (found_of matches.now)) result }
+{
+    QueryWords {
+        conf: value(matches, "conf"),
+        class: value(matches, "class"),
+        ifaces: given(matches, "ifaces"),
+        steps: any_number(value(matches, "steps")),
+    }
+}
+
+#[tactic(auto, using(crate::proofs::SayLemmas::conf_of_check, crate::proofs::SayLemmas::file_of_check, crate::proofs::SayLemmas::steps_of_check, crate::proofs::SayLemmas::in_range_of_check))]
+fn check_of<'a>(matches: &ArgMatches<'a>) -> CheckWords<'a>
+    requires { HasEachValue check_command (rows_of (found_of matches.now)) }
+    ensures { TellsCheck (rows_of (found_of matches.now)) result }
+{
+    CheckWords {
+        conf: value(matches, "conf"),
+        expectations: value(matches, "expectations"),
+        ifaces: given(matches, "ifaces"),
+        steps: any_number(value(matches, "steps")),
+    }
+}
+
+#[tactic(auto, using(crate::proofs::SayLemmas::conf_of_lint, crate::proofs::SayLemmas::steps_of_lint, crate::proofs::SayLemmas::in_range_of_lint))]
+fn lint_of<'a>(matches: &ArgMatches<'a>) -> LintWords<'a>
+    requires { HasEachValue lint_command (rows_of (found_of matches.now)) }
+    ensures { TellsLint (rows_of (found_of matches.now)) result }
+{
+    LintWords {
+        conf: value(matches, "conf"),
+        ifaces: given(matches, "ifaces"),
+        steps: any_number(value(matches, "steps")),
     }
 }
 
@@ -178,6 +275,22 @@ fn any_number(text: &str) -> u64
     ensures { result ≡ signed_number text.now }
 {
     text.parse().unwrap()
+}
+
+fn iface_named(text: &str) -> Option<Name>
+    ensures { result ≡ iface_named text.now }
+{
+    Name::of(text.as_bytes())
+}
+
+fn dir_named(text: &str) -> Option<Dir>
+    ensures { result ≡ dir_named text.now }
+{
+    match text {
+        "in" => Some(Dir::In),
+        "out" => Some(Dir::Out),
+        _ => None,
+    }
 }
 
 fn spread_named(text: &str) -> Option<SpreadWord>

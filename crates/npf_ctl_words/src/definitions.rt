@@ -2,7 +2,8 @@
 ghost use Rattle.std.specs.Prelude.{◌≡◌, IfOk, codes, false};
 ghost use Rattle.clap.specs.Words.{app_of, rule_of};
 ghost use Rattle.npf_ctl_words.specs.Definitions.{definition_of, gen_command, loading_command};
-ghost use Rattle.npf_ctl_words.specs.Definitions.{number_rule, option_rule, run_command, spread_rule, word_rule, workers_rule};
+ghost use Rattle.npf_ctl_words.specs.Definitions.{all_rule, check_command, explain_command, lint_command, number_rule, option_rule, query_command, run_command};
+ghost use Rattle.npf_ctl_words.specs.Definitions.{spread_rule, steps_rule, reasons_command, word_rule, workers_rule};
 
 use crate::command::CommandName;
 use clap::{Arg, ArgAction, Command, value_parser};
@@ -17,7 +18,11 @@ pub(crate) fn definition<'a>(alloc: Global, name: CommandName) -> Result<Command
         CommandName::Validate => loading(alloc, "validate"),
         CommandName::Show => loading(alloc, "show"),
         CommandName::Debug => loading(alloc, "debug"),
-        CommandName::Why => loading(alloc, "why"),
+        CommandName::Why => why(alloc),
+        CommandName::Explain => explain(alloc),
+        CommandName::Query => query(alloc),
+        CommandName::Check => check(alloc),
+        CommandName::Lint => lint(alloc),
         CommandName::Gen => generating(alloc),
     }
 }
@@ -43,6 +48,57 @@ fn loading<'a>(alloc: Global, name: &'a str) -> Result<Command<'a>, AllocError>
     let command = Command::new(alloc, name)
         .arg(word(alloc, "conf"))?
         .arg(option(alloc, "ifaces"))?;
+    Ok(command)
+}
+
+fn why<'a>(alloc: Global) -> Result<Command<'a>, AllocError>
+    ensures { IfOk result (λ c. app_of c ≡ reasons_command) }
+{
+    let command = loading(alloc, "why")?.arg(all(alloc))?;
+    Ok(command)
+}
+
+fn explain<'a>(alloc: Global) -> Result<Command<'a>, AllocError>
+    ensures { IfOk result (λ c. app_of c ≡ explain_command) }
+{
+    let command = Command::new(alloc, "explain")
+        .arg(word(alloc, "conf"))?
+        .arg(word(alloc, "iface"))?
+        .arg(word(alloc, "dir"))?
+        .arg(word(alloc, "class"))?
+        .arg(option(alloc, "ifaces"))?;
+    Ok(command)
+}
+
+fn query<'a>(alloc: Global) -> Result<Command<'a>, AllocError>
+    ensures { IfOk result (λ c. app_of c ≡ query_command) }
+{
+    let command = Command::new(alloc, "query")
+        .arg(word(alloc, "conf"))?
+        .arg(word(alloc, "class"))?
+        .arg(option(alloc, "ifaces"))?
+        .arg(steps(alloc))?;
+    Ok(command)
+}
+
+fn check<'a>(alloc: Global) -> Result<Command<'a>, AllocError>
+    ensures { IfOk result (λ c. app_of c ≡ check_command) }
+{
+    let command = Command::new(alloc, "check")
+        .arg(word(alloc, "conf"))?
+        .arg(word(alloc, "expectations"))?
+        .arg(option(alloc, "ifaces"))?
+        .arg(steps(alloc))?;
+    Ok(command)
+}
+
+fn lint<'a>(alloc: Global) -> Result<Command<'a>, AllocError>
+    ensures { IfOk result (λ c. app_of c ≡ lint_command) }
+{
+    let command = Command::new(alloc, "lint")
+        .arg(word(alloc, "conf"))?
+        .arg(option(alloc, "ifaces"))?
+        .arg(steps(alloc))?;
     Ok(command)
 }
 
@@ -81,6 +137,24 @@ fn spread<'a>(alloc: Global) -> Arg<'a>
     ensures local { result.global ≡ false }
 {
     option(alloc, "spread").default_value("rr")
+}
+
+fn all<'a>(alloc: Global) -> Arg<'a>
+    ensures rule { rule_of result ≡ all_rule }
+    ensures local { result.global ≡ false }
+{
+    Arg::new(alloc, "all")
+        .long("all")
+        .action(ArgAction::SetTrue)
+}
+
+fn steps<'a>(alloc: Global) -> Arg<'a>
+    ensures rule { rule_of result ≡ steps_rule }
+    ensures local { result.global ≡ false }
+{
+    option(alloc, "steps")
+        .value_parser(value_parser!(u64))
+        .default_value("1000000000")
 }
 
 fn number<'a>(alloc: Global) -> Arg<'a>

@@ -1,5 +1,5 @@
 // Maps.
-ghost use Rattle.std.specs.Prelude.{◌≡◌, ◌++◌, OnOk};
+ghost use Rattle.std.specs.Prelude.{◌≡◌, ◌++◌, IfOk, OnOk};
 ghost use Rattle.npf_show.specs.Map.{map_line, algo_pieces, arrow_pieces, static_pieces, one_proto_pieces, side_pieces, side_port_pieces, pass_pieces};
 ghost use Rattle.npf_show.specs.Piece.{spelled, optional_pieces};
 
@@ -9,6 +9,16 @@ use crate::page::Page;
 use crate::shown::Shown;
 use npf_model::{Algo, Arrow, Map, Model, Rule, Side};
 use npf_types::NoMemory;
+use std::alloc::Global;
+
+/// A map's line as the canonical text has it, with its line feed.
+pub fn show_map(alloc: Global, model: &Model, map: &Map) -> Result<Vec<u8>, NoMemory>
+    ensures { IfOk result (λ text. text.items ≡ spelled (map_line model.now map.now)) }
+{
+    let mut page = Page::new(alloc);
+    map.show(model, &mut page)?;
+    Ok(page.into_text())
+}
 
 impl Shown for Map {
     ghost pieces = { map_line };

@@ -239,7 +239,8 @@ impl Page {
     }
 }
 
-fn hex_digit(digit: u16) -> u8
+/// The hexadecimal digit of a number below 16, in small letters.
+pub fn hex_digit(digit: u16) -> u8
     requires { digit < 16 }
     ensures { result ≡ digit_char digit }
 {

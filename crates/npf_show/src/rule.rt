@@ -1,5 +1,5 @@
 // Rules.
-ghost use Rattle.std.specs.Prelude.{◌≡◌, ◌++◌, OnOk, slice_get};
+ghost use Rattle.std.specs.Prelude.{◌≡◌, ◌++◌, IfOk, OnOk, slice_get};
 ghost use Rattle.npf_show.specs.Piece.{spelled, optional_pieces};
 ghost use Rattle.npf_show.specs.Rule.{decision_pieces, return_pieces, state_pieces, final_pieces, apply_pieces, rule_pieces, name_of_procedure};
 
@@ -8,6 +8,16 @@ use crate::page::Page;
 use crate::shown::Shown;
 use npf_model::{Model, Rule, StateOpt};
 use npf_types::{Decision, NoMemory, Return};
+use std::alloc::Global;
+
+/// A rule as the canonical text has it, without the spaces in front of it and the line's end.
+pub fn show_rule(alloc: Global, model: &Model, rule: &Rule) -> Result<Vec<u8>, NoMemory>
+    ensures { IfOk result (λ text. text.items ≡ spelled (rule_pieces model.now rule.now)) }
+{
+    let mut page = Page::new(alloc);
+    rule.show(model, &mut page)?;
+    Ok(page.into_text())
+}
 
 impl Shown for Rule {
     ghost pieces = { rule_pieces };

@@ -24,7 +24,7 @@ const SLOTS: u32 = 64;
 // A round's two forward keys need 68 nodes of their own and its two backward ones one, and those of all rounds fewer than 1000 others.
 const NODES: u32 = ROUNDS * (68 + 1) + 1000;
 
-/// Who builds a connection before both passes have come to the round, and gives it up then; or builds one then.
+/// Who builds a connection at the beginning of a round, and gives it up then; or builds one then, beside that.
 #[derive(Clone, Copy)]
 enum Part {
     Holder,
@@ -51,11 +51,11 @@ fn number(part: Part) -> u64 {
     }
 }
 
-// Waits until both passes have come to this round.
-fn meet(rt: &impl Wait, arrived: &AtomicU64, round: u32) {
-    arrived.fetch_add(1, Ordering::SeqCst);
+// Waits until so many steps of the rounds are done: a round has two, the holder's connection is built and the grower's is given up. Who waits
+// is in no stay, since one hold may wait for the stays of others.
+fn wait_for(rt: &impl Wait, done: &AtomicU64, steps: u64) {
     for _ in rt.forever() {
-        if arrived.load(Ordering::SeqCst) > 2 * u64::from(round) + 1 {
+        if done.load(Ordering::SeqCst) >= steps {
             return;
         }
         yield_now();
@@ -64,9 +64,9 @@ fn meet(rt: &impl Wait, arrived: &AtomicU64, round: u32) {
 }
 
 // Lets the other pass go ahead, in some rounds by more and in some by less.
-fn delay(arrived: &AtomicU64, round: u32) {
+fn delay(done: &AtomicU64, round: u32) {
     for _ in 0..round % 64 * 1024 {
-        arrived.load(Ordering::SeqCst);
+        done.load(Ordering::SeqCst);
     }
 }
 
@@ -75,7 +75,7 @@ fn live(
     rt: &impl Wait,
     cells: &Cells<FlowLaw, ByProtocol>,
     pass: &mut CellPass<FlowLaw>,
-    arrived: &AtomicU64,
+    done: &AtomicU64,
     part: Part,
     round: u32,
 ) -> bool
@@ -86,14 +86,11 @@ fn live(
     ensures empty { IsEmptyHanded pass.new.seat.me.0 }
     ensures hands { HasFreeHands pass.new.seat.me.0 }
 {
-    if let Part::Grower = part {
-        meet(rt, arrived, round);
-    }
     let forward = forward_key(round, part);
     let built = build(rt, cells, pass, forward, backward_key(round, part));
     if let Part::Holder = part {
-        meet(rt, arrived, round);
-        delay(arrived, round);
+        done.fetch_add(1, Ordering::SeqCst);
+        delay(done, round);
     }
     match built {
         Some(id) => {
@@ -109,7 +106,7 @@ fn rounds(
     rt: &impl Wait,
     cells: &Cells<FlowLaw, ByProtocol>,
     pass: CellPass<FlowLaw>,
-    arrived: &AtomicU64,
+    done: &AtomicU64,
     part: Part,
 ) -> u32
     requires own { IsPassIn cells.now pass }
@@ -119,12 +116,16 @@ fn rounds(
     let mut pass = pass;
     let mut held = 0u32;
     for round in 0..ROUNDS {
+        wait_for(rt, done, 2 * u64::from(round) + number(part));
         enter(cells, &mut pass);
-        if live(rt, cells, &mut pass, arrived, part, round) {
+        if live(rt, cells, &mut pass, done, part, round) {
             held = held.saturating_add(1);
         }
         leave(cells, &mut pass);
         collect(cells, &mut pass);
+        if let Part::Grower = part {
+            done.fetch_add(1, Ordering::SeqCst);
+        }
     }
     held
 }
@@ -134,7 +135,7 @@ fn rounds_beside<R: Threads + Wait + Sync>(
     cells: &Cells<FlowLaw, ByProtocol>,
     pass: CellPass<FlowLaw>,
     other: CellPass<FlowLaw>,
-    arrived: &AtomicU64,
+    done: &AtomicU64,
 ) -> (u32, u32)
     requires own { IsPassIn cells.now pass }
     requires rests { RestsEmptyHanded pass.seat.me.0 }
@@ -147,10 +148,10 @@ fn rounds_beside<R: Threads + Wait + Sync>(
         rt,
         move ||
             requires { IsPassIn cells.now pass × RestsEmptyHanded pass.seat.me.0 × HasFreeHands pass.seat.me.0 }
-        { rounds(rt, cells, pass, arrived, Part::Holder) },
+        { rounds(rt, cells, pass, done, Part::Holder) },
         move ||
             requires { IsPassIn cells.now other × RestsEmptyHanded other.seat.me.0 × HasFreeHands other.seat.me.0 }
-        { rounds(rt, cells, other, arrived, Part::Grower) },
+        { rounds(rt, cells, other, done, Part::Grower) },
     )
 }
 
@@ -217,11 +218,11 @@ fn tell_rounds<R: Threads + Wait + Sync>(
     alloc: Global,
     told: &mut String,
 ) -> Result<(), Fail> {
-    let arrived = AtomicU64::new(0);
+    let done = AtomicU64::new(0);
     let (cells, mut pass) = Cells::<FlowLaw, ByProtocol>::new(alloc, SLOTS, NODES)?;
     let mut last = cells.split(&mut pass);
     let other = cells.split(&mut pass);
-    let held = rounds_beside(rt, &cells, pass, other, &arrived);
+    let held = rounds_beside(rt, &cells, pass, other, &done);
     for _ in 0..3u32 {
         collect(&cells, &mut last);
     }

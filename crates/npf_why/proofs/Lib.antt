@@ -1,3 +1,5 @@
 mod CoverLemmas
+mod IdleLemmas
 mod NearLemmas
+pub mod RemainsLemmas
 mod StandLemmas

@@ -2,7 +2,11 @@ pub mod Candidate
 pub mod Distance
 pub mod Halt
 pub mod Known
+pub mod Laws
 pub mod NameTable
 pub mod Nearest
+pub mod Remains
 pub mod Sentence
 pub mod Stand
+pub mod Stretch
+pub mod Tokens

@@ -40,10 +40,10 @@ words Say.ManyRules = codes "there are more rules than a configuration may have"
 words Say.ManyTables = codes "there are more tables than a configuration may have"
 words Say.ManyMaps = codes "there are more maps than a configuration may have"
 words Say.ManyProcedures = codes "there are more procedures than a configuration may have"
-words Say.ManyElements = codes "lists have more elements than a configuration may have; a table can stand for one"
+words Say.ManyElements = codes "there are more elements of lists than a configuration may have; a table can stand for a list of addresses"
 words Say.ManyEntries = codes "the tables up to here have more entries than a configuration may have"
-words Say.HeavyRule = codes "this rule takes more instructions than one may; a table can stand for a long list"
-words Say.ManyInstructions = codes "the rules take more instructions than a configuration may have; a table can stand for a long list"
+words Say.HeavyRule = codes "this rule weighs more than one may, as its lists are long; a table can stand for a list of addresses"
+words Say.ManyInstructions = codes "the rules take more instructions than a configuration may have; a table can stand for a list of addresses"
 
 abbrev pub sentence_of : Fault → Sentence
 sentence_of Faults.BadByte = Say.NoToken

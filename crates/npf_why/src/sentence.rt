@@ -151,16 +151,16 @@ impl Sentence {
             Sentence::ManyMaps => "there are more maps than a configuration may have",
             Sentence::ManyProcedures => "there are more procedures than a configuration may have",
             Sentence::ManyElements => {
-                "lists have more elements than a configuration may have; a table can stand for one"
+                "there are more elements of lists than a configuration may have; a table can stand for a list of addresses"
             }
             Sentence::ManyEntries => {
                 "the tables up to here have more entries than a configuration may have"
             }
             Sentence::HeavyRule => {
-                "this rule takes more instructions than one may; a table can stand for a long list"
+                "this rule weighs more than one may, as its lists are long; a table can stand for a list of addresses"
             }
             Sentence::ManyInstructions => {
-                "the rules take more instructions than a configuration may have; a table can stand for a long list"
+                "the rules take more instructions than a configuration may have; a table can stand for a list of addresses"
             }
         }
     }

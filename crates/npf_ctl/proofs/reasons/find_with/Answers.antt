@@ -2,6 +2,7 @@ use Rattle.std.proofs.Common.{rules, ◌≡◌, ℕ, List, Ok, Err, Some, subst,
 use Rattle.npf_types.specs.{Stages.goes_on, declared.limits.TheConstants.MAX_TEXT_BYTES}
 use Rattle.npf_model.specs.declared.iface.Iface.{Iface}
 use Rattle.npf_ctl_input.{specs.File.ReadsFile, proofs.AroundLemmas.{around_first, around_itself, around_next}}
+use Rattle.npf_ctl_why.specs.Text.{IsExplanation}
 use Rattle.npf_ctl.{specs.Reasons.TellsReason, proofs.ReasonLemmas.{found_in_ifaces, ifaces_unread}}
 use Rattle.npf_ctl.proofs.reasons.find_with.Goals as goal
 
@@ -11,7 +12,7 @@ returns-in_err-bytes-clause-found g c =
     let last = g.F.Files.moment c.read_file.new.files in
     let fault = c.in_err-bytes.field-0.0 in
     let same : c.from_residual.result ≡ Err fault = search rules in
-    rw same (ifaces_unread first last c.args.file.now c.args.conf.now fault (c.in_err-bytes.ensures.comes first last (around_itself first last)))
+    rw same (ifaces_unread c.args.which first last c.args.file.now c.args.conf.now fault (c.in_err-bytes.ensures.comes first last (around_itself first last)))
 
 pub returns-in-Ok-clause-found : goal.returns-in-Ok-clause-found
 returns-in-Ok-clause-found g c =
@@ -31,5 +32,6 @@ returns-clause-found g c =
     let file = c.args.file.now in
     let text = c.as_slice-text.result.now in
     let read = c.in_ok-bytes.ensures.comes first last (around_itself first last) in
-    found_in_ifaces first last file c.args.conf.now text (subst (λ (bytes : List ℕ). ReadsFile first last file MAX_TEXT_BYTES (Ok bytes)) (sym c.as_slice-text.ensures.value) read)
-    c.in-Err.fault c.in-Err.ensures c.reason_of.result (subst (λ (none : List Iface). TellsReason none text c.in-Err.fault c.reason_of.result) c.requires c.reason_of.ensures)
+    found_in_ifaces c.args.which first last file c.args.conf.now text (subst (λ (bytes : List ℕ). ReadsFile first last file MAX_TEXT_BYTES (Ok bytes)) (sym c.as_slice-text.ensures.value) read)
+    c.in-Err.fault c.in-Err.ensures c.reason_of.result
+    (subst (λ (none : List Iface). TellsReason (IsExplanation none c.in-Err.fault (Some text)) c.in-Err.fault c.reason_of.result) c.requires c.reason_of.ensures)

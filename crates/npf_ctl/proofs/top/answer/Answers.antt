@@ -4,7 +4,8 @@ use Rattle.npf_ctl.{specs.{Ends.AnswersWords, Run.moment}, proofs.{AnswerLemmas.
 use Rattle.npf_ctl.proofs.top.answer.Goals as goal
 
 pub returns-in-Ok-clause-answered : goal.returns-in-Ok-clause-answered
-returns-in-Ok-clause-answered g c = AnswersWords.done refl c.in-Ok.ensures.ends.0 c.in-Ok.ensures.ends.1 (nothing_put (g.E.Sink.moment c.args.err.now))
+returns-in-Ok-clause-answered g c =
+    AnswersWords.done c.status.ensures c.in-Ok.ensures.ends.0 c.in-Ok.ensures.ends.1 (nothing_put (g.E.Sink.moment c.args.err.now))
 
 pub returns-in-Err-clause-answered : goal.returns-in-Err-clause-answered
 returns-in-Err-clause-answered g c =

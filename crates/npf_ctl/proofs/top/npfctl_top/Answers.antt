@@ -1,5 +1,5 @@
 use Rattle.npf_ctl_words.specs.CommandLine.{word_texts}
-use Rattle.npf_ctl.{specs.Run.moment, proofs.AnswerLemmas.{refuses_usage, was_done, was_kept, was_quiet, was_refused}}
+use Rattle.npf_ctl.{specs.{Run.moment, declared.findings.Finding.TheVariants.{Nothing, Something}}, proofs.AnswerLemmas.{refuses_usage, was_done, was_kept, was_put, was_quiet, was_refused}}
 use Rattle.npf_ctl.proofs.LawLemmas.{does_all, generates_all, refuses_fault}
 use Rattle.npf_ctl.proofs.top.npfctl_top.Goals as goal
 
@@ -10,7 +10,16 @@ returns-clause-done g c =
     let old = g.E.Sink.moment c.args.err.now in
     let new = g.E.Sink.moment c.answer.new.err in
     let texts = word_texts c.args.words.now in
-    λ zero. (was_done texts before after old new c.answer.result c.answer.ensures.answered zero).0
+    was_done texts before after old new c.answer.result c.answer.ensures.answered Nothing
+
+pub returns-clause-found : goal.returns-clause-found
+returns-clause-found g c =
+    let before = moment (g.F.Files.moment c.args.files.now) (g.O.Sink.moment c.args.out.now) (g.C.Connections.view c.args.pass.now) in
+    let after = moment (g.F.Files.moment c.answer.new.files) (g.O.Sink.moment c.answer.new.out) (g.C.Connections.view c.answer.new.pass) in
+    let old = g.E.Sink.moment c.args.err.now in
+    let new = g.E.Sink.moment c.answer.new.err in
+    let texts = word_texts c.args.words.now in
+    was_done texts before after old new c.answer.result c.answer.ensures.answered Something
 
 pub returns-clause-flushed : goal.returns-clause-flushed
 returns-clause-flushed g c =
@@ -19,7 +28,7 @@ returns-clause-flushed g c =
     let old = g.E.Sink.moment c.args.err.now in
     let new = g.E.Sink.moment c.answer.new.err in
     let texts = word_texts c.args.words.now in
-    λ zero. (was_done texts before after old new c.answer.result c.answer.ensures.answered zero).1
+    λ done. (was_put texts before after old new c.answer.result c.answer.ensures.answered done).0
 
 pub returns-clause-silent : goal.returns-clause-silent
 returns-clause-silent g c =
@@ -28,7 +37,7 @@ returns-clause-silent g c =
     let old = g.E.Sink.moment c.args.err.now in
     let new = g.E.Sink.moment c.answer.new.err in
     let texts = word_texts c.args.words.now in
-    λ zero. (was_done texts before after old new c.answer.result c.answer.ensures.answered zero).2
+    λ done. (was_put texts before after old new c.answer.result c.answer.ensures.answered done).1
 
 pub returns-clause-faulted : goal.returns-clause-faulted
 returns-clause-faulted g c =

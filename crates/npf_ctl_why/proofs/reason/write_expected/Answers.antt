@@ -3,7 +3,8 @@ use Rattle.npf_shelf.proofs.OptionLemmas.{OnOk-weaker}
 use Rattle.npf_lexer.specs.declared.token.Token.{Token}
 use Rattle.npf_parser.specs.Parse.{Parses}
 use Rattle.npf_why.specs.declared.sentence.Sentence.TheVariants as Say
-use Rattle.npf_ctl_why.{specs.{Reason.{ExplainsExpected, ExplainsHalt}, Sentences.{sentence_text, shown_at}}, proofs.ReasonLemmas.{lexed_fault, no_meaning}}
+use Rattle.npf_ctl_why.{specs.{Reason.{ExplainsExpected, ExplainsHalt}, Sentences.{sentence_text, shown_at}}, proofs.ReasonLemmas.no_meaning}
+use Rattle.npf_why.proofs.RemainsLemmas.{lexed_fault}
 use Rattle.npf_ctl_why.proofs.reason.write_expected.Goals as goal
 
 pub returns-in-Err-Fault : goal.returns-in-Err-Fault

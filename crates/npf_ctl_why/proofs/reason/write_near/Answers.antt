@@ -2,7 +2,8 @@ use Rattle.std.proofs.Common.{List, [], ◌++◌, refl, sym, ap, subst, ◌∙�
 use Rattle.npf_shelf.proofs.OptionLemmas.{OnOk-weaker}
 use Rattle.npf_lexer.specs.declared.token.Token.{Token}
 use Rattle.npf_parser.specs.Parse.{Parses}
-use Rattle.npf_ctl_why.{specs.{Names.near_text, Reason.NamesNear}, proofs.ReasonLemmas.{lexed_fault, no_meaning}}
+use Rattle.npf_ctl_why.{specs.{Names.near_text, Reason.NamesNear}, proofs.ReasonLemmas.no_meaning}
+use Rattle.npf_why.proofs.RemainsLemmas.{lexed_fault}
 use Rattle.npf_ctl_why.proofs.reason.write_near.Goals as goal
 
 pub returns-in-Err-Fault : goal.returns-in-Err-Fault

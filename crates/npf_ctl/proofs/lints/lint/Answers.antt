@@ -1,0 +1,62 @@
+use Rattle.std.proofs.Common.{rules, ◌≡◌, ◌∙◌, Err, IfOk, OnOk, List, ℕ, refl, subst, sym}
+use Rattle.npf_ruleset.specs.Configuration.{configuration}
+use Rattle.npf_outside.specs.Sink.{Appends, AppendsFront}
+use Rattle.npf_ctl_lint.specs.Loaded.{AnswersLint}
+use Rattle.npf_ctl_words.specs.declared.command.Invocation.TheVariants.{Lint}
+use Rattle.npf_ctl.specs.{Commands.load_of_lint, Questions.{AnswersQuestion, RefusesQuestion}, Run.moment}
+use Rattle.npf_ctl.proofs.AnswerQuestionLemmas.{answer_ends, unanswered, unloaded}
+use Rattle.npf_ctl.proofs.FileLemmas.{around_work, nothing_put, only_read, read_on}
+use Rattle.npf_ctl.proofs.lints.lint.Goals as goal
+
+pub returns-in_err-loaded-clause-ends : goal.returns-in_err-loaded-clause-ends
+returns-in_err-loaded-clause-ends g c =
+    let first = g.F.Files.moment c.args.files.now in
+    let last = g.F.Files.moment c.load_both.new.files in
+    let out = g.O.Sink.moment c.args.out.now in
+    let words = c.args.words in
+    let fault = c.in_err-loaded.field-0.0 in
+    let same : c.from_residual.result ≡ Err fault = search rules in
+    rw same (λ texts pass said. unloaded texts (moment first out pass) (moment last out pass) (Lint words) (load_of_lint words) refl said (λ why. refl)
+    (record { put = nothing_put out; files = only_read first last c.load_both.ensures.reads; idle = refl }) fault
+    (rw c.load_of_lint.ensures at (c.in_err-loaded.ensures.loads first last (around_work first last last (read_on last)))))
+
+pub returns-in_err-told-clause-ends : goal.returns-in_err-told-clause-ends
+returns-in_err-told-clause-ends g c =
+    let first = g.F.Files.moment c.args.files.now in
+    let last = g.F.Files.moment c.load_both.new.files in
+    let out = g.O.Sink.moment c.args.out.now in
+    let words = c.args.words in
+    let loaded = c.in_ok-loaded.loaded in
+    let fault = c.in_err-told.field-0.0 in
+    let same : c.from_residual-in_err-told.result ≡ Err fault = search rules in
+    let loads = rw c.load_of_lint.ensures at (c.in_ok-loaded.ensures.loads first last (around_work first last last (read_on last))) in
+    rw same (λ texts pass said. unanswered texts (moment first out pass) (moment last out pass) (Lint words) (load_of_lint words) refl said
+    loaded.ifaces.list (configuration loaded.config) (record { reads = loads.0; loads = loads.1; idle = refl })
+    (record { put = nothing_put out; files = only_read first last c.load_both.ensures.reads; idle = refl }) fault
+    (RefusesQuestion.lint words refl c.in_err-told.ensures.err))
+
+pub returns-clause-ends : goal.returns-clause-ends
+returns-clause-ends g c = λ texts pass said.
+    let first = g.F.Files.moment c.args.files.now in
+    let last = g.F.Files.moment c.load_both.new.files in
+    let before = moment first (g.O.Sink.moment c.args.out.now) pass in
+    let after = moment last (g.O.Sink.moment c.put_answer.new.out) pass in
+    let words = c.args.words in
+    let loaded = c.in_ok-loaded.loaded in
+    let told = c.in_ok-told.told in
+    let answer = c.answer_of-answer.result in
+    let loads = rw c.load_of_lint.ensures at (c.in_ok-loaded.ensures.loads first last (around_work first last last (read_on last))) in
+    let answers = subst (AnswersLint loaded.ifaces.list (configuration loaded.config) told.found) (sym c.answer_of-answer.ensures.text) c.in_ok-told.ensures.ok in
+    answer_ends texts before after (Lint words) (load_of_lint words) refl said loaded.ifaces.list (configuration loaded.config)
+    (record { reads = loads.0; loads = loads.1; idle = refl }) answer.finding answer.text.items (λ put. put)
+    (AnswersQuestion.lint words told.found refl answers c.answer_of-answer.ensures.finding) (only_read first last c.load_both.ensures.reads)
+    c.put_answer.result c.put_answer.ensures.finding c.put_answer.ensures.whole c.put_answer.ensures.flushed c.put_answer.ensures.front c.put_answer.ensures.fault
+
+pub returns-in_err-loaded-clause-files : goal.returns-in_err-loaded-clause-files
+returns-in_err-loaded-clause-files g c = only_read (g.F.Files.moment c.args.files.now) (g.F.Files.moment c.load_both.new.files) c.load_both.ensures.reads
+
+pub returns-in_err-told-clause-files : goal.returns-in_err-told-clause-files
+returns-in_err-told-clause-files g c = only_read (g.F.Files.moment c.args.files.now) (g.F.Files.moment c.load_both.new.files) c.load_both.ensures.reads
+
+pub returns-clause-files : goal.returns-clause-files
+returns-clause-files g c = only_read (g.F.Files.moment c.args.files.now) (g.F.Files.moment c.load_both.new.files) c.load_both.ensures.reads

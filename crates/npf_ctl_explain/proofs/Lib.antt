@@ -1,0 +1,5 @@
+mod BesideLemmas
+mod ClassLemmas
+mod GroupLemmas
+mod ProductLemmas
+mod TextLemmas

@@ -1,0 +1,2 @@
+mod SaysLemmas
+mod TextLemmas

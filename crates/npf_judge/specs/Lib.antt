@@ -1,0 +1,4 @@
+pub mod Deciders
+pub mod Order
+pub mod Products
+pub mod Says

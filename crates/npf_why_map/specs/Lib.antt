@@ -1,0 +1,4 @@
+pub mod Laws
+pub mod Place
+pub mod Reason
+pub mod Side
