@@ -51,8 +51,15 @@ fn number(part: Part) -> u64 {
     }
 }
 
-// Waits until so many steps of the rounds are done: a round has two, the holder's connection is built and the grower's is given up. Who waits
-// is in no stay, since one hold may wait for the stays of others.
+// How many steps are done where the part's round begins: a round has two, the holder's connection is built and the grower's is given up.
+fn steps_before(part: Part, round: u32) -> u64 {
+    match part {
+        Part::Holder => 2 * u64::from(round),
+        Part::Grower => 2 * u64::from(round) + 1,
+    }
+}
+
+// Waits until so many steps of the rounds are done. Who waits is in no stay, since one hold may wait for the stays of others.
 fn wait_for(rt: &impl Wait, done: &AtomicU64, steps: u64) {
     for _ in rt.forever() {
         if done.load(Ordering::SeqCst) >= steps {
@@ -116,7 +123,7 @@ fn rounds(
     let mut pass = pass;
     let mut held = 0u32;
     for round in 0..ROUNDS {
-        wait_for(rt, done, 2 * u64::from(round) + number(part));
+        wait_for(rt, done, steps_before(part, round));
         enter(cells, &mut pass);
         if live(rt, cells, &mut pass, done, part, round) {
             held = held.saturating_add(1);
