@@ -1,3 +1,4 @@
 pub mod AnswerLemmas
 pub mod FirstLemmas
+pub mod PlaceLemmas
 pub mod QuestionLemmas

@@ -1,4 +1,5 @@
 pub mod Deciders
 pub mod Order
+pub mod Place
 pub mod Products
 pub mod Says

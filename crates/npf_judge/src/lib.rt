@@ -16,4 +16,5 @@ mod says;
 
 pub use deciders::Deciders;
 pub use judge::ask;
+pub use question::decider_with;
 pub use says::ClassSays;

@@ -88,7 +88,7 @@ ghost use Rattle.std.specs.Prelude.{◌≡◌, ◌≤◌, ◌<◌, ◌+◌, ◌^
 ghost use Rattle.npf_judge.specs.Order.{put_found};
 
 /// A place of a list whose items have the numbers from `first` on.
-pub(crate) fn decider_with(first: usize, count: usize, place: usize) -> Decider
+pub fn decider_with(first: usize, count: usize, place: usize) -> Decider
     requires within { place ≤ count }
     requires bounded { first + count < 2 ^ 64 }
     ensures first { result.first ≡ first }

@@ -1,3 +1,4 @@
 pub mod FindingLemmas
+pub mod OnceLemmas
 pub mod OrderLemmas
 pub mod ReachedLemmas

@@ -1,7 +1,7 @@
 -- What is found of the rules of an order.
 use Rattle.std.proofs.Common.{◌≡◌, ◌≢◌, ℕ, zero, suc, ◌+◌, ◌<◌, ◌≤◌, ◌==◌, ◌&&◌, ◌||◌, Bool, true, false, not, List, [], ◌∷◌, ◌++◌, Option, Some, None}
 use Rattle.std.proofs.Common.{Result, Ok, Err, IfOk, IfSome, is_some, length, map, set, slice_get, take, refl, sym, subst, ap, ◌∙◌, inl, inr, arith}
-use Rattle.std.specs.{List.{list_any, range_with_len}, List.Sorted.{IsNonDecreasing, IsPermutation}}
+use Rattle.std.specs.{List.{list_any, range_with_len}, List.Sorted.{IsStrictlyIncreasing, IsPermutation}}
 use Rattle.std.proofs.lemmas.Bool.{and_from, and_parts, cases_Bool, cases_eq, false≢true}
 use Rattle.std.proofs.lemmas.List.Elements.{All-push, Contains-append_left, Contains-push}
 use Rattle.std.proofs.lemmas.List.{length-map}
@@ -22,7 +22,8 @@ use Rattle.npf_judge.proofs.FirstLemmas.{decides_from, first_found, some_first}
 use Rattle.npf_judge.proofs.QuestionLemmas.{all_tables, self_of}
 use Rattle.npf_lint.specs.declared.found.RuleFinding.{RuleFinding}
 use Rattle.npf_lint.specs.Finding.{IsCoveredBy, IsFindingBy, IsOneRuleOf, IsTakenBy, IsUnanswered, IsUnmatched, effect_at_place}
-use Rattle.npf_lint.specs.Order.{AreOthers, AreRuleProducts, HasFindingOf, HasRulePlaces, IsFindingAt, IsRulePlace, IsRuleOrder, matches_at, reading_at}
+use Rattle.npf_judge.specs.Place.{HasRulePlaces, IsRulePlace}
+use Rattle.npf_lint.specs.Order.{AreOthers, AreRuleProducts, HasFindingOf, IsFindingAt, IsRuleOrder, matches_at, reading_at}
 
 -- ---- all packets
 rule_held : (tables : Tables) (facts : Facts) (ifid : IfId) (dir : Dir) (span : TableSpan) → own_tables span tables ≡ tables → (order : List RuleEntry) (at : ℕ) → at < length order
@@ -143,7 +144,7 @@ module _ (model : Model) (tables : Tables) (order : List RuleEntry) (places : Ha
                 (are.each first.0 (omega (arith, upto, other)) facts ifid dir packet matches first.2)
           ]
 
-      pub is_covered : IsNonDecreasing others → IsCoveredBy (reading_at tables order at) others
+      pub is_covered : IsStrictlyIncreasing others → IsCoveredBy (reading_at tables order at) others
       is_covered ascending = record { each = covered; needed = are.needed; ascending = ascending }
 
       pub is_unmatched : others ≡ [] → IsUnmatched (reading_at tables order at)

@@ -1,7 +1,7 @@
 -- What would be done without a rule that decides on some packet.
 use Rattle.std.proofs.Common.{◌≡◌, ℕ, zero, suc, ◌+◌, ◌-◌, ◌<◌, ◌≤◌, ◌&&◌, Bool, true, false, List, [], ◌∷◌, ◌++◌, Option, Some, None, Result, Ok, Err, IfOk, IfSome, is_some}
 use Rattle.std.proofs.Common.{length, get_or, slice_get, drop, refl, sym, subst, ap, ◌∙◌, inl, inr, arith}
-use Rattle.std.specs.{List.Sorted.{IsNonDecreasing, IsPermutation}}
+use Rattle.std.specs.{List.Sorted.{IsStrictlyIncreasing, IsPermutation}}
 use Rattle.std.proofs.lemmas.Bool.{and_from, and_parts, cases_eq, false≢true}
 use Rattle.std.proofs.lemmas.List.{length-drop}
 use Rattle.std.proofs.lemmas.List.Elements.{All-push, Contains-push}
@@ -19,7 +19,8 @@ use Rattle.npf_judge.specs.Order.{decider_in, entry_place, is_first, meets_entry
 use Rattle.npf_judge.proofs.FirstLemmas.{decides_from, first_found, some_first}
 use Rattle.npf_lint.specs.declared.found.Replacement.{Replacement}
 use Rattle.npf_lint.specs.Finding.{IsAmong, HasForAnswer, IsLeftTo, IsNeededFor, IsOneRuleOf, IsReplacedBy, effect_at_place}
-use Rattle.npf_lint.specs.Order.{AreSuccessors, AreLeftAlike, AreOwn, HasRulePlaces, IsLeftAt, IsOtherwise, IsRulePlace, IsRuleOrder, rules_behind, effect_by_entry, reading_at}
+use Rattle.npf_judge.specs.Place.{HasRulePlaces, IsRulePlace}
+use Rattle.npf_lint.specs.Order.{AreSuccessors, AreLeftAlike, AreOwn, IsLeftAt, IsOtherwise, IsRuleOrder, rules_behind, effect_by_entry, reading_at}
 use Rattle.npf_lint.proofs.OrderLemmas.{first_answered, one_of_more, one_of_permuted}
 
 -- ---- places behind one
@@ -224,7 +225,7 @@ module _ (model : Model) (tables : Tables) (order : List RuleEntry) (places : Ha
       (possible : IsPacket replacement.packet.facts replacement.packet.ifid)
       (first : is_first (meets_entry tables replacement.packet.facts replacement.packet.ifid replacement.packet.dir) order at ≡ true)
       (alike : AreLeftAlike model tables order at (length (rules_behind order at) + 1))
-      (left : AreSuccessors tables order at (length (rules_behind order at)) replacement.others.items) (ascending : IsNonDecreasing replacement.others.items)
+      (left : AreSuccessors tables order at (length (rules_behind order at)) replacement.others.items) (ascending : IsStrictlyIncreasing replacement.others.items)
       (says : replacement.none ≡ is_some found)
       (none : found ≡ None → (packet : CellPacket) → ¬ IsLeftAt tables order at (length (rules_behind order at)) packet)
       (some : IfSome found (IsLeftAt tables order at (length (rules_behind order at)))) where

@@ -2,7 +2,7 @@
 -- decides on a packet.
 use Rattle.std.specs.Prelude.{◌≡◌, ◌==◌, ◌&&◌, ℕ, Bool, true, false, not, Option, Some, None, List, All, Contains, IfSome, length, slice_get, option_and_then}
 use Rattle.std.specs.List.{filter, list_any}
-use Rattle.std.specs.List.Sorted.{IsNonDecreasing}
+use Rattle.std.specs.List.Sorted.{IsStrictlyIncreasing}
 use Rattle.npf_types.specs.declared.direction.Dir.{Dir}
 use Rattle.npf_types.specs.declared.facts.Facts.{Facts}
 use Rattle.npf_types.specs.declared.interface.IfId.{IfId}
@@ -50,7 +50,7 @@ module _ (reading : RuleReading) where
   pub record IsCoveredBy (others : List ℕ) : Type 0 where
     pub each : (facts : Facts) (ifid : IfId) (dir : Dir) → IsPacket facts ifid → reading.matched facts ifid dir ≡ true → IsOneRuleOf others (reading.answer facts ifid dir)
     pub needed : All IsTakenBy others
-    pub ascending : IsNonDecreasing others
+    pub ascending : IsStrictlyIncreasing others
 
   -- it matches none that there can be
   abbrev pub IsUnmatched : Type 0
@@ -87,7 +87,7 @@ module _ (reading : RuleReading) (effect : Option ℕ → RuleEffect) (place : �
         → IsAmong replacement.others.items replacement.none (reading.without packet.facts packet.ifid packet.dir)
     pub needed : All (λ other. IsLeftTo reading place (Some other)) replacement.others.items
     pub none_needed : replacement.none ≡ true → IsLeftTo reading place None
-    pub ascending : IsNonDecreasing replacement.others.items
+    pub ascending : IsStrictlyIncreasing replacement.others.items
 
   -- ---- what is found of the rule
   abbrev pub IsFindingBy : RuleFinding → Type 0

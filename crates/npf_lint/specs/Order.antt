@@ -1,11 +1,11 @@
 -- The same of rules in their order of precedence.
-use Rattle.std.specs.Prelude.{◌≡◌, ◌<◌, ◌+◌, ℕ, Bool, true, Option, Some, None, List, All, IfSome, length, map, slice_get, drop}
+use Rattle.std.specs.Prelude.{◌≡◌, ◌<◌, ◌+◌, ℕ, Bool, true, Option, Some, None, List, All, IfSome, length, map, nat_eq, slice_get, drop}
+use Rattle.std.specs.List.{IsDistinct}
 use Rattle.npf_types.specs.declared.direction.Dir.{Dir}
 use Rattle.npf_types.specs.declared.facts.Facts.{Facts}
 use Rattle.npf_types.specs.declared.interface.IfId.{IfId}
 use Rattle.npf_model.specs.declared.model.Model.{Model}
 use Rattle.npf_model.specs.Describes.{Tables}
-use Rattle.npf_model.specs.Verdict.{rule_at}
 use Rattle.npf_precedence.specs.declared.entry.RuleEntry.{RuleEntry}
 use Rattle.npf_products.specs.declared.packet.CellPacket.{CellPacket}
 use Rattle.npf_products.specs.declared.product.Product.{Product}
@@ -14,6 +14,7 @@ use Rattle.npf_reach.specs.declared.packets.Packets.{Packets}
 use Rattle.npf_reach.specs.Kinds.{IsPacket, held_at}
 use Rattle.npf_reach.specs.Packets.{IsOf, has_packet}
 use Rattle.npf_judge.specs.Order.{decider_in, entry_place, is_first, meets_entry, passes_here}
+use Rattle.npf_judge.specs.Place.{IsRulePlace}
 use Rattle.npf_judge.specs.Products.{entry_product}
 use Rattle.npf_lint.specs.declared.found.RuleFinding.{RuleFinding}
 use Rattle.npf_treatment.specs.declared.rule.RuleEffect.{RuleEffect}
@@ -28,15 +29,10 @@ matches_at tables order at facts ifid dir = passes_here (meets_entry tables fact
 abbrev pub rules_behind : List RuleEntry → ℕ → List RuleEntry
 rules_behind order at = drop (at + 1) order
 
--- the place in the order of inspection of the rule at this place of the order
-abbrev pub IsRulePlace : List RuleEntry → ℕ → ℕ → Type 0
-IsRulePlace order at place = entry_place (slice_get order at) ≡ Some place
-
--- each rule has a place below their number, one of its own, and is the rule that the model has there
-pub record HasRulePlaces (model : Model) (order : List RuleEntry) : Type 0 where
-  pub below : (at place : ℕ) → IsRulePlace order at place → place < length order
-  pub once : (one other place : ℕ) → IsRulePlace order one place → IsRulePlace order other place → one ≡ other
-  pub rules : (at : ℕ) (entry : RuleEntry) → slice_get order at ≡ Some entry → rule_at model entry.place ≡ Some entry.rule.now
+-- they are places of rules in front of this place of the order, each of another rule
+pub record AreNamedOnce (order : List RuleEntry) (before : ℕ) (others : List ℕ) : Type 0 where
+  pub named : All (λ other. (k : ℕ) × (k < before) × IsRulePlace order k other) others
+  pub once : IsDistinct nat_eq others
 
 -- what is done by a rule, or where none decides
 abbrev pub effect_by_entry : Model → Option RuleEntry → RuleEffect

@@ -15,7 +15,7 @@ mod order;
 mod products;
 mod question;
 mod reached;
-mod same;
 
 pub use found::{Replacement, RuleFinding};
+pub use products::{alone, products_of, span_of};
 pub use question::lint;

@@ -1,6 +1,7 @@
 // All packets, and the rules that decide on them.
 use crate::found::RuleFinding;
-use crate::products::{alone, decider_at};
+use crate::products::alone;
+use npf_judge::decider_with;
 use npf_model::Model;
 use npf_precedence::RuleEntry;
 use npf_products::CellPacket;
@@ -19,7 +20,7 @@ pub(crate) struct RuleOrder<'a> {
 
 impl<'a> RuleOrder<'a> {
     ghost use Rattle.std.specs.Prelude.{◌≡◌, ◌≤◌, ◌<◌, ◌&&◌, ℕ, true, false, All, IfOk, IfSome, IsErrOf, Ok, None, length, slice_get};
-    ghost use Rattle.std.specs.List.Sorted.{IsNonDecreasing};
+    ghost use Rattle.std.specs.List.Sorted.{IsStrictlyIncreasing};
     ghost use Rattle.npf_types.specs.declared.direction.Dir.{Dir};
     ghost use Rattle.npf_types.specs.declared.facts.Facts.{Facts};
     ghost use Rattle.npf_types.specs.declared.interface.IfId.{IfId};
@@ -27,7 +28,8 @@ impl<'a> RuleOrder<'a> {
     ghost use Rattle.npf_reach.specs.Kinds.{IsPacket};
     ghost use Rattle.npf_reach.specs.Packets.{IsOf, has_packet};
     ghost use Rattle.npf_judge.specs.Order.{is_first, meets_entry};
-    ghost use Rattle.npf_lint.specs.Order.{AreOthers, HasFindingOf, HasRulePlaces, IsFindingAt, IsRuleOrder, matches_at};
+    ghost use Rattle.npf_judge.specs.Place.{HasRulePlaces};
+    ghost use Rattle.npf_lint.specs.Order.{AreOthers, HasFindingOf, IsFindingAt, IsRuleOrder, matches_at};
 
     /// What is found of each rule, by its place in the order of inspection.
     ///
@@ -115,7 +117,7 @@ impl<'a> RuleOrder<'a> {
         ensures most { steps.new.most ≡ steps.old.most }
         ensures rises { steps.old.taken ≤ steps.new.taken }
     {
-        let place = decider_at(0, self.order.len(), at);
+        let place = decider_with(0, self.order.len(), at);
         let left = among.narrow(alloc, place, steps)?;
         left.packet(alloc, steps)
     }
@@ -137,8 +139,9 @@ impl<'a> RuleOrder<'a> {
         requires within { at < length self.now.order.now }
         requires matched { (facts : Facts) (ifid : IfId) (dir : Dir) → IsPacket facts ifid
             → has_packet matched.now facts ifid dir ≡ matches_at self.now.packets.tables.now self.now.order.now at facts ifid dir }
+        requires places { HasRulePlaces self.now.model.now self.now.order.now }
         ensures others { IfOk result (λ others. AreOthers self.now.packets.tables.now self.now.order.now at at others.items) }
-        ensures ascending { IfOk result (λ others. IsNonDecreasing others.items) }
+        ensures ascending { IfOk result (λ others. IsStrictlyIncreasing others.items) }
         ensures spent { IsErrOf result Stopped.Spent → IsSpent steps.new }
         ensures most { steps.new.most ≡ steps.old.most }
         ensures rises { steps.old.taken ≤ steps.new.taken }

@@ -1,5 +1,5 @@
 // What the question is put together from.
-ghost use Rattle.std.specs.Prelude.{◌≡◌, ◌≤◌, ◌<◌, ◌+◌, ◌^◌, IfOk, length, map};
+ghost use Rattle.std.specs.Prelude.{◌≡◌, ◌<◌, IfOk, length, map};
 ghost use Rattle.npf_judge.specs.Products.{entry_product};
 
 use npf_precedence::RuleEntry;
@@ -9,7 +9,7 @@ use npf_types::{List, NoMemory, Prefix};
 use std::alloc::Global;
 
 /// All of these tables.
-pub(crate) fn span_of(tables: &[List<Prefix>]) -> TableSpan
+pub fn span_of(tables: &[List<Prefix>]) -> TableSpan
     ensures first { result.first ≡ 0 }
     ensures count { result.count ≡ length tables.now }
 {
@@ -20,7 +20,7 @@ pub(crate) fn span_of(tables: &[List<Prefix>]) -> TableSpan
 }
 
 /// The rules of the order, of a configuration with these tables.
-pub(crate) fn products_of<'a>(
+pub fn products_of<'a>(
     alloc: Global,
     tables: TableSpan,
     order: &[RuleEntry<'a>],
@@ -37,23 +37,8 @@ pub(crate) fn products_of<'a>(
     Ok(products)
 }
 
-/// A place of a list whose items have the numbers from `first` on.
-pub(crate) fn decider_at(first: usize, count: usize, place: usize) -> Decider
-    requires within { place ≤ count }
-    requires bounded { first + count < 2 ^ 64 }
-    ensures first { result.first ≡ first }
-    ensures count { result.count ≡ count }
-    ensures place { result.place ≡ place }
-{
-    Decider {
-        first,
-        count,
-        place,
-    }
-}
-
 /// The item at this place of a list of so many, alone.
-pub(crate) fn alone(count: usize, at: usize) -> Decider
+pub fn alone(count: usize, at: usize) -> Decider
     requires { at < count }
     ensures first { result.first ≡ at }
     ensures count { result.count ≡ 1 }

@@ -3,7 +3,8 @@ ghost use Rattle.std.specs.Prelude.{◌≡◌, ◌≤◌, ◌<◌, ℕ, IfOk, Is
 ghost use Rattle.npf_steps.specs.Spent.{IsSpent};
 ghost use Rattle.npf_reach.specs.Kinds.{AreKindsOf};
 ghost use Rattle.npf_lint.specs.Finding.{AreFindings};
-ghost use Rattle.npf_lint.specs.Order.{AreRuleProducts, HasFindingOf, HasRulePlaces};
+ghost use Rattle.npf_judge.specs.Place.{HasRulePlaces};
+ghost use Rattle.npf_lint.specs.Order.{AreRuleProducts, HasFindingOf};
 
 use crate::found::RuleFinding;
 use crate::order::RuleOrder;

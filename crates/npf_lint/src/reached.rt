@@ -1,18 +1,17 @@
 // What would be done without a rule that decides on some packet.
 use crate::found::{Replacement, RuleFinding};
 use crate::order::RuleOrder;
-use crate::products::decider_at;
-use crate::same::is_same;
+use npf_judge::decider_with;
 use npf_precedence::RuleEntry;
 use npf_products::CellPacket;
 use npf_reach::Packets;
 use npf_steps::{Steps, Stopped};
-use npf_treatment::{NO_RULE, RuleEffect, rule_effect};
+use npf_treatment::{NO_RULE, RuleEffect, is_same, rule_effect};
 use std::alloc::Global;
 
 impl<'a> RuleOrder<'a> {
     ghost use Rattle.std.specs.Prelude.{◌≡◌, ◌≤◌, ◌<◌, ◌+◌, ◌&&◌, ℕ, true, false, Option, IfOk, IfSome, IsErrOf, Ok, None, length, slice_get, option_copied};
-    ghost use Rattle.std.specs.List.Sorted.{IsNonDecreasing};
+    ghost use Rattle.std.specs.List.Sorted.{IsStrictlyIncreasing};
     ghost use Rattle.npf_types.specs.declared.direction.Dir.{Dir};
     ghost use Rattle.npf_types.specs.declared.facts.Facts.{Facts};
     ghost use Rattle.npf_types.specs.declared.interface.IfId.{IfId};
@@ -20,7 +19,8 @@ impl<'a> RuleOrder<'a> {
     ghost use Rattle.npf_reach.specs.Kinds.{IsPacket};
     ghost use Rattle.npf_reach.specs.Packets.{IsOf, has_packet};
     ghost use Rattle.npf_judge.specs.Order.{is_first, meets_entry};
-    ghost use Rattle.npf_lint.specs.Order.{AreSuccessors, AreLeftAlike, AreOwn, HasRulePlaces, IsFindingAt, IsLeftAt, IsOtherwise, IsRuleOrder, rules_behind, effect_by_entry};
+    ghost use Rattle.npf_judge.specs.Place.{HasRulePlaces};
+    ghost use Rattle.npf_lint.specs.Order.{AreSuccessors, AreLeftAlike, AreOwn, IsFindingAt, IsLeftAt, IsOtherwise, IsRuleOrder, rules_behind, effect_by_entry};
 
     /// What is found of the rule at this place of the order, which decides on this packet.
     ///
@@ -69,7 +69,7 @@ impl<'a> RuleOrder<'a> {
         ensures most { steps.new.most ≡ steps.old.most }
         ensures rises { steps.old.taken ≤ steps.new.taken }
     {
-        let place = decider_at(0, self.order.len(), at);
+        let place = decider_with(0, self.order.len(), at);
         let packets = self.packets.narrow(alloc, place, steps)?;
         Ok(packets)
     }
@@ -96,7 +96,7 @@ impl<'a> RuleOrder<'a> {
         ensures most { steps.new.most ≡ steps.old.most }
         ensures rises { steps.old.taken ≤ steps.new.taken }
     {
-        let place = decider_at(at + 1, self.order.len() - at - 1, next);
+        let place = decider_with(at + 1, self.order.len() - at - 1, next);
         let left = own.narrow(alloc, place, steps)?;
         left.packet(alloc, steps)
     }
@@ -148,8 +148,9 @@ impl<'a> RuleOrder<'a> {
         requires is { IsRuleOrder self.now.order.now self.now.packets }
         requires within { at < length self.now.order.now }
         requires own { AreOwn self.now.packets self.now.order.now at own.now }
+        requires places { HasRulePlaces self.now.model.now self.now.order.now }
         ensures left { IfOk result (λ others. AreSuccessors self.now.packets.tables.now self.now.order.now at (length (rules_behind self.now.order.now at)) others.items) }
-        ensures ascending { IfOk result (λ others. IsNonDecreasing others.items) }
+        ensures ascending { IfOk result (λ others. IsStrictlyIncreasing others.items) }
         ensures spent { IsErrOf result Stopped.Spent → IsSpent steps.new }
         ensures most { steps.new.most ≡ steps.old.most }
         ensures rises { steps.old.taken ≤ steps.new.taken }

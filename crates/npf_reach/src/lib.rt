@@ -5,6 +5,7 @@
 //
 // The contract (specs/Packets): packets that are narrowed are exactly those of the old ones on which the decider decides, by what the products
 // mean; and `packet` gives one of them, which there can be, or none exactly where there is none, or ends because its steps were spent.
+// `is_alike` says of two products that they hold of the same ones.
 #![tactic(auto)]
 
 mod cells;

@@ -16,7 +16,7 @@ pub struct Packets<'a> {
 }
 
 impl<'a> Packets<'a> {
-    ghost use Rattle.std.specs.Prelude.{◌≡◌, ◌≤◌, ◌+◌, ◌&&◌, true, false, IfOk, IfSome, IsErrOf, Ok, None, length};
+    ghost use Rattle.std.specs.Prelude.{◌≡◌, ◌≤◌, ◌<◌, ◌+◌, ◌&&◌, true, false, IfOk, IfSome, IsErrOf, Ok, None, length};
     ghost use Rattle.npf_types.specs.declared.direction.Dir.{Dir};
     ghost use Rattle.npf_types.specs.declared.facts.Facts.{Facts};
     ghost use Rattle.npf_types.specs.declared.interface.IfId.{IfId};
@@ -101,5 +101,21 @@ impl<'a> Packets<'a> {
             }
         }
         Ok(None)
+    }
+
+    /// Whether two products surely hold of the same ones of the packets.
+    pub fn is_alike(&self, one: usize, other: usize) -> bool
+        requires of { IsOf self.now.tables.now self.now.products.now self.now }
+        requires one { one < length self.now.products.now }
+        requires other { other < length self.now.products.now }
+        ensures { result ≡ true → (facts : Facts) (ifid : IfId) (dir : Dir) → IsPacket facts ifid → has_packet self.now facts ifid dir ≡ true
+            → held_at self.now.tables.now self.now.products.now facts ifid dir one ≡ held_at self.now.tables.now self.now.products.now facts ifid dir other }
+    {
+        for part in &self.parts {
+            if !part.is_alike(one, other) {
+                return false;
+            }
+        }
+        true
     }
 }

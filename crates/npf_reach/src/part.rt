@@ -19,7 +19,7 @@ pub(crate) struct KindPart<'a> {
 }
 
 impl<'a> KindPart<'a> {
-    ghost use Rattle.std.specs.Prelude.{◌≡◌, ◌≤◌, ◌+◌, ◌&&◌, true, false, IfOk, IfSome, IsErrOf, Ok, None};
+    ghost use Rattle.std.specs.Prelude.{◌≡◌, ◌≤◌, ◌<◌, ◌+◌, ◌&&◌, true, false, IfOk, IfSome, IsErrOf, Ok, None};
     ghost use Rattle.npf_types.specs.declared.direction.Dir.{Dir};
     ghost use Rattle.npf_types.specs.declared.facts.Facts.{Facts};
     ghost use Rattle.npf_types.specs.declared.interface.IfId.{IfId};
@@ -80,5 +80,16 @@ impl<'a> KindPart<'a> {
             return Ok(None);
         };
         Ok(Some(self.cells.space.packet_of(&cell)))
+    }
+
+    /// Whether the boxes of two products are the same, so that both hold of the same packets of the kind.
+    pub fn is_alike(&self, one: usize, other: usize) -> bool
+        requires one { one < product_count self.now.cells.now.space }
+        requires other { other < product_count self.now.cells.now.space }
+        ensures { result ≡ true → (facts : Facts) (ifid : IfId) (dir : Dir) → IsPacket facts ifid → part_has self.now facts ifid dir ≡ true
+            → is_met_by self.now.cells.now facts ifid dir one ≡ is_met_by self.now.cells.now facts ifid dir other }
+    {
+        let boxes = &self.cells.boxes;
+        boxes.get(one) == boxes.get(other)
     }
 }

@@ -1,6 +1,7 @@
 use Rattle.std.proofs.Common.{◌≡◌, map, ap, ◌∙◌}
 use Rattle.npf_precedence.specs.{Entry.ordered_rule, Precedence.in_order}
-use Rattle.npf_lint.proofs.FindingLemmas.{are_findings, has_places}
+use Rattle.npf_judge.proofs.PlaceLemmas.{has_places}
+use Rattle.npf_lint.proofs.FindingLemmas.{are_findings}
 use Rattle.npf_lint.proofs.question.lint.Goals as goal
 
 pub lint_order-requires : goal.lint_order-requires

@@ -2,7 +2,7 @@ use Rattle.std.proofs.Common.{◌<◌, length, ap, refl, ◌∙◌, arith}
 use Rattle.std.proofs.lemmas.List.{length-set}
 use Rattle.std.proofs.lemmas.Option.{slice_get_read}
 use Rattle.npf_judge.specs.Order.{entry_place}
-use Rattle.npf_lint.specs.Order.{IsRulePlace}
+use Rattle.npf_judge.specs.Place.{IsRulePlace}
 use Rattle.npf_lint.proofs.OrderLemmas.{findings_more}
 use Rattle.npf_lint.proofs.order.RuleOrder.findings.Goals as goal
 

@@ -3,10 +3,21 @@ use Rattle.std.proofs.lemmas.List.Sorted.{IsNonDecreasingBy-from_sort}
 use Rattle.std.proofs.lemmas.Option.{slice_get_read}
 use Rattle.npf_precedence.specs.declared.entry.RuleEntry.{RuleEntry}
 use Rattle.npf_judge.specs.Order.{entry_place}
-use Rattle.npf_lint.specs.Order.{AreOthers, IsRulePlace}
-use Rattle.npf_lint.proofs.OrderLemmas.{none_there, others_found, others_same, others_sorted}
+use Rattle.npf_judge.specs.Place.{IsRulePlace}
+use Rattle.npf_lint.specs.Order.{AreNamedOnce, AreOthers}
+use Rattle.npf_lint.proofs.OnceLemmas.{named_more, named_rise, named_same, none_named}
+use Rattle.npf_lint.proofs.OrderLemmas.{no_others, none_there, others_found, others_same, others_sorted}
 use Rattle.npf_lint.proofs.order.RuleOrder.others.Goals as goal
 use Rattle.npf_lint.proofs.order.RuleOrder.others.Goals.{then-is_some+in_ok-push, else-is_some}
+
+pub loop-before-init : goal.loop-before-init
+loop-before-init c = record {
+  others = subst (AreOthers c.args.self.now.packets.tables.now c.args.self.now.order.now c.args.at 0) (sym c.new-others.ensures.items)
+      (no_others c.args.self.now.packets.tables.now c.args.self.now.order.now c.args.at);
+  once = subst (AreNamedOnce c.args.self.now.order.now 0) (sym c.new-others.ensures.items) (none_named c.args.self.now.order.now 0);
+  most = refl;
+  rises = omega arith;
+}
 
 pub loop-before-preserved : goal.loop-before-preserved
 loop-before-preserved c =
@@ -28,6 +39,7 @@ loop-before-preserved c =
             others = subst (AreOthers tables order c.args.at (before + 1)) (sym items)
                 (others_found tables order c.args.at before c.args.matched.now others c.requires.matched inv.others place found (sym c.is_some.ensures ∙ w.if-is_some.true) here
                 c.in_ok-decided.ensures.possible c.in_ok-decided.ensures.found);
+            once = subst (AreNamedOnce order (before + 1)) (sym items) (named_more order before others inv.once c.args.self.now.model.now place c.requires.places here);
             most = most;
             rises = omega (arith, c.decided.ensures.rises, inv.rises);
           }
@@ -35,6 +47,7 @@ loop-before-preserved c =
         others = subst (AreOthers tables order c.args.at (before + 1)) (sym (ap (λ (v : Vec ℕ Global). v.items) w.others-is))
             (others_same tables order c.args.at before c.args.matched.now others c.requires.matched inv.others
             (c.in_ok-decided.ensures.none (ap Ok (none_there found (sym c.is_some.ensures ∙ w.if-is_some.false)))));
+        once = subst (AreNamedOnce order (before + 1)) (sym (ap (λ (v : Vec ℕ Global). v.items) w.others-is)) (named_same order before others inv.once);
         most = most;
         rises = omega (arith, c.decided.ensures.rises, inv.rises);
       }
@@ -48,4 +61,6 @@ returns-clause-others c =
     c.sort_unstable.ensures.permutation c.loop-before.invariant.others)
 
 pub returns-clause-ascending : goal.returns-clause-ascending
-returns-clause-ascending c = IsNonDecreasingBy-from_sort (λ n. n) c.sort_unstable.new.self.items c.sort_unstable.ensures.sorted
+returns-clause-ascending c =
+    named_rise c.args.self.now.order.now c.loop-before.before c.loop-before.others.items c.loop-before.invariant.once c.sort_unstable.new.self.items
+    c.sort_unstable.ensures.permutation (IsNonDecreasingBy-from_sort (λ n. n) c.sort_unstable.new.self.items c.sort_unstable.ensures.sorted)

@@ -3,5 +3,5 @@ use Rattle.npf_lint.proofs.order.RuleOrder.own.Goals as goal
 
 pub returns-clause-own : goal.returns-clause-own
 returns-clause-own c =
-    are_own c.args.self.now.order.now c.args.self.now.packets c.in_ok-packets.packets c.decider_at-place.result c.args.at c.requires.is
-    c.decider_at-place.ensures.first c.decider_at-place.ensures.count c.decider_at-place.ensures.place c.in_ok-packets.ensures.of c.in_ok-packets.ensures.narrowed
+    are_own c.args.self.now.order.now c.args.self.now.packets c.in_ok-packets.packets c.decider_with-place.result c.args.at c.requires.is
+    c.decider_with-place.ensures.first c.decider_with-place.ensures.count c.decider_with-place.ensures.place c.in_ok-packets.ensures.of c.in_ok-packets.ensures.narrowed

@@ -1,12 +1,12 @@
 // Whether two rules do the same.
 ghost use Rattle.std.specs.Prelude.{◌≡◌, true, false};
 
+use crate::rule::RuleEffect;
 use npf_model::StateOpt;
-use npf_treatment::RuleEffect;
 use npf_types::{Action, Name, Return};
 
 /// Whether what two rules do is the same.
-pub(crate) fn is_same(one: &RuleEffect, other: &RuleEffect) -> bool
+pub fn is_same(one: &RuleEffect, other: &RuleEffect) -> bool
     ensures same { result ≡ true → one.now ≡ other.now }
     ensures other { result ≡ false → ¬ one.now ≡ other.now }
 {

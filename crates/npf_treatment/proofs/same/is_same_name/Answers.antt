@@ -3,7 +3,7 @@ use Rattle.std.specs.Str.{bytes_eq}
 use Rattle.std.proofs.lemmas.Bool.{and_parts, eqb-true}
 use Rattle.std.proofs.lemmas.Slice.Eq.{bytes_eq-Decides}
 use Rattle.npf_types.proofs.NameLemmas.{Name-same}
-use Rattle.npf_lint.proofs.same.is_same_name.Goals as goal
+use Rattle.npf_treatment.proofs.same.is_same_name.Goals as goal
 
 pub returns-clause-same : goal.returns-clause-same
 returns-clause-same c = λ is.

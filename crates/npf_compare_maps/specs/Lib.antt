@@ -1,0 +1,2 @@
+pub mod MapDifference
+pub mod Side
