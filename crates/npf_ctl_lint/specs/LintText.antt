@@ -7,12 +7,9 @@ use Rattle.npf_lint.specs.declared.found.Replacement.{Replacement}
 use Rattle.npf_lint.specs.declared.found.RuleFinding.{RuleFinding}
 use Rattle.npf_lint.specs.declared.found.RuleFinding.TheVariants as Found
 use Rattle.npf_lint.specs.Finding.{AreFindings}
+use Rattle.npf_ctl_query.specs.QueryText.{ordinal_text}
 use Rattle.npf_ctl_lint.specs.declared.text.Lint.{Lint}
 use Rattle.npf_ctl_lint.specs.declared.text.Lint.TheVariants.{Dead, Redundant}
-
--- a place, which counts from 0, by its number from 1
-unfoldable pub ordinal_text : ℕ → List ℕ
-ordinal_text place = decimal (place + 1)
 
 abbrev pub places_text : List ℕ → List ℕ
 places_text places = flat_map (λ place. codes " " ++ ordinal_text place) places

@@ -1,8 +1,8 @@
 // The text of findings.
 ghost use Rattle.std.specs.Prelude.{◌≡◌, ◌≤◌, ◌<◌, ◌^◌, ◌++◌, OnOk, IfOk, codes, length};
-ghost use Rattle.npf_ctl_lint.specs.LintText.{lint_count, finding_line, finding_lines, findings_text, lint_of, none_words, ordinal_text, places_text, redundant_line};
+ghost use Rattle.npf_ctl_lint.specs.LintText.{lint_count, finding_line, finding_lines, findings_text, lint_of, none_words, places_text, redundant_line};
 
-use itoa::Buffer;
+use npf_ctl_query::write_ordinal;
 use npf_lint::{Replacement, RuleFinding};
 use npf_text::{write_counted, write_text};
 use npf_types::NoMemory;
@@ -121,15 +121,5 @@ fn write_places(into: &mut Vec<u8>, places: &[usize]) -> Result<(), NoMemory>
         write_text(into, " ")?;
         write_ordinal(into, *place)?;
     }
-    Ok(())
-}
-
-// Appends the number, from 1, of a place that counts from 0.
-#[tactic(auto, unfolding(crate::specs::LintText::ordinal_text))]
-fn write_ordinal(into: &mut Vec<u8>, place: usize) -> Result<(), NoMemory>
-    ensures { OnOk result (into.new.items ≡ into.old.items ++ ordinal_text place) }
-{
-    let mut digits = Buffer::new();
-    into.extend_from_slice(digits.format(place as u128 + 1).as_bytes())?;
     Ok(())
 }

@@ -19,6 +19,7 @@ use Rattle.npf_ctl_messages.specs.declared.fault.Quantity.{Quantity}
 use Rattle.npf_ctl_messages.specs.declared.fault.Quantity.TheVariants as Quantities
 use Rattle.npf_ctl_messages.specs.declared.fault.SavedRefusal.{SavedRefusal}
 use Rattle.npf_ctl_messages.specs.declared.fault.SavedRefusal.TheVariants.{BadSaved, OtherInterfaces, TooManySaved, SavedNoNode}
+use Rattle.npf_ctl_messages.specs.declared.limit.TheConstants.{MAX_PAIRS, MAX_WITNESSES}
 
 abbrev pub status_of_fault : CommandFault → ℕ
 status_of_fault NoMemory = 1
@@ -45,7 +46,7 @@ most_excess Entries = MAX_TABLE_ENTRIES
 most_excess Weight = MAX_RULE_WEIGHT
 most_excess Instructions = MAX_INSTRUCTIONS
 
--- the most that a run may have of it
+-- the most that a run or an answer may have of it
 abbrev pub most_of : Quantity → ℕ
 most_of Quantities.Captures = MAX_CAPTURES
 most_of Quantities.Phases = MAX_PHASES
@@ -53,6 +54,8 @@ most_of Quantities.Changes = MAX_CHANGES
 most_of Quantities.Interfaces = MAX_INTERFACES
 most_of Quantities.CaptureBytes = MAX_BYTES_OF_CAPTURES
 most_of Quantities.Packets = MAX_PACKETS
+most_of Quantities.Pairs = MAX_PAIRS
+most_of Quantities.Witnesses = MAX_WITNESSES
 
 abbrev pub quantity_name : Quantity → List ℕ
 quantity_name Quantities.Captures = codes "captures"
@@ -61,6 +64,8 @@ quantity_name Quantities.Changes = codes "changes"
 quantity_name Quantities.Interfaces = codes "interfaces"
 quantity_name Quantities.CaptureBytes = codes "capture-bytes"
 quantity_name Quantities.Packets = codes "packets"
+quantity_name Quantities.Pairs = codes "pairs"
+quantity_name Quantities.Witnesses = codes "witnesses"
 
 -- a number and a name, with a space between them
 abbrev pub numbered_text : ℕ → List ℕ → List ℕ

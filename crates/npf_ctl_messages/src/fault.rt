@@ -163,7 +163,7 @@ impl SavedRefusal {
     }
 }
 
-/// What a run may have only so many of.
+/// What a run, or the answer to a question, may have only so many of.
 #[derive(Clone, Copy, Debug, PartialEq, Eq)]
 pub enum Quantity {
     Captures,
@@ -174,6 +174,10 @@ pub enum Quantity {
     /// Bytes of all captures.
     CaptureBytes,
     Packets,
+    /// Pairs of rules or of maps by which two configurations treat a packet otherwise.
+    Pairs,
+    /// Packets of an answer that are written to files.
+    Witnesses,
 }
 
 impl CommandFault {

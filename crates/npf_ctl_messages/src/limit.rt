@@ -1,4 +1,4 @@
-// The greatest number of each thing that a line tells, and the name of what a run has.
+// The greatest number of each thing that a line tells, and the name of what a run or an answer has.
 ghost use Rattle.std.specs.Prelude.{◌≡◌};
 ghost use Rattle.npf_ctl_messages.specs.Message.{most_excess, most_of, quantity_name};
 
@@ -9,6 +9,12 @@ use npf_types::limits::{
     MAX_LIST_ELEMENTS, MAX_MAPS, MAX_PACKETS, MAX_PHASES, MAX_PROCEDURES, MAX_RULE_WEIGHT,
     MAX_RULES, MAX_TABLE_ENTRIES, MAX_TABLES,
 };
+
+/// Pairs of rules and of maps that a comparison of two configurations tells.
+pub const MAX_PAIRS: usize = 65_536;
+
+/// Packets of an answer that are written to files.
+pub const MAX_WITNESSES: usize = 256;
 
 // The most that a configuration may have of it.
 pub(crate) fn most_excess(excess: Excess) -> u64
@@ -27,7 +33,7 @@ pub(crate) fn most_excess(excess: Excess) -> u64
     most as u64
 }
 
-// The most that a run may have of it.
+// The most that a run or an answer may have of it.
 pub(crate) fn most_of(what: Quantity) -> u64
     ensures { result ≡ most_of what }
 {
@@ -38,6 +44,8 @@ pub(crate) fn most_of(what: Quantity) -> u64
         Quantity::Interfaces => MAX_INTERFACES,
         Quantity::CaptureBytes => MAX_BYTES_OF_CAPTURES,
         Quantity::Packets => MAX_PACKETS,
+        Quantity::Pairs => MAX_PAIRS,
+        Quantity::Witnesses => MAX_WITNESSES,
     };
     most as u64
 }
@@ -52,5 +60,7 @@ pub(crate) fn quantity_name(what: Quantity) -> &'static str
         Quantity::Interfaces => "interfaces",
         Quantity::CaptureBytes => "capture-bytes",
         Quantity::Packets => "packets",
+        Quantity::Pairs => "pairs",
+        Quantity::Witnesses => "witnesses",
     }
 }

@@ -18,6 +18,10 @@ use Rattle.npf_ctl_messages.specs.declared.fault.CommandFault.{CommandFault}
 use Rattle.npf_ctl_messages.specs.declared.fault.CommandFault.TheVariants.{NoMemory, Steps}
 use Rattle.npf_ctl_query.specs.Decision.{rule_word}
 
+-- a place, which counts from 0, by its number from 1
+unfoldable pub ordinal_text : ℕ → List ℕ
+ordinal_text place = decimal (place + 1)
+
 -- a packet where it passes, and the line's end
 abbrev pub packet_tail : List Iface → CellPacket → List ℕ
 packet_tail ifaces packet = witness_text ifaces packet.facts packet.ifid packet.dir ++ codes "\n"

@@ -6,7 +6,7 @@ use npf_model::{Rule, StateOpt};
 use npf_types::{Decision, Return};
 
 /// The word of what the rule decides.
-pub(crate) fn rule_word(rule: &Rule) -> &'static str
+pub fn rule_word(rule: &Rule) -> &'static str
     ensures { result.now ≡ decision_word rule.now.decision rule.now.state }
 {
     match rule.decision {

@@ -1,9 +1,10 @@
 // The text of an answer.
 ghost use Rattle.std.specs.Prelude.{◌≡◌, ◌<◌, ◌++◌, Some, OnOk, IfOk, length};
 ghost use Rattle.npf_model.specs.Verdict.{all_rules};
-ghost use Rattle.npf_ctl_query.specs.QueryText.{HasRules, IsDecider, answer_text, none_line, packet_line, packet_tail, decider_line, decider_lines, says_line};
+ghost use Rattle.npf_ctl_query.specs.QueryText.{HasRules, IsDecider, answer_text, none_line, ordinal_text, packet_line, packet_tail, decider_line, decider_lines, says_line};
 
 use crate::decision::rule_word;
+use itoa::Buffer;
 use npf_judge::{ClassSays, Deciders};
 use npf_model::{Iface, Ifaces};
 use npf_products::CellPacket;
@@ -117,7 +118,8 @@ fn write_none(
     write_packet(alloc, into, ifaces, &packet)
 }
 
-fn write_packet(
+/// Appends the packet in the words of a class, and the line's end.
+pub fn write_packet(
     alloc: Global,
     into: &mut Vec<u8>,
     ifaces: &[Iface],
@@ -127,6 +129,16 @@ fn write_packet(
 {
     write_witness(alloc, into, ifaces, &packet.facts, packet.ifid, packet.dir)?;
     write_text(into, "\n")
+}
+
+/// Appends the number, from 1, of a place that counts from 0.
+#[tactic(auto, unfolding(crate::specs::QueryText::ordinal_text))]
+pub fn write_ordinal(into: &mut Vec<u8>, place: usize) -> Result<(), NoMemory>
+    ensures { OnOk result (into.new.items ≡ into.old.items ++ ordinal_text place) }
+{
+    let mut digits = Buffer::new();
+    into.extend_from_slice(digits.format(place as u128 + 1).as_bytes())?;
+    Ok(())
 }
 
 fn says_line(says: ClassSays) -> &'static str

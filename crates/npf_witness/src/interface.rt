@@ -9,7 +9,7 @@ use npf_types::{IfId, Name, NoMemory};
 use std::alloc::Global;
 
 /// Appends the name of the interface of this number, or a name that no interface has where none has the number.
-pub(crate) fn write_interface(
+pub fn write_interface(
     alloc: Global,
     into: &mut Vec<u8>,
     ifaces: &[Iface],

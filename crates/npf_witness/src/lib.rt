@@ -12,4 +12,5 @@ mod address;
 mod interface;
 mod witness;
 
+pub use interface::write_interface;
 pub use witness::write_witness;

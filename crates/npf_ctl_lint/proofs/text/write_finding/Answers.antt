@@ -1,5 +1,6 @@
 use Rattle.std.proofs.Common.{◌++◌, codes, sym, ap, ◌∙◌}
-use Rattle.npf_ctl_lint.specs.LintText.{finding_line, ordinal_text, places_text}
+use Rattle.npf_ctl_lint.specs.LintText.{finding_line, places_text}
+use Rattle.npf_ctl_query.specs.QueryText.{ordinal_text}
 use Rattle.npf_ctl_lint.proofs.TextLemmas.{then_rest}
 use Rattle.npf_ctl_lint.proofs.text.write_finding.Goals as goal
 

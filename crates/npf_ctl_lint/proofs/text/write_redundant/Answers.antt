@@ -1,5 +1,6 @@
 use Rattle.std.proofs.Common.{◌++◌, codes, ap, ◌∙◌}
-use Rattle.npf_ctl_lint.specs.LintText.{none_words, ordinal_text, places_text}
+use Rattle.npf_ctl_lint.specs.LintText.{none_words, places_text}
+use Rattle.npf_ctl_query.specs.QueryText.{ordinal_text}
 use Rattle.npf_ctl_lint.proofs.TextLemmas.{then_rest}
 use Rattle.npf_ctl_lint.proofs.text.write_redundant.Goals as goal
 
