@@ -2,9 +2,9 @@
 use Rattle.std.proofs.Common.{◌≡◌, ◌∙◌, Bool, false, true, List, sym, subst}
 use Rattle.clap.specs.Words.{Row, Text}
 use Rattle.npf_shelf.proofs.OptionLemmas.{Some-injective}
-use Rattle.npf_ctl_words.specs.CommandLine.{SaysCommand, TellsCheck, TellsCommand, TellsExplain, TellsLint, TellsLoad, TellsQuery, TellsRun, command_name, rows_in}
-use Rattle.npf_ctl_words.specs.Laws.{IsSameCheck, IsSameCommand, IsSameExplain, IsSameLint, IsSameLoad, IsSameQuery, IsSameRun}
-use Rattle.npf_ctl_words.specs.declared.command.{CheckWords.CheckWords, ExplainWords.ExplainWords, Invocation.Invocation, LintWords.LintWords, Load.Load, QueryWords.QueryWords, RunWords.RunWords}
+use Rattle.npf_ctl_words.specs.CommandLine.{SaysCommand, TellsCheck, TellsCommand, TellsCompare, TellsExplain, TellsLint, TellsLoad, TellsQuery, TellsRun, command_name, rows_in}
+use Rattle.npf_ctl_words.specs.Laws.{IsSameCheck, IsSameCommand, IsSameCompare, IsSameExplain, IsSameLint, IsSameLoad, IsSameQuery, IsSameRun}
+use Rattle.npf_ctl_words.specs.declared.command.{CheckWords.CheckWords, CompareWords.CompareWords, ExplainWords.ExplainWords, Invocation.Invocation, LintWords.LintWords, Load.Load, QueryWords.QueryWords, RunWords.RunWords}
 use Rattle.npf_ctl_words.specs.declared.command.Invocation.TheVariants as command
 
 same_run : (rows : List Row) (a b : RunWords) → TellsRun rows a → TellsRun rows b → IsSameRun a b
@@ -57,6 +57,14 @@ same_lint rows a b p q = record {
   steps = Some-injective _ _ (sym p.steps ∙ q.steps);
 }
 
+same_compare : (rows : List Row) (a b : CompareWords) → TellsCompare rows a → TellsCompare rows b → IsSameCompare a b
+same_compare rows a b p q = record {
+  old = Some-injective _ _ (sym p.old ∙ q.old);
+  new = Some-injective _ _ (sym p.new ∙ q.new);
+  ifaces = sym p.ifaces ∙ q.ifaces;
+  steps = Some-injective _ _ (sym p.steps ∙ q.steps);
+}
+
 same_command : (rows : List Row) (a b : Invocation) → command_name a ≡ command_name b → TellsCommand rows a → TellsCommand rows b → IsSameCommand a b
 same_command rows (command.Run a) (command.Run b) e p q = same_run rows a b p q
 same_command rows (command.Validate a) (command.Validate b) e p q = same_load rows a b p q
@@ -70,6 +78,7 @@ same_command rows (command.Explain a) (command.Explain b) e p q = same_explain r
 same_command rows (command.Query a) (command.Query b) e p q = same_query rows a b p q
 same_command rows (command.Check a) (command.Check b) e p q = same_check rows a b p q
 same_command rows (command.Lint a) (command.Lint b) e p q = same_lint rows a b p q
+same_command rows (command.Compare a) (command.Compare b) e p q = same_compare rows a b p q
 same_command rows (command.Gen a) (command.Gen b) e p q = Some-injective _ _ (sym p ∙ q)
 same_command rows _ _ e p q = cc
 

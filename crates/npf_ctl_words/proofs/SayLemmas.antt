@@ -7,7 +7,7 @@ use Rattle.clap.specs.{Kinds.{IsAmong, Kinds}, Walk.is_empty, Words.{IsSignedIn,
 use Rattle.clap.specs.declared.{error.kind.ErrorKind.ErrorKind, parser.matches.ArgMatches.ArgMatches}
 use Rattle.npf_types.specs.{NameText.is_name, Named.named, declared.name.Name.Name}
 use Rattle.npf_ctl_words.specs.CommandLine.{SaysCommand, TellsCommand, command_name, iface_named, is_command_line, knows_names, name_in, rows_in, signed_number, takes_words}
-use Rattle.npf_ctl_words.specs.Definitions.{check_command, definition_of, explain_command, gen_command, lint_command, loading_command, number_parser, number_rule}
+use Rattle.npf_ctl_words.specs.Definitions.{check_command, compare_command, definition_of, explain_command, gen_command, lint_command, loading_command, number_parser, number_rule}
 use Rattle.npf_ctl_words.specs.Definitions.{query_command, reasons_command, run_command, spread_rule, steps_rule, word_rule, workers_parser, workers_rule}
 use Rattle.npf_ctl_words.specs.{Values.{HasEachValue, HasValue, IsMatched}, declared.command.{Invocation.Invocation, CommandName.CommandName}}
 use Rattle.npf_ctl_words.specs.declared.fault.WordsFault.{WordsFault}
@@ -151,6 +151,25 @@ pub in_range_of_lint : (rows : List Row) (t : Text) → HasEachValue lint_comman
     → IsUnsignedIn 0 18446744073709551615 t
 in_range_of_lint rows t h found =
     let v = lint_steps rows h in
+    let same : v.0 ≡ t = ap (λ o. unwrap_or o t) (sym v.1 ∙ found) in
+    subst (IsUnsignedIn 0 18446744073709551615) same (v.2 number_parser refl)
+
+pub old_of_compare : (rows : List Row) → HasEachValue compare_command rows → is_some (first_of (codes "old") rows) ≡ true
+old_of_compare rows h = some_value (word_rule (codes "old")) rows (h 0 _ refl refl)
+
+pub new_of_compare : (rows : List Row) → HasEachValue compare_command rows → is_some (first_of (codes "new") rows) ≡ true
+new_of_compare rows h = some_value (word_rule (codes "new")) rows (h 1 _ refl refl)
+
+compare_steps : (rows : List Row) → HasEachValue compare_command rows → HasValue steps_rule rows
+compare_steps rows h = h 3 _ refl refl
+
+pub steps_of_compare : (rows : List Row) → HasEachValue compare_command rows → is_some (first_of (codes "steps") rows) ≡ true
+steps_of_compare rows h = some_value steps_rule rows (compare_steps rows h)
+
+pub in_range_of_compare : (rows : List Row) (t : Text) → HasEachValue compare_command rows → first_of (codes "steps") rows ≡ Some t
+    → IsUnsignedIn 0 18446744073709551615 t
+in_range_of_compare rows t h found =
+    let v = compare_steps rows h in
     let same : v.0 ≡ t = ap (λ o. unwrap_or o t) (sym v.1 ∙ found) in
     subst (IsUnsignedIn 0 18446744073709551615) same (v.2 number_parser refl)
 

@@ -15,6 +15,7 @@ all_free name.Explain = refl
 all_free name.Query = refl
 all_free name.Check = refl
 all_free name.Lint = refl
+all_free name.Compare = refl
 all_free name.Gen = refl
 
 pub all_sound : (n : CommandName) → IsSound (definition_of n)
@@ -27,4 +28,5 @@ all_sound name.Explain = record { plain = refl; negates = refl; rules = refl; di
 all_sound name.Query = record { plain = refl; negates = refl; rules = refl; differ = refl; sets = refl }
 all_sound name.Check = record { plain = refl; negates = refl; rules = refl; differ = refl; sets = refl }
 all_sound name.Lint = record { plain = refl; negates = refl; rules = refl; differ = refl; sets = refl }
+all_sound name.Compare = record { plain = refl; negates = refl; rules = refl; differ = refl; sets = refl }
 all_sound name.Gen = record { plain = refl; negates = refl; rules = refl; differ = refl; sets = refl }

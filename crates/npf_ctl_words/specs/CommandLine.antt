@@ -18,6 +18,7 @@ use Rattle.npf_ctl_words.specs.declared.command.CommandName.TheVariants as name
 use Rattle.npf_ctl_words.specs.declared.command.Invocation.{Invocation}
 use Rattle.npf_ctl_words.specs.declared.command.Invocation.TheVariants as command
 use Rattle.npf_ctl_words.specs.declared.command.CheckWords.{CheckWords}
+use Rattle.npf_ctl_words.specs.declared.command.CompareWords.{CompareWords}
 use Rattle.npf_ctl_words.specs.declared.command.ExplainWords.{ExplainWords}
 use Rattle.npf_ctl_words.specs.declared.command.LintWords.{LintWords}
 use Rattle.npf_ctl_words.specs.declared.command.Load.{Load}
@@ -42,7 +43,8 @@ command_named word =
     else (if bytes_eq word (codes "query") then Some name.Query
     else (if bytes_eq word (codes "check") then Some name.Check
     else (if bytes_eq word (codes "lint") then Some name.Lint
-    else (if bytes_eq word (codes "gen") then Some name.Gen else None)))))))))
+    else (if bytes_eq word (codes "compare") then Some name.Compare
+    else (if bytes_eq word (codes "gen") then Some name.Gen else None))))))))))
 
 -- the command that the first word names
 abbrev pub name_in : List Text → Option CommandName
@@ -110,6 +112,7 @@ command_name (command.Explain _) = name.Explain
 command_name (command.Query _) = name.Query
 command_name (command.Check _) = name.Check
 command_name (command.Lint _) = name.Lint
+command_name (command.Compare _) = name.Compare
 command_name (command.Gen _) = name.Gen
 
 -- the number of digits that may have a plus sign before them
@@ -169,6 +172,13 @@ pub record TellsLint (rows : List Row) (words : LintWords) : Type 0 where
   pub ifaces : first_of (codes "ifaces") rows ≡ given_text words.ifaces
   pub steps : option_map signed_number (first_of (codes "steps") rows) ≡ Some words.steps
 
+-- and of `compare`
+pub record TellsCompare (rows : List Row) (words : CompareWords) : Type 0 where
+  pub old : first_of (codes "old") rows ≡ Some words.old.now
+  pub new : first_of (codes "new") rows ≡ Some words.new.now
+  pub ifaces : first_of (codes "ifaces") rows ≡ given_text words.ifaces
+  pub steps : option_map signed_number (first_of (codes "steps") rows) ≡ Some words.steps
+
 abbrev pub TellsNumber : List Row → ℕ → Type 0
 TellsNumber rows number = option_map signed_number (first_of (codes "number") rows) ≡ Some number
 
@@ -183,6 +193,7 @@ TellsCommand rows (command.Explain words) = TellsExplain rows words
 TellsCommand rows (command.Query words) = TellsQuery rows words
 TellsCommand rows (command.Check words) = TellsCheck rows words
 TellsCommand rows (command.Lint words) = TellsLint rows words
+TellsCommand rows (command.Compare words) = TellsCompare rows words
 TellsCommand rows (command.Gen number) = TellsNumber rows number
 
 -- the command that the words say: it is the first word's, and what `clap` found by its definition is in it

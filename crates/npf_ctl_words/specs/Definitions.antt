@@ -1,4 +1,4 @@
--- The ten commands as `clap` defines them: one simple command each, without subcommands.
+-- The eleven commands as `clap` defines them: one simple command each, without subcommands.
 use Rattle.std.specs.Prelude.{codes, true, Some, [], ◌∷◌, pos}
 use Rattle.clap.specs.Words.{App, Rule, Text, new_app, new_rule, with_rule}
 use Rattle.clap.specs.declared.builder.ValueParser.{ValueParser}
@@ -76,6 +76,12 @@ check_command =
 abbrev pub lint_command : App
 lint_command = with_rule (with_rule (with_rule (new_app (codes "lint")) (word_rule (codes "conf"))) (option_rule (codes "ifaces"))) steps_rule
 
+-- compare OLD NEW [--ifaces FILE] [--steps N]
+abbrev pub compare_command : App
+compare_command =
+    let words = with_rule (with_rule (new_app (codes "compare")) (word_rule (codes "old"))) (word_rule (codes "new")) in
+    with_rule (with_rule words (option_rule (codes "ifaces"))) steps_rule
+
 -- run CONF SCRIPT [--ifaces FILE] [--workers N] [--spread NAME] [--write FILE] [--load FILE] [--save FILE]
 abbrev pub run_command : App
 run_command =
@@ -99,4 +105,5 @@ definition_of name.Explain = explain_command
 definition_of name.Query = query_command
 definition_of name.Check = check_command
 definition_of name.Lint = lint_command
+definition_of name.Compare = compare_command
 definition_of name.Gen = gen_command

@@ -5,6 +5,7 @@ use Rattle.npf_ctl_words.specs.CommandLine.{SaysCommand, given_text}
 use Rattle.npf_ctl_words.specs.declared.command.Invocation.{Invocation}
 use Rattle.npf_ctl_words.specs.declared.command.Invocation.TheVariants as command
 use Rattle.npf_ctl_words.specs.declared.command.CheckWords.{CheckWords}
+use Rattle.npf_ctl_words.specs.declared.command.CompareWords.{CompareWords}
 use Rattle.npf_ctl_words.specs.declared.command.ExplainWords.{ExplainWords}
 use Rattle.npf_ctl_words.specs.declared.command.LintWords.{LintWords}
 use Rattle.npf_ctl_words.specs.declared.command.Load.{Load}
@@ -50,6 +51,12 @@ pub record IsSameLint (a b : LintWords) : Type 0 where
   pub ifaces : given_text a.ifaces ≡ given_text b.ifaces
   pub steps : a.steps ≡ b.steps
 
+pub record IsSameCompare (a b : CompareWords) : Type 0 where
+  pub old : a.old.now ≡ b.old.now
+  pub new : a.new.now ≡ b.new.now
+  pub ifaces : given_text a.ifaces ≡ given_text b.ifaces
+  pub steps : a.steps ≡ b.steps
+
 abbrev pub IsSameCommand : Invocation → Invocation → Type 0
 IsSameCommand (command.Run a) (command.Run b) = IsSameRun a b
 IsSameCommand (command.Validate a) (command.Validate b) = IsSameLoad a b
@@ -61,6 +68,7 @@ IsSameCommand (command.Explain a) (command.Explain b) = IsSameExplain a b
 IsSameCommand (command.Query a) (command.Query b) = IsSameQuery a b
 IsSameCommand (command.Check a) (command.Check b) = IsSameCheck a b
 IsSameCommand (command.Lint a) (command.Lint b) = IsSameLint a b
+IsSameCommand (command.Compare a) (command.Compare b) = IsSameCompare a b
 IsSameCommand (command.Gen a) (command.Gen b) = a ≡ b
 IsSameCommand _ _ = ⊥
 

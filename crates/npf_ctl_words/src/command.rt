@@ -10,7 +10,7 @@ pub enum SpreadWord {
     Flow,
 }
 
-/// The ten names of commands.
+/// The eleven names of commands.
 #[derive(Clone, Copy, Debug, PartialEq, Eq)]
 pub enum CommandName {
     Run,
@@ -22,6 +22,7 @@ pub enum CommandName {
     Query,
     Check,
     Lint,
+    Compare,
     Gen,
 }
 
@@ -107,6 +108,19 @@ pub struct LintWords<'a> {
     pub steps: u64,
 }
 
+/// The configurations that `compare` holds against each other.
+#[derive(Clone, Copy, Debug, PartialEq, Eq)]
+pub struct CompareWords<'a> {
+    /// The old configuration's file.
+    pub old: &'a str,
+    /// The new configuration's file.
+    pub new: &'a str,
+    /// The file of the interfaces' addresses.
+    pub ifaces: Option<&'a str>,
+    /// The most steps that the searches may take.
+    pub steps: u64,
+}
+
 /// A command, with what its words say.
 #[derive(Clone, Copy, Debug, PartialEq, Eq)]
 pub enum Invocation<'a> {
@@ -130,6 +144,8 @@ pub enum Invocation<'a> {
     Check(CheckWords<'a>),
     /// Loads a configuration, and says which of its rules do nothing.
     Lint(LintWords<'a>),
+    /// Loads two configurations, and says which packets they would treat otherwise.
+    Compare(CompareWords<'a>),
     /// Runs the generated input of this number.
     Gen { number: u64 },
 }

@@ -2,16 +2,16 @@
 // whether there is memory or not.
 ghost use Rattle.std.specs.Prelude.{◌≡◌, ◌≤◌, ◌&&◌, IfOk, IfSome, IsErrOf, IsNone, None, Some, codes, false, is_some, option_map, pos, true};
 ghost use Rattle.clap.specs.Words.{IsSignedIn, IsUnsignedIn, first_of, found_of, rows_of};
-ghost use Rattle.npf_ctl_words.specs.CommandLine.{SaysCommand, TellsCheck, TellsCommand, TellsExplain, TellsLint, TellsLoad, TellsNumber, TellsQuery, TellsRun};
+ghost use Rattle.npf_ctl_words.specs.CommandLine.{SaysCommand, TellsCheck, TellsCommand, TellsCompare, TellsExplain, TellsLint, TellsLoad, TellsNumber, TellsQuery, TellsRun};
 ghost use Rattle.npf_ctl_words.specs.CommandLine.{asks_all, command_name, command_named, dir_in, dir_named, iface_in, iface_named, is_command_line};
 ghost use Rattle.npf_ctl_words.specs.CommandLine.{knows_names, name_in, signed_number, spread_in, spread_named, takes_words, word_texts};
-ghost use Rattle.npf_ctl_words.specs.Definitions.{check_command, definition_of, explain_command, gen_command, lint_command, query_command, run_command};
+ghost use Rattle.npf_ctl_words.specs.Definitions.{check_command, compare_command, definition_of, explain_command, gen_command, lint_command, query_command, run_command};
 ghost use Rattle.npf_ctl_words.specs.Values.{HasEachValue, IsMatched};
 ghost use Rattle.npf_ctl_words.specs.declared.command.CommandName.TheVariants.{Why};
 
 use crate::command::{
-    CheckWords, CommandName, ExplainWords, Invocation, LintWords, Load, QueryWords, RunWords,
-    SpreadWord,
+    CheckWords, CommandName, CompareWords, ExplainWords, Invocation, LintWords, Load, QueryWords,
+    RunWords, SpreadWord,
 };
 use crate::definitions::definition;
 use crate::fault::WordsFault;
@@ -69,6 +69,7 @@ fn named(word: &str) -> Option<CommandName>
         "query" => Some(CommandName::Query),
         "check" => Some(CommandName::Check),
         "lint" => Some(CommandName::Lint),
+        "compare" => Some(CommandName::Compare),
         "gen" => Some(CommandName::Gen),
         _ => None,
     }
@@ -118,6 +119,7 @@ fn command_of<'a>(name: CommandName, matches: &ArgMatches<'a>) -> Option<Invocat
         CommandName::Query => Some(Invocation::Query(query_of(matches))),
         CommandName::Check => Some(Invocation::Check(check_of(matches))),
         CommandName::Lint => Some(Invocation::Lint(lint_of(matches))),
+        CommandName::Compare => Some(Invocation::Compare(compare_of(matches))),
         CommandName::Gen => Some(Invocation::Gen {
             number: number_in(matches),
         }),
@@ -232,6 +234,19 @@ fn lint_of<'a>(matches: &ArgMatches<'a>) -> LintWords<'a>
 {
     LintWords {
         conf: value(matches, "conf"),
+        ifaces: given(matches, "ifaces"),
+        steps: any_number(value(matches, "steps")),
+    }
+}
+
+#[tactic(auto, using(crate::proofs::SayLemmas::old_of_compare, crate::proofs::SayLemmas::new_of_compare, crate::proofs::SayLemmas::steps_of_compare, crate::proofs::SayLemmas::in_range_of_compare))]
+fn compare_of<'a>(matches: &ArgMatches<'a>) -> CompareWords<'a>
+    requires { HasEachValue compare_command (rows_of (found_of matches.now)) }
+    ensures { TellsCompare (rows_of (found_of matches.now)) result }
+{
+    CompareWords {
+        old: value(matches, "old"),
+        new: value(matches, "new"),
         ifaces: given(matches, "ifaces"),
         steps: any_number(value(matches, "steps")),
     }

@@ -2,7 +2,7 @@
 ghost use Rattle.std.specs.Prelude.{◌≡◌, IfOk, codes, false};
 ghost use Rattle.clap.specs.Words.{app_of, rule_of};
 ghost use Rattle.npf_ctl_words.specs.Definitions.{definition_of, gen_command, loading_command};
-ghost use Rattle.npf_ctl_words.specs.Definitions.{all_rule, check_command, explain_command, lint_command, number_rule, option_rule, query_command, run_command};
+ghost use Rattle.npf_ctl_words.specs.Definitions.{all_rule, check_command, compare_command, explain_command, lint_command, number_rule, option_rule, query_command, run_command};
 ghost use Rattle.npf_ctl_words.specs.Definitions.{spread_rule, steps_rule, reasons_command, word_rule, workers_rule};
 
 use crate::command::CommandName;
@@ -23,6 +23,7 @@ pub(crate) fn definition<'a>(alloc: Global, name: CommandName) -> Result<Command
         CommandName::Query => query(alloc),
         CommandName::Check => check(alloc),
         CommandName::Lint => lint(alloc),
+        CommandName::Compare => compare(alloc),
         CommandName::Gen => generating(alloc),
     }
 }
@@ -97,6 +98,17 @@ fn lint<'a>(alloc: Global) -> Result<Command<'a>, AllocError>
 {
     let command = Command::new(alloc, "lint")
         .arg(word(alloc, "conf"))?
+        .arg(option(alloc, "ifaces"))?
+        .arg(steps(alloc))?;
+    Ok(command)
+}
+
+fn compare<'a>(alloc: Global) -> Result<Command<'a>, AllocError>
+    ensures { IfOk result (λ c. app_of c ≡ compare_command) }
+{
+    let command = Command::new(alloc, "compare")
+        .arg(word(alloc, "old"))?
+        .arg(word(alloc, "new"))?
         .arg(option(alloc, "ifaces"))?
         .arg(steps(alloc))?;
     Ok(command)

@@ -1,4 +1,4 @@
-// The words of the command line: ten commands, each read by `clap` as one simple command without
+// The words of the command line: eleven commands, each read by `clap` as one simple command without
 // subcommands (docs/npfctl.8, "The command line", has them).
 //
 // The contract: words are refused exactly where the first is missing or names no command, byte for
@@ -15,8 +15,8 @@ mod fault;
 pub mod laws;
 
 pub use command::{
-    CheckWords, CommandName, ExplainWords, Invocation, LintWords, Load, QueryWords, RunWords,
-    SpreadWord,
+    CheckWords, CommandName, CompareWords, ExplainWords, Invocation, LintWords, Load, QueryWords,
+    RunWords, SpreadWord,
 };
 pub use command_line::{name_in, read_words};
 pub use fault::WordsFault;

@@ -39,5 +39,8 @@ check_of-requires c = known c.args.name name.Check (rows_of (found_of c.args.mat
 pub lint_of-requires : goal.lint_of-requires
 lint_of-requires c = known c.args.name name.Lint (rows_of (found_of c.args.matches.now)) c.in-Lint.is c.requires
 
+pub compare_of-requires : goal.compare_of-requires
+compare_of-requires c = known c.args.name name.Compare (rows_of (found_of c.args.matches.now)) c.in-Compare.is c.requires
+
 pub number_in-requires : goal.number_in-requires
 number_in-requires c = known c.args.name name.Gen (rows_of (found_of c.args.matches.now)) c.in-Gen.is c.requires
