@@ -9,10 +9,10 @@ use Rattle.npf_ctl_output.specs.SinkText.{HasPutFault}
 use Rattle.npf_ctl_words.specs.{CommandLine.{SaysCommand, given_text}, declared.command.{Invocation.Invocation, Load.Load}}
 use Rattle.npf_types.specs.declared.limits.TheConstants.{MAX_TEXT_BYTES}
 use Rattle.npf_ctl_input.specs.File.{ReadsFile}
-use Rattle.npf_ctl_words.specs.declared.command.{CheckWords.CheckWords, Invocation.TheVariants.Check}
+use Rattle.npf_ctl_words.specs.declared.command.{CheckWords.CheckWords, CompareWords.CompareWords, Invocation.TheVariants.{Check, Compare}}
 use Rattle.npf_ctl.specs.declared.{questions.ConfigQuestion.ConfigQuestion, findings.Finding.Finding}
 use Rattle.npf_ctl.specs.declared.questions.ConfigQuestion.TheVariants as Asked
-use Rattle.npf_ctl.specs.{Questions.{AnswersQuestion, RefusesQuestion, asking_command, loaded_of_question}, Checks.RefusesCheck, Commands.{load_of_check, loaded_by}, Ends.AnswersIn}
+use Rattle.npf_ctl.specs.{Questions.{AnswersQuestion, RefusesQuestion, asking_command, loaded_of_question}, Checks.RefusesCheck, Comparisons.RefusesComparison, Commands.{load_of_check, load_of_compare, loaded_by}, Ends.AnswersIn}
 use Rattle.npf_ctl.specs.{Faults.{ChangesNoFile, IsUntouched, MeetsFault, PutsNothing}, Reasons.is_explained, Run.Moment, Texts.{IsAskedOf, TextOf}, Top.{DoesCommand, DoesWords, PutsText}}
 use Rattle.npf_ctl.proofs.EndLemmas.{early, unput}
 
@@ -44,6 +44,15 @@ pub unread_check : (words : List (List ℕ)) (before after : Moment) (asked : Ch
 unread_check words before after asked said given config loaded untouched fault told =
     early words before after (λ why. ReadsFile before.files after.files asked.expectations.now MAX_TEXT_BYTES (Err why))
     (λ why comes. MeetsFault.in_asking said refl loaded (RefusesQuestion.check asked refl (RefusesCheck.unread comes)) untouched)
+    untouched.put untouched.files fault told
+
+-- a new configuration isn't loaded
+pub unloaded_new : (words : List (List ℕ)) (before after : Moment) (asked : CompareWords) → SaysCommand words (Compare asked) → (given : List Iface) (config : Configuration) →
+    IsAskedOf before after (load_of_compare asked) given config → IsUntouched before after → (fault : CommandFault) →
+    IfTold (λ why. LoadsFile before.files after.files given asked.new.now (Err why)) fault → MeetsFault words before after fault
+unloaded_new words before after asked said given config loaded untouched fault told =
+    early words before after (λ why. LoadsFile before.files after.files given asked.new.now (Err why))
+    (λ why comes. MeetsFault.in_asking said refl loaded (RefusesQuestion.compare asked refl (RefusesComparison.unloaded comes)) untouched)
     untouched.put untouched.files fault told
 
 module _ (words : List (List ℕ)) (before after : Moment) (command : Invocation) (load : Load) (loads : loaded_by command ≡ Some load)

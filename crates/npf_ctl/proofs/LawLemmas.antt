@@ -13,7 +13,7 @@ use Rattle.npf_ctl_prepare_law.specs.{Laws.{OneLoadAlone, OneRun}, Readings.AreO
 use Rattle.npf_ctl_words.specs.{declared.command.{Invocation.Invocation, Load.Load, RunWords.RunWords}, CommandLine.{SaysCommand, given_text, is_command_line}}
 use Rattle.npf_ctl_words.specs.declared.command.Invocation.TheVariants as Words
 use Rattle.npf_ctl_words.specs.Laws.{IsSameCommand, IsSameLoad, IsSameRun, OneCommand}
-use Rattle.npf_ctl.specs.Commands.{is_question, load_of_check, load_of_explain, load_of_lint, load_of_query, loaded_by, names_of_run, spread_said}
+use Rattle.npf_ctl.specs.Commands.{is_question, load_of_check, load_of_compare, load_of_explain, load_of_lint, load_of_query, loaded_by, names_of_run, spread_said}
 use Rattle.npf_ctl.specs.{Generated.{HoldsWorkload, PreparesOf, generated_names}, Ends.AnswersWords}
 use Rattle.npf_ctl.specs.{Faults.{MeetsFault, PutsFront}, Run.{Moment, PlaysWords}, Starting.StartsRun, Texts.{IsAskedOf, TextOf}}
 use Rattle.npf_ctl.{specs.Top.{HasStatus, CanDo, DoesCommand, DoesWords, IsOk, MustRefuse, RanOutOfNodes}, proofs.EndLemmas.reported_front}
@@ -138,6 +138,7 @@ module _ (words : List (List ℕ)) (before after : Moment) (tree : Tree) (told :
     no_loads (Words.Query w) load said_b loaded = absurd (one words (Words.Run run) (Words.Query w) said said_b)
     no_loads (Words.Check w) load said_b loaded = absurd (one words (Words.Run run) (Words.Check w) said said_b)
     no_loads (Words.Lint w) load said_b loaded = absurd (one words (Words.Run run) (Words.Lint w) said said_b)
+    no_loads (Words.Compare w) load said_b loaded = absurd (one words (Words.Run run) (Words.Compare w) said said_b)
     no_loads (Words.Gen number) load said_b loaded = cc
 
     run_text : (command : Invocation) (finding : Finding) (text : List ℕ) → SaysCommand words command → TextOf before after command finding text → (plan : RunPlan) × OfRun (Ok plan)
@@ -162,6 +163,7 @@ module _ (words : List (List ℕ)) (before after : Moment) (tree : Tree) (told :
     run_does (Words.Query asked) finding said_b does = run_text _ _ _ said_b does.of
     run_does (Words.Check asked) finding said_b does = run_text _ _ _ said_b does.of
     run_does (Words.Lint asked) finding said_b does = run_text _ _ _ said_b does.of
+    run_does (Words.Compare asked) finding said_b does = run_text _ _ _ said_b does.of
     run_does (Words.Gen number) finding said_b does = run_text _ _ _ said_b does.of
 
     run_told : IsToldBy words before after RunPlan OfRun
@@ -203,6 +205,10 @@ module _ (words : List (List ℕ)) (before after : Moment) (tree : Tree) (told :
         let p : load_of_lint l ≡ load = cc in
         let q : load_of_lint m ≡ other = cc in
         subst (λ x. IsSameLoad x other) p (subst (IsSameLoad (load_of_lint l)) q (record { conf = same.conf; ifaces = same.ifaces }))
+    same_loaded (Words.Compare l) (Words.Compare m) same e other f =
+        let p : load_of_compare l ≡ load = cc in
+        let q : load_of_compare m ≡ other = cc in
+        subst (λ x. IsSameLoad x other) p (subst (IsSameLoad (load_of_compare l)) q (record { conf = same.old; ifaces = same.ifaces }))
     same_loaded (Words.Run l) b same e other f = cc
     same_loaded (Words.Gen l) b same e other f = cc
     same_loaded _ _ same e other f = absurd same
@@ -229,6 +235,7 @@ module _ (words : List (List ℕ)) (before after : Moment) (tree : Tree) (told :
       by (Words.Query l) (Words.Query m) same e f = cc
       by (Words.Check l) (Words.Check m) same e f = cc
       by (Words.Lint l) (Words.Lint m) same e f = cc
+      by (Words.Compare l) (Words.Compare m) same e f = cc
       by _ _ same e f = absurd same
 
     load_text : (b : Invocation) (finding : Finding) (text : List ℕ) → SaysCommand words b → TextOf before after b finding text → (config : Configuration) × OfLoad (Ok config)
@@ -253,6 +260,7 @@ module _ (words : List (List ℕ)) (before after : Moment) (tree : Tree) (told :
     load_does (Words.Query asked) finding said_b does = load_text _ _ _ said_b does.of
     load_does (Words.Check asked) finding said_b does = load_text _ _ _ said_b does.of
     load_does (Words.Lint asked) finding said_b does = load_text _ _ _ said_b does.of
+    load_does (Words.Compare asked) finding said_b does = load_text _ _ _ said_b does.of
     load_does (Words.Gen number) finding said_b does = load_text _ _ _ said_b does.of
 
     load_told : IsToldBy words before after Configuration OfLoad
@@ -309,6 +317,7 @@ module _ (words : List (List ℕ)) (before after : Moment) (one : OneCommand) (n
     by (Words.Query w) same not = absurd same
     by (Words.Check w) same not = absurd same
     by (Words.Lint w) same not = absurd same
+    by (Words.Compare w) same not = absurd same
 
   holds_so : (other : ℕ) → SaysCommand words (Words.Gen other) → (held : Tree) → HoldsWorkload other held → HoldsWorkload number held
   holds_so other said_b held holds =
@@ -338,6 +347,7 @@ module _ (words : List (List ℕ)) (before after : Moment) (one : OneCommand) (n
   generated_does (Words.Query asked) finding said_b does = generated_text _ _ _ said_b does.of
   generated_does (Words.Check asked) finding said_b does = generated_text _ _ _ said_b does.of
   generated_does (Words.Lint asked) finding said_b does = generated_text _ _ _ said_b does.of
+  generated_does (Words.Compare asked) finding said_b does = generated_text _ _ _ said_b does.of
   generated_does (Words.Gen other) finding said_b does = generated_text _ _ _ said_b does.of
 
   generated_told : IsToldBy words before after RunPlan OfGenerated

@@ -26,11 +26,13 @@ module _ {before after : FilesMoment} {given : List Iface} {config : Configurati
   refuses_question (RefusesQuestion.class refuses) = refuses_class command refuses
   refuses_question (RefusesQuestion.check words asks refuses) = ap is_question asks
   refuses_question (RefusesQuestion.lint words asks refuses) = ap is_question asks
+  refuses_question (RefusesQuestion.compare words asks refuses) = ap is_question asks
 
   answers_question : {finding : Finding} {text : List ℕ} → AnswersQuestion before after given config command finding text → is_question command ≡ true
   answers_question (AnswersQuestion.class answers) = ap is_question answers.asks ∙ asking_asks answers.question
   answers_question (AnswersQuestion.check words asks answers) = ap is_question asks
   answers_question (AnswersQuestion.lint words found asks answers finds) = ap is_question asks
+  answers_question (AnswersQuestion.compare words asks answers) = ap is_question asks
 
 -- and is refused by its class, or for its steps
 pub refused_question : (given : List Iface) (config : Configuration) (question : ConfigQuestion) (fault : CommandFault) →
@@ -53,6 +55,7 @@ same_question (Words.Explain a) (Words.Explain b) same = refl
 same_question (Words.Query a) (Words.Query b) same = refl
 same_question (Words.Check a) (Words.Check b) same = refl
 same_question (Words.Lint a) (Words.Lint b) same = refl
+same_question (Words.Compare a) (Words.Compare b) same = refl
 same_question (Words.Gen a) (Words.Gen b) same = refl
 same_question _ _ same = absurd same
 
@@ -81,4 +84,5 @@ module _ (before after : Moment) where
   plain_command (Words.Query words) finding plain does = absurd (false≢true (sym plain))
   plain_command (Words.Check words) finding plain does = absurd (false≢true (sym plain))
   plain_command (Words.Lint words) finding plain does = absurd (false≢true (sym plain))
+  plain_command (Words.Compare words) finding plain does = absurd (false≢true (sym plain))
   plain_command (Words.Gen number) finding plain does = plain_text _ _ _ plain does.of

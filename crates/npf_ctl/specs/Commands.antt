@@ -4,8 +4,9 @@ use Rattle.npf_ctl_prepare.specs.Prepares.{RunNames}
 use Rattle.npf_traffic.specs.declared.phase.Spread.{Spread}
 use Rattle.npf_traffic.specs.declared.phase.Spread.TheVariants as Dealt
 use Rattle.npf_ctl_words.specs.declared.command.Invocation.{Invocation}
-use Rattle.npf_ctl_words.specs.declared.command.Invocation.TheVariants.{Run, Validate, Show, Debug, Why, WhyAll, Explain, Query, Check, Lint, Gen}
+use Rattle.npf_ctl_words.specs.declared.command.Invocation.TheVariants.{Run, Validate, Show, Debug, Why, WhyAll, Explain, Query, Check, Lint, Compare, Gen}
 use Rattle.npf_ctl_words.specs.declared.command.CheckWords.{CheckWords}
+use Rattle.npf_ctl_words.specs.declared.command.CompareWords.{CompareWords}
 use Rattle.npf_ctl_words.specs.declared.command.ExplainWords.{ExplainWords}
 use Rattle.npf_ctl_words.specs.declared.command.LintWords.{LintWords}
 use Rattle.npf_ctl_words.specs.declared.command.Load.{Load as LoadWords}
@@ -35,6 +36,10 @@ load_of_check words = record { conf = words.conf; ifaces = words.ifaces }
 abbrev pub load_of_lint : LintWords → LoadWords
 load_of_lint words = record { conf = words.conf; ifaces = words.ifaces }
 
+-- `compare` asks of the old configuration, by the new one
+abbrev pub load_of_compare : CompareWords → LoadWords
+load_of_compare words = record { conf = words.old; ifaces = words.ifaces }
+
 -- what a command loads that looks at one configuration, explains its faults, or asks something of it
 abbrev pub loaded_by : Invocation → Option LoadWords
 loaded_by (Run run) = None
@@ -47,6 +52,7 @@ loaded_by (Explain words) = Some (load_of_explain words)
 loaded_by (Query words) = Some (load_of_query words)
 loaded_by (Check words) = Some (load_of_check words)
 loaded_by (Lint words) = Some (load_of_lint words)
+loaded_by (Compare words) = Some (load_of_compare words)
 loaded_by (Gen number) = None
 
 -- the command asks something of a configuration
@@ -55,4 +61,5 @@ is_question (Explain words) = true
 is_question (Query words) = true
 is_question (Check words) = true
 is_question (Lint words) = true
+is_question (Compare words) = true
 is_question _ = false

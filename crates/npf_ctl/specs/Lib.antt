@@ -1,5 +1,6 @@
 pub mod Checks
 pub mod Commands
+pub mod Comparisons
 pub mod Ends
 pub mod Faults
 pub mod Findings

@@ -19,12 +19,14 @@ use Rattle.npf_ctl_messages.specs.declared.fault.CommandFault.{CommandFault}
 use Rattle.npf_ctl_query.specs.QueryText.{IsClassText, IsStopFault}
 use Rattle.npf_ctl_words.specs.declared.command.Invocation.{Invocation}
 use Rattle.npf_ctl_words.specs.declared.command.CheckWords.{CheckWords}
-use Rattle.npf_ctl_words.specs.declared.command.Invocation.TheVariants.{Check, Explain, Lint, Query}
+use Rattle.npf_ctl_words.specs.declared.command.CompareWords.{CompareWords}
+use Rattle.npf_ctl_words.specs.declared.command.Invocation.TheVariants.{Check, Compare, Explain, Lint, Query}
 use Rattle.npf_ctl_words.specs.declared.command.LintWords.{LintWords}
 use Rattle.npf_ctl_words.specs.declared.command.Load.{Load}
 use Rattle.npf_judge.specs.declared.says.ClassSays.{ClassSays}
 use Rattle.npf_judge.specs.declared.says.ClassSays.TheVariants.{Pass, Block, Both, Empty}
 use Rattle.npf_ctl.specs.Checks.{AnswersCheck, RefusesCheck}
+use Rattle.npf_ctl.specs.Comparisons.{AnswersComparison, RefusesComparison}
 use Rattle.npf_ctl.specs.Commands.{load_of_explain, load_of_query}
 use Rattle.npf_ctl.specs.declared.questions.Loaded.{Loaded}
 use Rattle.npf_ctl.specs.declared.questions.ConfigQuestion.{ConfigQuestion}
@@ -110,11 +112,13 @@ module _ (given : List Iface) (config : Configuration) where
         RefusesClass command fault
 
 module _ (before after : FilesMoment) (given : List Iface) (config : Configuration) (command : Invocation) where
-  -- the text of the answer to a command that asks: about a class, about a file of expectations, or about all of its rules
+  -- the text of the answer to a command that asks: about a class, about a file of expectations, about all of its rules, or about another configuration
   pub data AnswersQuestion (finding : Finding) (text : List ℕ) : Type 0 where
     class : AnswersClass given config command finding text → AnswersQuestion finding text
     check : (words : CheckWords) → command ≡ Check words → AnswersCheck given config words before after finding text → AnswersQuestion finding text
     lint : (words : LintWords) (found : Bool) → command ≡ Lint words → AnswersLint given config found text → finding ≡ finding_of_lint found →
+        AnswersQuestion finding text
+    compare : (words : CompareWords) → command ≡ Compare words → AnswersComparison given config words before after finding text →
         AnswersQuestion finding text
 
   -- why there is no answer
@@ -122,3 +126,5 @@ module _ (before after : FilesMoment) (given : List Iface) (config : Configurati
     class : {fault : CommandFault} → RefusesClass given config command fault → RefusesQuestion fault
     check : (words : CheckWords) {fault : CommandFault} → command ≡ Check words → RefusesCheck given config words before after fault → RefusesQuestion fault
     lint : (words : LintWords) {fault : CommandFault} → command ≡ Lint words → RefusesLint given config words.steps fault → RefusesQuestion fault
+    compare : (words : CompareWords) {fault : CommandFault} → command ≡ Compare words → RefusesComparison given config words before after fault →
+        RefusesQuestion fault

@@ -18,6 +18,7 @@ ghost use Rattle.npf_ctl.specs.Run.{Moment, moment};
 ghost use Rattle.npf_ctl.specs.Top.{HasStatus, CanDo, CanGenerate, DoesWords, IsQuiet, KeepsOtherFiles, MustRefuse, RanOutOfNodes};
 
 use crate::checks::check;
+use crate::comparisons::compare;
 use crate::findings::Finding;
 use crate::flushed::put_flushed;
 use crate::generation::run_generated;
@@ -54,6 +55,8 @@ pub type Status = u8;
 /// - `check CONF EXPECTATIONS [--ifaces FILE] [--steps N]` puts which expectations of a file a configuration doesn't meet, each with a packet
 /// - `lint CONF [--ifaces FILE] [--steps N]` puts which of a configuration's rules decide on no packet, and without which every packet would be treated
 ///   alike
+/// - `compare OLD NEW [--ifaces FILE] [--steps N]` puts by which rules and maps two configurations would treat a packet otherwise, each pair with such a
+///   packet, and which of their settings differ
 /// - `gen NUMBER` runs the generated input of this number, and puts the total line
 ///
 /// Where it is refused, the line of the first fault met is put on `err`. The table of connections is new, and `pass` is its first pass.
@@ -193,6 +196,7 @@ fn do_words<R: Threads + Wait + Sync, F: Files, O: Sink, C: Connections<FlowLaw>
         Invocation::Query(words) => ask(alloc, ConfigQuestion::Query(words), files, out),
         Invocation::Check(words) => check(alloc, words, files, out),
         Invocation::Lint(words) => lint(alloc, words, files, out),
+        Invocation::Compare(words) => compare(alloc, words, files, out),
         Invocation::Gen { number } => {
             plainly(run_generated(rt, alloc, number, out, conns, pass, gate))
         }

@@ -89,3 +89,8 @@ pub returns-in-Lint-clause-ends : goal.returns-in-Lint-clause-ends
 returns-in-Lint-clause-ends g c =
     c.lint.ensures.ends (word_texts c.args.words.now) (g.C.Connections.view c.args.pass.now)
     (subst (SaysCommand (word_texts c.args.words.now)) c.in-Lint.is c.in-Ok.ensures.read)
+
+pub returns-in-Compare-clause-ends : goal.returns-in-Compare-clause-ends
+returns-in-Compare-clause-ends g c =
+    c.compare.ensures.ends (word_texts c.args.words.now) (g.C.Connections.view c.args.pass.now)
+    (subst (SaysCommand (word_texts c.args.words.now)) c.in-Compare.is c.in-Ok.ensures.read)
