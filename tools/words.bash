@@ -10,6 +10,7 @@ explain_words='explain CONF IF in|out CLASS [--ifaces FILE]'
 query_words='query CONF CLASS [--ifaces FILE] [--steps N]'
 check_words='check CONF EXPECTATIONS [--ifaces FILE] [--steps N]'
 lint_words='lint CONF [--ifaces FILE] [--steps N]'
+compare_words='compare OLD NEW [--ifaces FILE] [--steps N]'
 run_options=(--ifaces --workers --spread --write --load --save)
 most_number=18446744073709551615
 
@@ -58,7 +59,7 @@ near_options() {
 
 is_command() {
   case $1 in
-    run | validate | show | debug | why | explain | query | check | lint | gen) ;;
+    run | validate | show | debug | why | explain | query | check | lint | compare | gen) ;;
     *) return 1 ;;
   esac
 }
@@ -68,7 +69,7 @@ ask_for_help() {
   local word
   case ${1-} in
     help | --help | -h) return ;;
-    run | validate | show | debug | why | explain | query | check | lint | gen | version | install) ;;
+    run | validate | show | debug | why | explain | query | check | lint | compare | gen | version | install) ;;
     *) return 1 ;;
   esac
   for word in "${@:2}"; do
@@ -128,6 +129,7 @@ read_words() {
     query) names=(CONF CLASS) options=(--ifaces --steps) ;;
     check) names=(CONF EXPECTATIONS) options=(--ifaces --steps) ;;
     lint) names=(CONF) options=(--ifaces --steps) ;;
+    compare) names=(OLD NEW) options=(--ifaces --steps) ;;
     gen) names=(NUMBER) options=() ;;
   esac
   known=" ${options[*]} "
@@ -213,6 +215,7 @@ words_of() {
     query) echo "$query_words" ;;
     check) echo "$check_words" ;;
     lint) echo "$lint_words" ;;
+    compare) echo "$compare_words" ;;
     gen) echo 'gen NUMBER' ;;
     *) echo "$1 $text_words" ;;
   esac
@@ -235,7 +238,7 @@ hint_command() {
     hint | hints) other='why says what is wrong with a configuration' ;;
     ask | which | who) other='query says which rules decide on packets' ;;
     assert | expect) other='check says which expectations a configuration does not meet' ;;
-    diff | compare) other='npfctl(8), EXAMPLES, compares what two configurations do to the same packets' ;;
+    diff) other='compare says which packets two configurations would treat otherwise' ;;
   esac
   if [ -n "$here" ]; then
     hint "there is no command $word: NetBSD's is for a running kernel, which this program never touches"
@@ -247,7 +250,7 @@ hint_command() {
   elif [[ $1 == -* ]]; then
     hint "there is no command $word: options stand behind the command, as in npfctl run CONF SCRIPT --ifaces FILE"
   else
-    near=$(nearest "$1" run validate show debug why explain query check lint gen help version install)
+    near=$(nearest "$1" run validate show debug why explain query check lint compare gen help version install)
     hint "there is no command $word${near:+; the nearest is $near}"
   fi
   hint 'npfctl help has the commands'
