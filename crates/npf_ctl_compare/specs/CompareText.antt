@@ -26,40 +26,41 @@ number_or_none (Some place) = ordinal_text place
 abbrev pub rule_or_no_rule : Model → Option ℕ → Option Rule
 rule_or_no_rule model place = option_and_then (rule_at model) place
 
-abbrev pub decision_text : Model → Option ℕ → List ℕ
-decision_text model place = rule_word (rule_or_no_rule model place) ++ (codes " " ++ number_or_none place)
+abbrev pub numbered_decision : Model → Option ℕ → List ℕ
+numbered_decision model place = rule_word (rule_or_no_rule model place) ++ (codes " " ++ number_or_none place)
 
-module _ (ifaces : List Iface) (old new : Model) where
-  -- in what they differ first, the decisions of both, and the packet
-  abbrev pub rule_difference_line : RuleDifference → List ℕ
-  rule_difference_line difference =
+-- two maps that write different things into a packet, and the packet
+abbrev pub map_difference_line : List Iface → MapDifference → List ℕ
+map_difference_line ifaces difference =
+    codes "map " ++ (number_or_none difference.old ++ (codes " " ++ (number_or_none difference.new ++ (codes " " ++ packet_tail ifaces difference.packet))))
+
+module _ (old new : Model) where
+  -- in what two rules differ first, the decisions of both, and a packet that they treat otherwise
+  abbrev pub rule_difference_line : List Iface → RuleDifference → List ℕ
+  rule_difference_line ifaces difference =
       unlike_word (rule_effect old (rule_or_no_rule old difference.old)) (rule_effect new (rule_or_no_rule new difference.new))
-      ++ (codes " " ++ (decision_text old difference.old ++ (codes " " ++ (decision_text new difference.new ++ (codes " " ++ packet_tail ifaces difference.packet)))))
+      ++ (codes " " ++ (numbered_decision old difference.old ++ (codes " " ++ (numbered_decision new difference.new ++ (codes " " ++ packet_tail ifaces difference.packet)))))
 
-  abbrev pub map_difference_line : MapDifference → List ℕ
-  map_difference_line difference =
-      codes "map " ++ (number_or_none difference.old ++ (codes " " ++ (number_or_none difference.new ++ (codes " " ++ packet_tail ifaces difference.packet))))
-
-  -- the parameter with both values
+  -- a parameter with both values
   abbrev pub parameter_line : Parameter → List ℕ
   parameter_line parameter =
       codes "set " ++ (parameter_name parameter ++ (codes " " ++ (value_text (choice_in old.settings parameter)
       ++ (codes " " ++ (value_text (choice_in new.settings parameter) ++ codes "\n")))))
 
-  abbrev pub alg_difference_line : List ℕ
-  alg_difference_line = codes "alg icmp " ++ (switch_text old.alg_icmp ++ (codes " " ++ (switch_text new.alg_icmp ++ codes "\n")))
+  abbrev pub alg_line_of_both : List ℕ
+  alg_line_of_both = codes "alg icmp " ++ (switch_text old.alg_icmp ++ (codes " " ++ (switch_text new.alg_icmp ++ codes "\n")))
 
-  abbrev pub alg_difference_lines : Bool → List (List ℕ)
-  alg_difference_lines true = alg_difference_line ∷ []
-  alg_difference_lines false = []
+  abbrev pub alg_lines : Bool → List (List ℕ)
+  alg_lines true = alg_line_of_both ∷ []
+  alg_lines false = []
 
-  -- rules first, then maps, parameters, and the gateway of ICMP
-  abbrev pub difference_lines : Differences → List (List ℕ)
-  difference_lines differences =
-      map rule_difference_line differences.rules.items
-      ++ (map map_difference_line differences.maps.items
+  -- those of rules first, then those of maps, of parameters, and of the gateway of ICMP
+  abbrev pub difference_lines : List Iface → Differences → List (List ℕ)
+  difference_lines ifaces differences =
+      map (rule_difference_line ifaces) differences.rules.items
+      ++ (map (map_difference_line ifaces) differences.maps.items
       ++ (map parameter_line differences.parameters.items
-      ++ alg_difference_lines differences.alg_icmp))
+      ++ alg_lines differences.alg_icmp))
 
 -- how many lines stand in front, or that none does
 abbrev pub count_line : ℕ → List ℕ
@@ -72,5 +73,5 @@ differences_text lines = flat_map (λ line. line) lines ++ count_line (length li
 pub record IsCompareText (ifaces : List Iface) (old new : Configuration) (same : Bool) (text : List ℕ) : Type 0 where
   pub differences : Differences
   pub are : AreDifferences old new differences
-  pub told : text ≡ differences_text (difference_lines ifaces old.model new.model differences)
-  pub says : same ≡ (length (difference_lines ifaces old.model new.model differences) == 0)
+  pub told : text ≡ differences_text (difference_lines old.model new.model ifaces differences)
+  pub says : same ≡ (length (difference_lines old.model new.model ifaces differences) == 0)

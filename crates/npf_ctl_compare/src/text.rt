@@ -4,7 +4,7 @@ ghost use Rattle.std.specs.List.{flat_map};
 ghost use Rattle.npf_model.specs.Verdict.{rule_at};
 ghost use Rattle.npf_treatment.specs.Treatment.{rule_effect};
 ghost use Rattle.npf_ctl_query.specs.Decision.{rule_word as word_of};
-ghost use Rattle.npf_ctl_compare.specs.CompareText.{alg_difference_lines, count_line, decision_text, difference_lines, differences_text, map_difference_line, number_or_none, parameter_line, rule_difference_line, rule_or_no_rule};
+ghost use Rattle.npf_ctl_compare.specs.CompareText.{alg_lines, count_line, numbered_decision, difference_lines, differences_text, map_difference_line, number_or_none, parameter_line, rule_difference_line, rule_or_no_rule};
 ghost use Rattle.npf_ctl_compare.specs.Differences.{AreFew};
 
 use crate::differences::Differences;
@@ -29,7 +29,7 @@ pub(crate) fn differences_text(
     differences: &Differences,
 ) -> Result<Vec<u8>, NoMemory>
     requires { AreFew differences.now }
-    ensures { IfOk result (λ text. text.items ≡ differences_text (difference_lines ifaces.now old.now.model new.now.model differences.now)) }
+    ensures { IfOk result (λ text. text.items ≡ differences_text (difference_lines old.now.model new.now.model ifaces.now differences.now)) }
 {
     let mut text = Vec::new(alloc);
     let into = &mut text;
@@ -54,7 +54,7 @@ fn write_rules(
     new: &Config,
     differences: &[RuleDifference],
 ) -> Result<(), NoMemory>
-    ensures { OnOk result (into.new.items ≡ into.old.items ++ flat_map (rule_difference_line ifaces.now old.now.model new.now.model) differences.now) }
+    ensures { OnOk result (into.new.items ≡ into.old.items ++ flat_map (rule_difference_line old.now.model new.now.model ifaces.now) differences.now) }
 {
     for difference in differences {
         write_rule_line(alloc, into, ifaces, old, new, difference)?;
@@ -70,7 +70,7 @@ fn write_rule_line(
     new: &Config,
     difference: &RuleDifference,
 ) -> Result<(), NoMemory>
-    ensures { OnOk result (into.new.items ≡ into.old.items ++ rule_difference_line ifaces.now old.now.model new.now.model difference.now) }
+    ensures { OnOk result (into.new.items ≡ into.old.items ++ rule_difference_line old.now.model new.now.model ifaces.now difference.now) }
 {
     let old_effect = effect_of(old, difference.old);
     let new_effect = effect_of(new, difference.new);
@@ -94,7 +94,7 @@ fn effect_of(config: &Config, place: Option<usize>) -> RuleEffect
 
 // Appends what the rule at a place decides, and its number; what no rule decides on is blocked.
 fn write_decision(into: &mut Vec<u8>, config: &Config, place: Option<usize>) -> Result<(), NoMemory>
-    ensures { OnOk result (into.new.items ≡ into.old.items ++ decision_text config.now.model place) }
+    ensures { OnOk result (into.new.items ≡ into.old.items ++ numbered_decision config.now.model place) }
 {
     write_text(into, decision_word(rule_or_no_rule(config, place)))?;
     write_text(into, " ")?;
@@ -191,7 +191,7 @@ fn write_parameter_line(
 
 // Appends the line of the gateway of ICMP, if one configuration alone has it.
 fn write_alg(into: &mut Vec<u8>, old: &Model, new: &Model, is_other: bool) -> Result<(), NoMemory>
-    ensures { OnOk result (into.new.items ≡ into.old.items ++ flat_map (λ line. line) (alg_difference_lines old.now new.now is_other)) }
+    ensures { OnOk result (into.new.items ≡ into.old.items ++ flat_map (λ line. line) (alg_lines old.now new.now is_other)) }
 {
     if !is_other {
         return Ok(());
