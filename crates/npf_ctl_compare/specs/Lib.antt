@@ -1,0 +1,6 @@
+pub mod Agrees
+pub mod CompareText
+pub mod Differences
+pub mod Loaded
+pub mod Setting
+pub mod Unlike
