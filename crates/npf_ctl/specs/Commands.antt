@@ -1,5 +1,9 @@
 -- What the words of a command line name, as the layers below take it.
 use Rattle.std.specs.Prelude.{Bool, true, false, Option, Some, None}
+use Rattle.npf_types.specs.declared.direction.Dir.{Dir}
+use Rattle.npf_types.specs.declared.name.Name.{Name}
+use Rattle.npf_ctl_input.specs.declared.tap.Tap.{Tap}
+use Rattle.npf_ctl_input.specs.Source.{first_tap}
 use Rattle.npf_ctl_prepare.specs.Prepares.{RunNames}
 use Rattle.npf_traffic.specs.declared.phase.Spread.{Spread}
 use Rattle.npf_traffic.specs.declared.phase.Spread.TheVariants as Dealt
@@ -16,8 +20,15 @@ use Rattle.npf_ctl_words.specs.declared.command.SpreadWord.{SpreadWord}
 use Rattle.npf_ctl_words.specs.declared.command.SpreadWord.TheVariants as Said
 use Rattle.npf_ctl_words.specs.CommandLine.{given_text}
 
+-- where a capture alone was recorded: where either is said, the other is that of a capture of which nothing is
+abbrev pub tap_said : Option Name → Option Dir → Option Tap
+tap_said None None = None
+tap_said (Some name) None = Some (record first_tap { name = name })
+tap_said None (Some dir) = Some (record first_tap { dir = dir })
+tap_said (Some name) (Some dir) = Some (record { name = name; dir = dir })
+
 abbrev pub names_of_run : RunWords → RunNames
-names_of_run run = record { conf = run.conf.now; script = run.script.now; ifaces = given_text run.ifaces }
+names_of_run run = record { conf = run.conf.now; script = run.script.now; ifaces = given_text run.ifaces; tap = tap_said run.on run.dir }
 
 abbrev pub spread_said : SpreadWord → Spread
 spread_said Said.Rr = Dealt.Rr

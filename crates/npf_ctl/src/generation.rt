@@ -79,6 +79,7 @@ fn prepare_generated<'a>(
         conf: "npf.conf",
         script: "script",
         ifaces: None,
+        tap: None,
     };
     prepare_run(alloc, names, &mut files, captures)
 }

@@ -16,7 +16,7 @@ ghost use Rattle.npf_ctl_prepare.specs.View.{run_plan_of};
 ghost use Rattle.npf_ctl_words.specs.declared.command.Invocation.{Invocation as CommandType};
 ghost use Rattle.npf_ctl_words.specs.CommandLine.{SaysCommand, given_text};
 ghost use Rattle.npf_ctl_messages.specs.declared.fault.CommandFault.{CommandFault as FaultType};
-ghost use Rattle.npf_ctl.specs.Commands.{spread_said};
+ghost use Rattle.npf_ctl.specs.Commands.{spread_said, tap_said};
 ghost use Rattle.npf_connections.specs.Stay.{IsLater, IsOut};
 ghost use Rattle.npf_flow.specs.Flows.{flow_law};
 ghost use Rattle.npf_ctl.specs.Ends.{EndsIn, FailsPlan, FailsReport, FollowsPlan, IsFresh, MayBegin};
@@ -27,6 +27,7 @@ use crate::fragments::put_together;
 use crate::saves::save_connections;
 use npf_connections::Connections;
 use npf_ctl_arrivals::Captures;
+use npf_ctl_input::Tap;
 use npf_ctl_messages::CommandFault;
 use npf_ctl_output::{PassedPackets, ip_extents, put_report, write_parts};
 use npf_ctl_prepare::{Prepared, RunFiles, prepare_run};
@@ -37,6 +38,7 @@ use npf_outside::{Files, Sink};
 use npf_packet::IpExtent;
 use npf_pieces::DatagramBytes;
 use npf_runner::{Gate, Played, Spread, play};
+use npf_types::{Dir, Name};
 use std::alloc::Global;
 use std::sync::Wait;
 use std::thread::Threads;
@@ -67,6 +69,7 @@ pub(crate) fn run<R: Threads + Wait + Sync, F: Files, O: Sink, C: Connections<Fl
         conf: words.conf,
         script: words.script,
         ifaces: words.ifaces,
+        tap: tap_said(words.on, words.dir),
     };
     let mut captures = Captures::new(alloc);
     let mut datagrams = DatagramBytes::new(alloc);
@@ -192,4 +195,23 @@ fn write_passed<F: Files>(
     let packets = played.packets.as_slice();
     let mut passed = PassedPackets::of(extents, packets, played.outcomes.as_slice());
     write_parts(alloc, name, &mut passed, files)
+}
+
+/// Where a capture alone was recorded, if an interface or a direction is said.
+fn tap_said(on: Option<Name>, dir: Option<Dir>) -> Option<Tap>
+    ensures { result ≡ tap_said on dir }
+{
+    let first = Tap::first();
+    match (on, dir) {
+        (None, None) => None,
+        (Some(name), None) => Some(Tap {
+            name,
+            dir: first.dir,
+        }),
+        (None, Some(dir)) => Some(Tap {
+            name: first.name,
+            dir,
+        }),
+        (Some(name), Some(dir)) => Some(Tap { name, dir }),
+    }
 }

@@ -1,8 +1,9 @@
 -- What the second file of a run is: a capture alone, which stands for a script that names it, or a script.
-use Rattle.std.specs.Prelude.{◌≤◌, ◌<◌, ℕ, Result, Ok, Err, List, [], ◌∷◌, codes, length}
+use Rattle.std.specs.Prelude.{◌≤◌, ◌<◌, ℕ, Option, Some, None, Result, Ok, Err, List, [], ◌∷◌, codes, length}
 use Rattle.npf_types.specs.declared.direction.Dir.TheVariants.{In}
 use Rattle.npf_types.specs.declared.limits.TheConstants.{MAX_TEXT_BYTES}
 use Rattle.npf_types.specs.Named.{named}
+use Rattle.npf_types.specs.Stages.{Stage, gives}
 use Rattle.npf_pcap.specs.declared.format.Format.{Format}
 use Rattle.npf_pcap.specs.Capture.{HasMagic}
 use Rattle.npf_ctl_script.specs.declared.script.ScriptFault.TheVariants as Scripts
@@ -12,6 +13,7 @@ use Rattle.npf_ctl_script.specs.Lines.{IsScript, RefusesScript}
 use Rattle.npf_ctl_messages.specs.declared.fault.CommandFault.{CommandFault}
 use Rattle.npf_ctl_messages.specs.declared.fault.CommandFault.TheVariants.{Line, Long}
 use Rattle.npf_ctl_messages.specs.declared.fault.LineFault.TheVariants.{BadLine}
+use Rattle.npf_ctl_input.specs.declared.tap.Tap.{Tap}
 
 pub data Source : Type 0 where
   -- the bytes of a capture
@@ -23,15 +25,33 @@ pub data Source : Type 0 where
 abbrev pub BeginsAsCapture : List ℕ → Type 0
 BeginsAsCapture bytes = (4 ≤ length bytes) × ((format : Format) × HasMagic format bytes)
 
-pub data ReadsSource (file bytes : List ℕ) : Result Source CommandFault → Type 0 where
-  alone : BeginsAsCapture bytes → ReadsSource file bytes (Ok (Alone bytes))
-  longer : ¬ BeginsAsCapture bytes → MAX_TEXT_BYTES < length bytes → ReadsSource file bytes (Err (Long file MAX_TEXT_BYTES))
+-- where nothing is told of a tap, the bytes tell which of the two they are
+pub data ReadsEither (file bytes : List ℕ) : Result Source CommandFault → Type 0 where
+  alone : BeginsAsCapture bytes → ReadsEither file bytes (Ok (Alone bytes))
+  longer : ¬ BeginsAsCapture bytes → MAX_TEXT_BYTES < length bytes → ReadsEither file bytes (Err (Long file MAX_TEXT_BYTES))
   scripted : {lines : List (ℕ × ScriptLine)} → ¬ BeginsAsCapture bytes → length bytes ≤ MAX_TEXT_BYTES → IsScript bytes lines →
-      ReadsSource file bytes (Ok (Scripted lines))
+      ReadsEither file bytes (Ok (Scripted lines))
   bad_line : {line : ℕ} → ¬ BeginsAsCapture bytes → length bytes ≤ MAX_TEXT_BYTES → RefusesScript bytes (Scripts.BadLine line) →
-      ReadsSource file bytes (Err (Line file line BadLine))
+      ReadsEither file bytes (Err (Line file line BadLine))
 
--- the commands of the second file: a capture alone came in on the interface cap0
-abbrev pub lines_of_source : List ℕ → Source → List (ℕ × ScriptLine)
-lines_of_source file (Alone bytes) = (1, Said.Capture (named (codes "cap0")) In file) ∷ []
-lines_of_source file (Scripted lines) = lines
+-- where one is told, they are a capture's
+abbrev pub ReadsSource : Option Tap → List ℕ → List ℕ → Stage Source CommandFault
+ReadsSource None file bytes = ReadsEither file bytes
+ReadsSource (Some tap) file bytes = gives (Alone bytes)
+
+-- that of a capture alone: where none is told, its packets came in on the interface cap0
+abbrev pub first_tap : Tap
+first_tap = record { name = named (codes "cap0"); dir = In }
+
+abbrev pub tap_of_capture : Option Tap → Tap
+tap_of_capture None = first_tap
+tap_of_capture (Some tap) = tap
+
+-- the command that names a capture of this tap
+abbrev pub line_of_tap : Tap → List ℕ → ScriptLine
+line_of_tap tap file = Said.Capture tap.name tap.dir file
+
+-- the commands of the second file
+abbrev pub lines_of_source : Option Tap → List ℕ → Source → List (ℕ × ScriptLine)
+lines_of_source tap file (Alone bytes) = (1, line_of_tap (tap_of_capture tap) file) ∷ []
+lines_of_source tap file (Scripted lines) = lines

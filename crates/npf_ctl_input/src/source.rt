@@ -1,11 +1,12 @@
 // What the second file of a run is.
 ghost use Rattle.std.specs.Prelude.{◌≤◌, ◌↔◌, length, IfOk, IsTrue};
 ghost use Rattle.npf_ctl_input.specs.Rules.{HasShortRules};
-ghost use Rattle.npf_ctl_input.specs.Source.{BeginsAsCapture, ReadsSource};
+ghost use Rattle.npf_ctl_input.specs.Source.{BeginsAsCapture, ReadsEither, ReadsSource};
 ghost use Rattle.npf_ctl_input.specs.Unless.{UnlessMemory};
 ghost use Rattle.npf_ctl_input.specs.View.{source_view};
 
 use crate::file::text_of;
+use crate::tap::Tap;
 use npf_ctl_messages::{CommandFault, LineFault};
 use npf_ctl_script::{Script, ScriptFault, read_script};
 use npf_fields::get32;
@@ -22,11 +23,28 @@ pub enum RunSource {
     Scripted(Script),
 }
 
-/// What these bytes of this file are: a capture where they begin as one, and otherwise a script. Refused where they are no capture
-/// and longer than a text may be (`Long`), or for the script's first bad line; or for want of memory.
-pub fn read_source(alloc: Global, file: &str, bytes: Vec<u8>) -> Result<RunSource, CommandFault>
+/// What these bytes of this file are: a capture's where a tap is told, or where they begin as a capture, and otherwise a script's. Refused where they
+/// are no capture's and longer than a text may be (`Long`), or for the script's first bad line; or for want of memory.
+pub fn read_source(
+    alloc: Global,
+    tap: Option<Tap>,
+    file: &str,
+    bytes: Vec<u8>,
+) -> Result<RunSource, CommandFault>
     requires { length bytes.items ≤ MAX_CAPTURE_BYTES }
-    ensures comes { UnlessMemory source_view result (ReadsSource file.now bytes.items) }
+    ensures comes { UnlessMemory source_view result (ReadsSource tap file.now bytes.items) }
+    ensures short { IfOk result (λ source. HasShortRules (source_view source)) }
+{
+    match tap {
+        Some(_) => Ok(RunSource::Alone(bytes)),
+        None => read_either(alloc, file, bytes),
+    }
+}
+
+// What the bytes are by themselves.
+fn read_either(alloc: Global, file: &str, bytes: Vec<u8>) -> Result<RunSource, CommandFault>
+    requires { length bytes.items ≤ MAX_CAPTURE_BYTES }
+    ensures comes { UnlessMemory source_view result (ReadsEither file.now bytes.items) }
     ensures short { IfOk result (λ source. HasShortRules (source_view source)) }
 {
     if begins_as_capture(bytes.as_slice()) {

@@ -1,5 +1,5 @@
 -- A run over told contents, of which no read fails, is prepared from the contents alone.
-use Rattle.std.proofs.Common.{◌≡◌, ℕ, cond, Some, Result, List, [], ◌∷◌, ◌++◌}
+use Rattle.std.proofs.Common.{◌≡◌, ℕ, cond, Option, Some, Result, List, [], ◌∷◌, ◌++◌}
 use Rattle.npf_types.specs.{Stages.{Stage, ◌andthen◌, stops, goes_on}, declared.limits.TheConstants.MAX_CAPTURE_BYTES}
 use Rattle.npf_model.specs.{declared.iface.Iface.Iface, Configuration.Configuration}
 use Rattle.npf_outside.specs.Files.{FilesMoment, Tree}
@@ -11,6 +11,7 @@ use Rattle.npf_ctl_messages.specs.declared.fault.CommandFault.{CommandFault}
 use Rattle.npf_ctl_input.specs.{File.{ReadsFile, ReadsWell, told_files}, Interfaces.ReadsInterfaces}
 use Rattle.npf_ctl_input.specs.{Laws.{ConfigurationsAreOfContents, FilesAreOfContents, InterfacesAreOfContents}, Loads.LoadsFile}
 use Rattle.npf_ctl_input.{specs.Source.{Source, Alone, Scripted, ReadsSource, lines_of_source}, proofs.ReadingLemmas.meets_told}
+use Rattle.npf_ctl_input.specs.declared.tap.Tap.{Tap}
 use Rattle.npf_ctl_prepare.specs.{Captures.{GathersCaptures, GathersLine, ReadsCaptureFile, interface_id}, Configurations.{MakesConfigurations, MakesNext}}
 use Rattle.npf_ctl_prepare.specs.Prepares.{KeepsScriptLimits, RunPlan, Plans, PreparesRun, PreparesSource, RunNames, numbered_by}
 use Rattle.npf_ctl_prepare.proofs.ReloadingLemmas.{reload_lasts}
@@ -63,10 +64,10 @@ module _ (tree : Tree) (before after : FilesMoment) (told : before.contents ≡ 
         (λ next. MakesConfigurations alone alone ifaces script lines (cond (makes_change line.1) (made ++ next ∷ []) made) next)
         (next_lasts last line) (λ next. configs_last lines (cond (makes_change line.1) (made ++ next ∷ []) made) next) result is
 
-  source_lasts : (script : List ℕ) (given : List Iface) (first : Configuration) (source : Source) (result : Result RunPlan CommandFault) →
-      PreparesSource before after script given first source result → PreparesSource alone alone script given first source result
-  source_lasts script given first source =
-      let numbered_lines = lines_of_source script source in
+  source_lasts : (tap : Option Tap) (script : List ℕ) (given : List Iface) (first : Configuration) (source : Source) (result : Result RunPlan CommandFault) →
+      PreparesSource before after tap script given first source result → PreparesSource alone alone tap script given first source result
+  source_lasts tap script given first source =
+      let numbered_lines = lines_of_source tap script source in
       let lines = unnumbered numbered_lines in
       let making : FilesMoment → FilesMoment → List Iface → Gathered → Stage RunPlan CommandFault =
       λ start end ifaces gathered.
@@ -84,7 +85,7 @@ module _ (tree : Tree) (before after : FilesMoment) (told : before.contents ≡ 
   pub run_lasts : (names : RunNames) (result : Result RunPlan CommandFault) → PreparesRun before after names result → PreparesRun alone alone names result
   run_lasts names =
       let sourced : FilesMoment → FilesMoment → List Iface → Configuration → List ℕ → Stage RunPlan CommandFault =
-      λ start end given first bytes. ReadsSource names.script bytes andthen λ source. PreparesSource start end names.script given first source in
+      λ start end given first bytes. ReadsSource names.tap names.script bytes andthen λ source. PreparesSource start end names.tap names.script given first source in
       let read : FilesMoment → FilesMoment → List Iface → Configuration → Stage RunPlan CommandFault =
       λ start end given first. ReadsFile start end names.script MAX_CAPTURE_BYTES andthen sourced start end given first in
       let loaded : FilesMoment → FilesMoment → List Iface → Stage RunPlan CommandFault =
@@ -96,6 +97,6 @@ module _ (tree : Tree) (before after : FilesMoment) (told : before.contents ≡ 
       (λ first. andthen_lasts (ReadsFile before after names.script MAX_CAPTURE_BYTES) (ReadsFile alone alone names.script MAX_CAPTURE_BYTES)
       (sourced before after given first) (sourced alone alone given first)
       (λ result. files names.script MAX_CAPTURE_BYTES tree before after result told well)
-      (λ bytes. andthen_lasts (ReadsSource names.script bytes) (ReadsSource names.script bytes)
-      (PreparesSource before after names.script given first) (PreparesSource alone alone names.script given first)
-      (λ result is. is) (source_lasts names.script given first))))
+      (λ bytes. andthen_lasts (ReadsSource names.tap names.script bytes) (ReadsSource names.tap names.script bytes)
+      (PreparesSource before after names.tap names.script given first) (PreparesSource alone alone names.tap names.script given first)
+      (λ result is. is) (source_lasts names.tap names.script given first))))

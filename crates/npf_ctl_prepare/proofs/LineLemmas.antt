@@ -10,7 +10,8 @@ use Rattle.npf_ctl_script.specs.declared.script.ScriptLine.TheVariants as Said
 use Rattle.npf_ctl_schedule.specs.Schedule.{run_interfaces, unnumbered, with_interface}
 use Rattle.npf_ctl_arrivals.specs.Within.{IsInterfaceNumber}
 use Rattle.npf_table.specs.TableFile.{lines as text_lines}
-use Rattle.npf_ctl_input.specs.Source.{ReadsSource, Scripted, lines_of_source, scripted}
+use Rattle.npf_ctl_input.specs.Source.{Alone, ReadsEither, ReadsSource, Scripted, alone, lines_of_source, scripted}
+use Rattle.npf_ctl_input.specs.declared.tap.Tap.{Tap}
 use Rattle.npf_ctl_prepare.specs.{Captures.interface_id, Known.{NamesKnownInterface, NamesTextFile}, View.{source_ordered, source_with}}
 use Rattle.npf_ctl_prepare.specs.declared.orders.Orders.{Orders}
 
@@ -116,14 +117,24 @@ pub line_and_rest : (lines : List (ℕ × ScriptLine)) (i : ℕ) (line : ℕ × 
 line_and_rest lines i line within is = drop_more lines i line within ∙ ap (λ l. l ∷ drop (i + 1) lines) (sym is)
 
 -- the files that a script names are named by text
-pub script_names : (file bytes : List ℕ) (lines : List (ℕ × ScriptLine)) → ReadsSource file bytes (Ok (Scripted lines)) → All (λ line. NamesTextFile line.1) lines
-script_names file bytes lines (scripted not_capture fits is) = read_names (text_lines bytes) lines is
+either_names : (file bytes : List ℕ) (lines : List (ℕ × ScriptLine)) → ReadsEither file bytes (Ok (Scripted lines)) → All (λ line. NamesTextFile line.1) lines
+either_names file bytes lines (scripted not_capture fits is) = read_names (text_lines bytes) lines is
 
-one_if : (script : List ℕ) (lines : List (ℕ × ScriptLine)) (alone : Option (Vec ℕ Global)) →
-    lines ≡ lines_of_source script (source_with (option_map (λ bytes. bytes.items) alone) lines) → IfSome alone (λ _. length lines ≡ 1)
-one_if script lines None are = tt
-one_if script lines (Some bytes) are = ap length are
+pub script_names : (tap : Option Tap) (file bytes : List ℕ) (lines : List (ℕ × ScriptLine)) → ReadsSource tap file bytes (Ok (Scripted lines)) →
+    All (λ line. NamesTextFile line.1) lines
+script_names None file bytes lines is = either_names file bytes lines is
+script_names (Some tap) file bytes lines is = cc
+
+-- a capture alone has the bytes of the file
+pub alone_bytes : (tap : Option Tap) (file bytes got : List ℕ) → ReadsSource tap file bytes (Ok (Alone got)) → got ≡ bytes
+alone_bytes None file bytes got (alone begins) = refl
+alone_bytes (Some tap) file bytes got is = cc
+
+one_if : (tap : Option Tap) (script : List ℕ) (lines : List (ℕ × ScriptLine)) (alone : Option (Vec ℕ Global)) →
+    lines ≡ lines_of_source tap script (source_with (option_map (λ bytes. bytes.items) alone) lines) → IfSome alone (λ _. length lines ≡ 1)
+one_if tap script lines None are = tt
+one_if tap script lines (Some bytes) are = ap length are
 
 -- a capture alone stands for one line
-pub one_line : (script : List ℕ) (orders : Orders) → orders.lines ≡ lines_of_source script (source_ordered orders) → IfSome orders.alone (λ _. length orders.lines ≡ 1)
-one_line script orders are = one_if script orders.lines orders.alone are
+pub one_line : (script : List ℕ) (orders : Orders) → orders.lines ≡ lines_of_source orders.tap script (source_ordered orders) → IfSome orders.alone (λ _. length orders.lines ≡ 1)
+one_line script orders are = one_if orders.tap script orders.lines orders.alone are

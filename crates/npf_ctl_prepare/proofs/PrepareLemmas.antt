@@ -1,5 +1,5 @@
 -- A run is prepared stage by stage.
-use Rattle.std.proofs.Common.{◌≡◌, ℕ, Result, Ok, Err, List, [], ◌∷◌, length, sym, subst}
+use Rattle.std.proofs.Common.{◌≡◌, ℕ, Option, Result, Ok, Err, List, [], ◌∷◌, length, sym, subst}
 use Rattle.npf_types.specs.{declared.limits.TheConstants.MAX_CAPTURE_BYTES, Stages.{Stage, ◌andthen◌, stops, goes_on}}
 use Rattle.npf_model.specs.{declared.iface.Iface.Iface, Configuration.Configuration}
 use Rattle.npf_outside.specs.Files.{FilesMoment}
@@ -9,6 +9,7 @@ use Rattle.npf_ctl_script.specs.declared.script.ScriptLine.{ScriptLine}
 use Rattle.npf_traffic.specs.declared.{packet.Packet.Packet, phase.Phase.Phase}
 use Rattle.npf_ctl_messages.specs.declared.fault.CommandFault.{CommandFault}
 use Rattle.npf_ctl_input.specs.{File.ReadsFile, Interfaces.ReadsInterfaces, Loads.LoadsFile, Source.{Source, ReadsSource, lines_of_source}}
+use Rattle.npf_ctl_input.specs.declared.tap.Tap.{Tap}
 use Rattle.npf_ctl_input.{specs.Unless.{IfTold, UnlessMemory}, proofs.UnlessLemmas.{unless_lasts, told_lasts}}
 use Rattle.npf_ctl_prepare.specs.{Captures.GathersCaptures, Configurations.MakesConfigurations}
 use Rattle.npf_ctl_prepare.specs.Prepares.{KeepsScriptLimits, RunPlan, Plans, planned, PreparesRun, PreparesSource, RunNames, numbered_by}
@@ -25,10 +26,10 @@ plans_with ifaces configs gathered lines packets phases by_time are =
     subst (λ (list : List Phase). Plans ifaces configs gathered lines (Ok (record { ifaces = ifaces; configs = configs; packets = packets; phases = list }))) (sym are)
     (planned by_time)
 
-module _ (before after : FilesMoment) (script : List ℕ) (given : List Iface) (first : Configuration) (source : Source) (numbered_lines : List (ℕ × ScriptLine))
-    (lines_are : numbered_lines ≡ lines_of_source script source) where
+module _ (before after : FilesMoment) (tap : Option Tap) (script : List ℕ) (given : List Iface) (first : Configuration) (source : Source) (numbered_lines : List (ℕ × ScriptLine))
+    (lines_are : numbered_lines ≡ lines_of_source tap script source) where
   abbrev Prepares : Result RunPlan CommandFault → Type 0
-  Prepares = PreparesSource before after script given first source
+  Prepares = PreparesSource before after tap script given first source
 
   abbrev With : List (ℕ × ScriptLine) → Stage RunPlan CommandFault
   With lines =
@@ -80,12 +81,12 @@ module _ (before after : FilesMoment) (names : RunNames) where
           (λ other ends. goes_on reads (goes_on loads (stops ends))) fault is
 
       module _ (bytes : List ℕ) (file : ReadsFile before after names.script MAX_CAPTURE_BYTES (Ok bytes)) where
-        pub source_ends : (fault : CommandFault) → Ends (ReadsSource names.script bytes) fault → Ends Runs fault
-        source_ends fault is = told_lasts (λ other. ReadsSource names.script bytes (Err other)) (λ other. Runs (Err other))
+        pub source_ends : (fault : CommandFault) → Ends (ReadsSource names.tap names.script bytes) fault → Ends Runs fault
+        source_ends fault is = told_lasts (λ other. ReadsSource names.tap names.script bytes (Err other)) (λ other. Runs (Err other))
             (λ other ends. goes_on reads (goes_on loads (goes_on file (stops ends)))) fault is
 
-        pub run_goes_on : {A : Type 0} (value : A → RunPlan) (answer : Result A CommandFault) (source : Source) → ReadsSource names.script bytes (Ok source) →
-            UnlessMemory value answer (PreparesSource before after names.script given first source) → UnlessMemory value answer Runs
+        pub run_goes_on : {A : Type 0} (value : A → RunPlan) (answer : Result A CommandFault) (source : Source) → ReadsSource names.tap names.script bytes (Ok source) →
+            UnlessMemory value answer (PreparesSource before after names.tap names.script given first source) → UnlessMemory value answer Runs
         run_goes_on value answer source is told =
-            unless_lasts value (PreparesSource before after names.script given first source) Runs
+            unless_lasts value (PreparesSource before after names.tap names.script given first source) Runs
             (λ result then_is. goes_on reads (goes_on loads (goes_on file (goes_on is then_is)))) answer told

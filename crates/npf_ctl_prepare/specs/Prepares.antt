@@ -22,14 +22,17 @@ use Rattle.npf_ctl_input.specs.File.{ReadsFile}
 use Rattle.npf_ctl_input.specs.Interfaces.{ReadsInterfaces}
 use Rattle.npf_ctl_input.specs.Loads.{LoadsFile}
 use Rattle.npf_ctl_input.specs.Source.{Source, ReadsSource, lines_of_source}
+use Rattle.npf_ctl_input.specs.declared.tap.Tap.{Tap}
 use Rattle.npf_ctl_prepare.specs.Captures.{GathersCaptures}
 use Rattle.npf_ctl_prepare.specs.Configurations.{MakesConfigurations}
 
--- the files that the words of a run name: the configuration, the script or a capture alone, and the interfaces, if any
+-- the files that the words of a run name: the configuration, the script or a capture alone, and the interfaces, if any; and where the capture was
+-- recorded, if that is told
 pub record RunNames : Type 0 where
   pub conf : List ℕ
   pub script : List ℕ
   pub ifaces : Option (List ℕ)
+  pub tap : Option Tap
 
 -- a run that can be played: its interfaces, its configurations by their numbers, its packets by time, and its phases
 pub record RunPlan : Type 0 where
@@ -62,9 +65,9 @@ pub data Plans (ifaces : List Iface) (configs : List Configuration) (gathered : 
 
 module _ (before after : FilesMoment) where
   -- the run of this script, with these interfaces and this first configuration
-  abbrev pub PreparesSource : List ℕ → List Iface → Configuration → Source → Stage RunPlan CommandFault
-  PreparesSource script given first source =
-      let numbered_lines = lines_of_source script source in
+  abbrev pub PreparesSource : Option Tap → List ℕ → List Iface → Configuration → Source → Stage RunPlan CommandFault
+  PreparesSource tap script given first source =
+      let numbered_lines = lines_of_source tap script source in
       let lines = unnumbered numbered_lines in
       KeepsScriptLimits given lines andthen λ ifaces.
       GathersCaptures before after source ifaces lines none_gathered andthen λ gathered.
@@ -77,4 +80,4 @@ module _ (before after : FilesMoment) where
       ReadsInterfaces before after names.ifaces andthen λ given.
       LoadsFile before after given names.conf andthen λ first.
       ReadsFile before after names.script MAX_CAPTURE_BYTES andthen λ bytes.
-      ReadsSource names.script bytes andthen λ source. PreparesSource names.script given first source
+      ReadsSource names.tap names.script bytes andthen λ source. PreparesSource names.tap names.script given first source

@@ -20,7 +20,7 @@ use crate::interfaces::numbered;
 use crate::limits::keep_limits;
 use crate::orders::{Orders, read_orders};
 use npf_ctl_arrivals::Captures;
-use npf_ctl_input::{load_file, read_file, read_interfaces};
+use npf_ctl_input::{Tap, load_file, read_file, read_interfaces};
 use npf_ctl_messages::CommandFault;
 use npf_ctl_schedule::laws::{packets_add_up, publications_are_in_order};
 use npf_ctl_schedule::schedule;
@@ -36,10 +36,12 @@ use std::alloc::Global;
 pub struct RunFiles<'a> {
     /// The configuration.
     pub conf: &'a str,
-    /// The script, or a capture alone, whose packets came in on the interface `cap0`.
+    /// The script, or a capture alone.
     pub script: &'a str,
     /// The interfaces with their addresses.
     pub ifaces: Option<&'a str>,
+    /// Where that capture was recorded; it is a script where this isn't told and its bytes don't begin as a capture's.
+    pub tap: Option<Tap>,
 }
 
 /// A run that can be played.
@@ -74,7 +76,7 @@ pub fn prepare_run<'a, F: Files>(
     let given = read_interfaces(alloc, names.ifaces, files)?;
     let first = load_file(alloc, &given, names.conf, files)?;
     let bytes = read_file(alloc, names.script, MAX_CAPTURE_BYTES as u64, files)?;
-    let orders = read_orders(alloc, names.script, bytes)?;
+    let orders = read_orders(alloc, names.tap, names.script, bytes)?;
     prepare_orders(alloc, names.script, given, first, orders, files, captures)
 }
 
@@ -89,17 +91,17 @@ fn prepare_orders<'a, F: Files>(
     captures: &'a mut Captures,
 ) -> Result<Prepared<'a>, CommandFault>
     requires first { IsChangeable 1 first }
-    requires lines { orders.lines ≡ lines_of_source script.now (source_ordered orders) }
+    requires lines { orders.lines ≡ lines_of_source orders.tap script.now (source_ordered orders) }
     requires text { All (λ line. NamesTextFile line.1) orders.lines }
     requires rules { All (λ line. AddsShortRule line.1) orders.lines }
     requires fits { IfSome orders.alone (λ bytes. length bytes.items ≤ MAX_CAPTURE_BYTES) }
     ensures comes { (before after : FilesMoment) → Around before (F.moment files.old) (F.moment files.new) after
-        → UnlessMemory run_plan_of result (PreparesSource before after script.now given.list (configuration first) (source_ordered orders)) }
+        → UnlessMemory run_plan_of result (PreparesSource before after orders.tap script.now given.list (configuration first) (source_ordered orders)) }
     ensures playable { IfOk result IsPlayable }
     ensures reads { OnlyReads (F.moment files.old) (F.moment files.new) }
     ensures faultless { OnOk result (SameReadFaults (F.moment files.old) (F.moment files.new)) }
 {
-    let Orders { lines, alone } = orders;
+    let Orders { lines, alone, .. } = orders;
     let lines = lines.as_slice();
     let ifaces = keep_limits(alloc, given, lines)?;
     let arrivals = gather_captures(alloc, alone, &ifaces, lines, files)?;

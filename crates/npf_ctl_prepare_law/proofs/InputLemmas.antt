@@ -15,7 +15,8 @@ use Rattle.npf_ctl_script.specs.Laws.{NoScriptIsRefused, OneScript}
 use Rattle.npf_ctl_messages.specs.declared.fault.CommandFault.{CommandFault, TheVariants.Configuration as Refuses}
 use Rattle.npf_ctl_input.specs.{File.{ReadsFile, failed, longer, told_files, whole}, Interfaces.{NamesInterfaces, ReadsInterfaces, named, refused}}
 use Rattle.npf_ctl_input.specs.Loads.{LoadsAlone, LoadsFile, LoadsText, loaded, longer as long_table, refused as refused_text, told_load, unread}
-use Rattle.npf_ctl_input.specs.Source.{ReadsSource, Scripted, alone, bad_line, longer as long_script, scripted}
+use Rattle.npf_ctl_input.specs.declared.tap.Tap.{Tap}
+use Rattle.npf_ctl_input.specs.Source.{Source, Alone, ReadsEither, ReadsSource, Scripted, alone, bad_line, longer as long_script, scripted}
 use Rattle.npf_ctl_prepare_law.{specs.Readings.{Agree, EndAlike, bad_lines, equal, in_text}, proofs.AgreeLemmas.behind_one}
 use Rattle.npf_ctl_prepare_law.proofs.IfaceLemmas.{iface_file_or_bad, one_bad_iface_line, one_iface_file}
 
@@ -52,23 +53,29 @@ module _ (tree : Tree) where
 
 -- the second file of a run is read in one way
 module _ (one_script : OneScript) (none_refused : NoScriptIsRefused) (file bytes : List ℕ) where
-  pub sources_agree : Agree (λ one other. one ≡ other) (ReadsSource file bytes) (ReadsSource file bytes)
-  sources_agree _ _ (alone _) (alone _) = refl
-  sources_agree _ _ (alone is) (long_script not _) = not is
-  sources_agree _ _ (alone is) (scripted not _ _) = absurd (not is)
-  sources_agree _ _ (alone is) (bad_line not _ _) = not is
-  sources_agree _ _ (long_script not _) (alone is) = not is
-  sources_agree _ _ (long_script _ _) (long_script _ _) = equal refl
-  sources_agree _ _ (long_script _ over) (scripted _ few _) = omega (arith, over, few)
-  sources_agree _ _ (long_script _ over) (bad_line _ few _) = absurd (omega (arith, over, few))
-  sources_agree _ _ (scripted not _ _) (alone is) = absurd (not is)
-  sources_agree _ _ (scripted _ few _) (long_script _ over) = omega (arith, over, few)
-  sources_agree _ _ (scripted {lines = lines} _ _ is) (scripted {lines = others} _ _ there) = ap Scripted (one_script bytes lines others is there)
-  sources_agree _ _ (scripted {lines = lines} _ _ is) (bad_line {line = line} _ _ bad) = none_refused bytes lines line is bad
-  sources_agree _ _ (bad_line not _ _) (alone is) = not is
-  sources_agree _ _ (bad_line _ few _) (long_script _ over) = absurd (omega (arith, over, few))
-  sources_agree _ _ (bad_line {line = line} _ _ bad) (scripted {lines = lines} _ _ is) = none_refused bytes lines line is bad
-  sources_agree _ _ (bad_line _ _ _) (bad_line _ _ _) = bad_lines
+  either_agrees : Agree (λ one other. one ≡ other) (ReadsEither file bytes) (ReadsEither file bytes)
+  either_agrees _ _ (alone _) (alone _) = refl
+  either_agrees _ _ (alone is) (long_script not _) = not is
+  either_agrees _ _ (alone is) (scripted not _ _) = absurd (not is)
+  either_agrees _ _ (alone is) (bad_line not _ _) = not is
+  either_agrees _ _ (long_script not _) (alone is) = not is
+  either_agrees _ _ (long_script _ _) (long_script _ _) = equal refl
+  either_agrees _ _ (long_script _ over) (scripted _ few _) = omega (arith, over, few)
+  either_agrees _ _ (long_script _ over) (bad_line _ few _) = absurd (omega (arith, over, few))
+  either_agrees _ _ (scripted not _ _) (alone is) = absurd (not is)
+  either_agrees _ _ (scripted _ few _) (long_script _ over) = omega (arith, over, few)
+  either_agrees _ _ (scripted {lines = lines} _ _ is) (scripted {lines = others} _ _ there) = ap Scripted (one_script bytes lines others is there)
+  either_agrees _ _ (scripted {lines = lines} _ _ is) (bad_line {line = line} _ _ bad) = none_refused bytes lines line is bad
+  either_agrees _ _ (bad_line not _ _) (alone is) = not is
+  either_agrees _ _ (bad_line _ few _) (long_script _ over) = absurd (omega (arith, over, few))
+  either_agrees _ _ (bad_line {line = line} _ _ bad) (scripted {lines = lines} _ _ is) = none_refused bytes lines line is bad
+  either_agrees _ _ (bad_line _ _ _) (bad_line _ _ _) = bad_lines
+
+  pub sources_agree : (tap : Option Tap) → Agree (λ one other. one ≡ other) (ReadsSource tap file bytes) (ReadsSource tap file bytes)
+  sources_agree None one other is there = either_agrees one other is there
+  sources_agree (Some tap) one other is there =
+      subst (λ (it : Result Source CommandFault). AreOne (λ (a b : Source). a ≡ b) EndAlike it other) (sym is)
+      (subst (λ (it : Result Source CommandFault). AreOne (λ (a b : Source). a ≡ b) EndAlike (Ok (Alone bytes)) it) (sym there) refl)
 
 -- a configuration is loaded in one way
 module _ (one_tree : OneTree) (tree_or_halt : TreeOrHalt) (one_place : OnePlace) (one_meaning : OneMeaning) (never_both : NeverBoth) (tree : Tree) where

@@ -1,5 +1,5 @@
 -- What a run is prepared from is one.
-use Rattle.std.{proofs.Common.{◌≡◌, ℕ, List, [], ◌∷◌, length, refl, ap, subst}, specs.List.AllZip}
+use Rattle.std.{proofs.Common.{◌≡◌, ℕ, Option, List, [], ◌∷◌, length, refl, ap, subst}, specs.List.AllZip}
 use Rattle.npf_types.specs.{declared.limits.TheConstants.MAX_CAPTURE_BYTES, Stages.◌andthen◌}
 use Rattle.npf_parser.specs.Law.{OnePlace, OneTree, TreeOrHalt}
 use Rattle.npf_pcap.specs.CaptureLaw.{CapturesHaveNoFault, OneCapture, OneFault}
@@ -13,6 +13,7 @@ use Rattle.npf_ctl_script.specs.{declared.script.ScriptLine.ScriptLine, Laws.{No
 use Rattle.npf_ctl_schedule.specs.Schedule.{phases_of, unnumbered}
 use Rattle.npf_ctl_arrivals.specs.Arrivals.{Gathered, none_gathered}
 use Rattle.npf_ctl_input.specs.{File.{ReadsFile, told_files}, Interfaces.ReadsInterfaces, Loads.LoadsFile, Source.{Source, ReadsSource, lines_of_source}}
+use Rattle.npf_ctl_input.specs.declared.tap.Tap.{Tap}
 use Rattle.npf_ctl_prepare.specs.{Captures.GathersCaptures, Configurations.MakesConfigurations}
 use Rattle.npf_ctl_prepare.specs.Prepares.{KeepsScriptLimits, Plans, PreparesRun, PreparesSource, RunNames, numbered_by, planned}
 use Rattle.npf_ctl_prepare_law.{specs.Readings.{Agree, AreOnePlan, EndAlike}, proofs.{AgreeLemmas.behind_one, CaptureLemmas.one_gathered}}
@@ -34,22 +35,22 @@ numbered_same ifaces one other same = record { model = ap (numbered ifaces) same
 module _ (one_tree : OneTree) (tree_or_halt : TreeOrHalt) (one_place : OnePlace) (one_meaning : OneMeaning) (never_both : NeverBoth)
     (one_addition : OneAddition) (one_removal : OneRemoval) (one_flush : OneFlush) (one_script : OneScript) (none_refused : NoScriptIsRefused)
     (one_capture : OneCapture) (fine : CapturesHaveNoFault) (one_fault : OneFault) (tree : Tree) where
-  module _ (script : List ℕ) (given : List Iface) (one other : Configuration) (same : AreOneConfiguration one other) (source : Source) where
+  module _ (tap : Option Tap) (script : List ℕ) (given : List Iface) (one other : Configuration) (same : AreOneConfiguration one other) (source : Source) where
     made_agree : (ifaces : List Iface) (gathered : Gathered) → Agree AreOnePlan
-        (MakesConfigurations (told_files tree) (told_files tree) ifaces script (lines_of_source script source) (numbered_by ifaces one ∷ []) (numbered_by ifaces one)
-        andthen λ configs. Plans ifaces configs gathered (unnumbered (lines_of_source script source)))
-        (MakesConfigurations (told_files tree) (told_files tree) ifaces script (lines_of_source script source) (numbered_by ifaces other ∷ []) (numbered_by ifaces other)
-        andthen λ configs. Plans ifaces configs gathered (unnumbered (lines_of_source script source)))
+        (MakesConfigurations (told_files tree) (told_files tree) ifaces script (lines_of_source tap script source) (numbered_by ifaces one ∷ []) (numbered_by ifaces one)
+        andthen λ configs. Plans ifaces configs gathered (unnumbered (lines_of_source tap script source)))
+        (MakesConfigurations (told_files tree) (told_files tree) ifaces script (lines_of_source tap script source) (numbered_by ifaces other ∷ []) (numbered_by ifaces other)
+        andthen λ configs. Plans ifaces configs gathered (unnumbered (lines_of_source tap script source)))
     made_agree ifaces gathered =
         let first = numbered_same ifaces one other same in
         one_behind (AllZip AreOneConfiguration) AreOnePlan EndAlike _ _ _ _
-        (configurations_agree one_tree tree_or_halt one_place one_meaning never_both one_addition one_removal one_flush tree ifaces script (lines_of_source script source)
+        (configurations_agree one_tree tree_or_halt one_place one_meaning never_both one_addition one_removal one_flush tree ifaces script (lines_of_source tap script source)
         (numbered_by ifaces one ∷ []) (numbered_by ifaces other ∷ []) (numbered_by ifaces one) (numbered_by ifaces other) (first, tt) first)
-        (λ configs others _ _ all. plans_agree ifaces configs others gathered (unnumbered (lines_of_source script source)) all)
+        (λ configs others _ _ all. plans_agree ifaces configs others gathered (unnumbered (lines_of_source tap script source)) all)
 
-    sources_prepared : Agree AreOnePlan (PreparesSource (told_files tree) (told_files tree) script given one source) (PreparesSource (told_files tree) (told_files tree) script given other source)
+    sources_prepared : Agree AreOnePlan (PreparesSource (told_files tree) (told_files tree) tap script given one source) (PreparesSource (told_files tree) (told_files tree) tap script given other source)
     sources_prepared =
-        let lines = unnumbered (lines_of_source script source) in
+        let lines = unnumbered (lines_of_source tap script source) in
         behind_one AreOnePlan (KeepsScriptLimits given lines) _ _ (limits_once given lines)
         (λ ifaces. behind_one AreOnePlan (GathersCaptures (told_files tree) (told_files tree) source ifaces lines none_gathered) _ _
         (one_gathered one_capture fine one_fault tree source ifaces lines none_gathered) (made_agree ifaces))
@@ -60,7 +61,7 @@ module _ (one_tree : OneTree) (tree_or_halt : TreeOrHalt) (one_place : OnePlace)
       (λ given. one_behind AreOneConfiguration AreOnePlan EndAlike (LoadsFile (told_files tree) (told_files tree) given names.conf)
       (LoadsFile (told_files tree) (told_files tree) given names.conf) _ _ (files_agree one_tree tree_or_halt one_place one_meaning never_both tree given names.conf)
       (λ one other _ _ same. behind_one AreOnePlan (ReadsFile (told_files tree) (told_files tree) names.script MAX_CAPTURE_BYTES) _ _ (one_file tree names.script MAX_CAPTURE_BYTES)
-      (λ bytes. one_behind (λ (a b : Source). a ≡ b) AreOnePlan EndAlike (ReadsSource names.script bytes) (ReadsSource names.script bytes) _ _
-      (sources_agree one_script none_refused names.script bytes)
-      (λ source last _ _ sources. subst (λ (s : Source). Agree AreOnePlan (PreparesSource (told_files tree) (told_files tree) names.script given one source)
-      (PreparesSource (told_files tree) (told_files tree) names.script given other s)) sources (sources_prepared names.script given one other same source)))))
+      (λ bytes. one_behind (λ (a b : Source). a ≡ b) AreOnePlan EndAlike (ReadsSource names.tap names.script bytes) (ReadsSource names.tap names.script bytes) _ _
+      (sources_agree one_script none_refused names.script bytes names.tap)
+      (λ source last _ _ sources. subst (λ (s : Source). Agree AreOnePlan (PreparesSource (told_files tree) (told_files tree) names.tap names.script given one source)
+      (PreparesSource (told_files tree) (told_files tree) names.tap names.script given other s)) sources (sources_prepared names.tap names.script given one other same source)))))

@@ -79,9 +79,20 @@ iface_in rows = option_and_then iface_named (first_of (codes "iface") rows)
 abbrev pub dir_in : List Row → Option Dir
 dir_in rows = option_and_then dir_named (first_of (codes "dir") rows)
 
--- `run` deals its packets by one of the two spreads, and `explain` is asked of an interface and one of the two directions
+-- what `clap` found for an option, if it found something, by what texts name; a text that names nothing gives none
+abbrev pub given_in : {A : Type 0} → (Text → Option A) → Text → List Row → Option (Option A)
+given_in named_by id rows = option_map_or (λ text. option_map Some (named_by text)) (first_of id rows) (Some None)
+
+-- where a capture alone was recorded, of what `clap` found for `run`
+abbrev pub tap_iface_in : List Row → Option (Option Name)
+tap_iface_in rows = given_in iface_named (codes "on") rows
+
+abbrev pub tap_dir_in : List Row → Option (Option Dir)
+tap_dir_in rows = given_in dir_named (codes "dir") rows
+
+-- `run` deals its packets by one of the two spreads, and says of a tap an interface and one of the two directions, if it does; and `explain` is asked of an interface and one of the two directions
 abbrev pub knows_names : CommandName → List Row → Bool
-knows_names name.Run rows = is_some (spread_in rows)
+knows_names name.Run rows = is_some (spread_in rows) && (is_some (tap_iface_in rows) && is_some (tap_dir_in rows))
 knows_names name.Explain rows = is_some (iface_in rows) && is_some (dir_in rows)
 knows_names _ rows = true
 
@@ -131,6 +142,8 @@ pub record TellsRun (rows : List Row) (run : RunWords) : Type 0 where
   pub some : 1 ≤ run.workers
   pub few : run.workers ≤ 64
   pub spread : spread_in rows ≡ Some run.spread
+  pub on : tap_iface_in rows ≡ Some run.on
+  pub dir : tap_dir_in rows ≡ Some run.dir
   pub output : first_of (codes "write") rows ≡ given_text run.output
   pub load : first_of (codes "load") rows ≡ given_text run.load
   pub save : first_of (codes "save") rows ≡ given_text run.save

@@ -19,6 +19,8 @@ pub record IsSameRun (a b : RunWords) : Type 0 where
   pub ifaces : given_text a.ifaces ≡ given_text b.ifaces
   pub workers : a.workers ≡ b.workers
   pub spread : a.spread ≡ b.spread
+  pub on : a.on ≡ b.on
+  pub dir : a.dir ≡ b.dir
   pub output : given_text a.output ≡ given_text b.output
   pub load : given_text a.load ≡ given_text b.load
   pub save : given_text a.save ≡ given_text b.save

@@ -41,6 +41,10 @@ pub struct RunWords<'a> {
     pub spread: SpreadWord,
     /// The file that the packets that pass are written to.
     pub output: Option<&'a str>,
+    /// The interface that the packets of a capture alone passed on.
+    pub on: Option<Name>,
+    /// The direction that they passed in.
+    pub dir: Option<Dir>,
     /// The file of saved connections that are loaded before the run.
     pub load: Option<&'a str>,
     /// The file that the connections are saved to after the run.

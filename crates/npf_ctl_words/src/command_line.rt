@@ -4,7 +4,7 @@ ghost use Rattle.std.specs.Prelude.{◌≡◌, ◌≤◌, ◌&&◌, IfOk, IfSome
 ghost use Rattle.clap.specs.Words.{IsSignedIn, IsUnsignedIn, first_of, found_of, rows_of};
 ghost use Rattle.npf_ctl_words.specs.CommandLine.{SaysCommand, TellsCheck, TellsCommand, TellsCompare, TellsExplain, TellsLint, TellsLoad, TellsNumber, TellsQuery, TellsRun};
 ghost use Rattle.npf_ctl_words.specs.CommandLine.{asks_all, command_name, command_named, dir_in, dir_named, iface_in, iface_named, is_command_line};
-ghost use Rattle.npf_ctl_words.specs.CommandLine.{knows_names, name_in, signed_number, spread_in, spread_named, takes_words, word_texts};
+ghost use Rattle.npf_ctl_words.specs.CommandLine.{knows_names, name_in, signed_number, spread_in, spread_named, takes_words, tap_dir_in, tap_iface_in, word_texts};
 ghost use Rattle.npf_ctl_words.specs.Definitions.{check_command, compare_command, definition_of, explain_command, gen_command, lint_command, query_command, run_command};
 ghost use Rattle.npf_ctl_words.specs.Values.{HasEachValue, IsMatched};
 ghost use Rattle.npf_ctl_words.specs.declared.command.CommandName.TheVariants.{Why};
@@ -129,10 +129,16 @@ fn command_of<'a>(name: CommandName, matches: &ArgMatches<'a>) -> Option<Invocat
 #[tactic(auto, using(crate::proofs::SayLemmas::conf_of_run, crate::proofs::SayLemmas::script_of_run, crate::proofs::SayLemmas::workers_of_run, crate::proofs::SayLemmas::few_of_run, crate::proofs::SayLemmas::spread_of_run))]
 fn run_of<'a>(matches: &ArgMatches<'a>) -> Option<RunWords<'a>>
     requires { HasEachValue run_command (rows_of (found_of matches.now)) }
-    ensures known { is_some (spread_in (rows_of (found_of matches.now))) ≡ is_some result }
+    ensures known { (is_some (spread_in (rows_of (found_of matches.now))) && (is_some (tap_iface_in (rows_of (found_of matches.now))) && is_some (tap_dir_in (rows_of (found_of matches.now))))) ≡ is_some result }
     ensures told { IfSome result (TellsRun (rows_of (found_of matches.now))) }
 {
     let Some(spread) = spread_named(value(matches, "spread")) else {
+        return None;
+    };
+    let Some(on) = tap_iface(matches) else {
+        return None;
+    };
+    let Some(dir) = tap_dir(matches) else {
         return None;
     };
     Some(RunWords {
@@ -141,10 +147,38 @@ fn run_of<'a>(matches: &ArgMatches<'a>) -> Option<RunWords<'a>>
         ifaces: given(matches, "ifaces"),
         workers: few_workers(value(matches, "workers")),
         spread,
+        on,
+        dir,
         output: given(matches, "write"),
         load: given(matches, "load"),
         save: given(matches, "save"),
     })
+}
+
+/// The interface that `--on` names, if it is given; None where it names none.
+fn tap_iface(matches: &ArgMatches) -> Option<Option<Name>>
+    ensures { result ≡ tap_iface_in (rows_of (found_of matches.now)) }
+{
+    match given(matches, "on") {
+        Some(text) => match iface_named(text) {
+            Some(name) => Some(Some(name)),
+            None => None,
+        },
+        None => Some(None),
+    }
+}
+
+/// The direction that `--dir` names, if it is given; None where it names none.
+fn tap_dir(matches: &ArgMatches) -> Option<Option<Dir>>
+    ensures { result ≡ tap_dir_in (rows_of (found_of matches.now)) }
+{
+    match given(matches, "dir") {
+        Some(text) => match dir_named(text) {
+            Some(dir) => Some(Some(dir)),
+            None => None,
+        },
+        None => Some(None),
+    }
 }
 
 fn load_of<'a>(matches: &ArgMatches<'a>) -> Load<'a>

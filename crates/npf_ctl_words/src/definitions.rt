@@ -37,6 +37,8 @@ fn run<'a>(alloc: Global) -> Result<Command<'a>, AllocError>
         .arg(option(alloc, "ifaces"))?
         .arg(workers(alloc))?
         .arg(spread(alloc))?
+        .arg(option(alloc, "on"))?
+        .arg(option(alloc, "dir"))?
         .arg(option(alloc, "write"))?
         .arg(option(alloc, "load"))?
         .arg(option(alloc, "save"))?;

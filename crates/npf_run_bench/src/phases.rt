@@ -40,6 +40,7 @@ pub fn time_phases<R: Threads + Wait + Sync, C: Connections<FlowLaw>>(
         conf: conf.as_str(),
         script: script.as_str(),
         ifaces: None,
+        tap: None,
     };
     let mut captures = Captures::new(host.alloc());
     let mut files = FolderFiles::new(host);

@@ -2,7 +2,7 @@ use Rattle.std.proofs.Common.{◌≡◌, ◌≤◌, ℕ, false, List, length, Is
 use Rattle.npf_types.specs.declared.limits.TheConstants.{MAX_TEXT_BYTES}
 use Rattle.npf_ctl_script.specs.{declared.script.ScriptFault.TheVariants.BadLine, Lines.{IsScript, RefusesScript}}
 use Rattle.npf_ctl_input.{specs.Source.{BeginsAsCapture, alone, bad_line, longer, scripted}, proofs.RuleLemmas.script_fits}
-use Rattle.npf_ctl_input.proofs.source.read_source.Goals as goal
+use Rattle.npf_ctl_input.proofs.source.read_either.Goals as goal
 
 -- the test said no
 begins_not : (bytes shown : List ℕ) → shown ≡ bytes → (BeginsAsCapture shown → IsTrue false) → ¬ BeginsAsCapture bytes
