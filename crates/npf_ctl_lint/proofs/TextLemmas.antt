@@ -2,7 +2,7 @@
 use Rattle.std.proofs.Common.{◌≡◌, ℕ, zero, suc, ◌+◌, ◌<◌, ◌≤◌, ◌++◌, List, [], ◌∷◌, length, get_or, drop, refl, sym, ap, ◌∙◌, append_assoc, arith}
 use Rattle.std.proofs.lemmas.List.{append-nil}
 use Rattle.npf_lint.specs.declared.found.RuleFinding.{RuleFinding}
-use Rattle.npf_ctl_lint.specs.LintText.{finding_line, finding_lines}
+use Rattle.npf_ctl_lint.specs.RuleLine.{finding_line, finding_lines}
 
 one_dropped : {X : Type 0} (xs : List X) (i : ℕ) (d : X) → i < length xs → drop i xs ≡ get_or xs i d ∷ drop (suc i) xs
 one_dropped [] i d low = absurd (omega arith)

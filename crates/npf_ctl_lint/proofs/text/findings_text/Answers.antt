@@ -1,7 +1,7 @@
 use Rattle.std.proofs.Common.{◌++◌, [], length, codes, ap, ◌∙◌}
 use Rattle.std.specs.Fmt.{decimal}
-use Rattle.npf_ctl_lint.specs.declared.text.Lint.TheVariants.{Dead, Redundant}
-use Rattle.npf_ctl_lint.specs.LintText.{lint_count, finding_lines}
+use Rattle.npf_ctl_lint.specs.declared.rule_line.Lint.TheVariants.{Dead, Redundant}
+use Rattle.npf_ctl_lint.specs.RuleLine.{lint_count, finding_lines}
 use Rattle.npf_ctl_lint.proofs.TextLemmas.{then_rest}
 use Rattle.npf_ctl_lint.proofs.text.findings_text.Goals as goal
 
