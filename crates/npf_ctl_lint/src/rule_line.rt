@@ -33,7 +33,8 @@ pub(crate) fn write_counts(
     write_counted(into, "rules ", findings.len() as u64)?;
     write_counted(into, " dead ", lint_count(findings, Lint::Dead))?;
     write_counted(into, " redundant ", lint_count(findings, Lint::Redundant))?;
-    write_text(into, "\n")
+    write_text(into, "\n")?;
+    Ok(())
 }
 
 /// How many of the rules are so.
