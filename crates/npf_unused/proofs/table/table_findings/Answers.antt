@@ -1,4 +1,4 @@
-use Rattle.std.proofs.Common.{◌++◌, [], ◌∷◌, map, ap, ap₂, sym, ◌∙◌, zero-add}
+use Rattle.std.proofs.Common.{◌++◌, [], ◌∷◌, ap₂, sym, ◌∙◌, zero-add}
 use Rattle.std.proofs.lemmas.List.FromFn.{map-range_with_len_more}
 use Rattle.npf_unused.specs.Unused.{table_finding}
 use Rattle.npf_unused.proofs.table.table_findings.Goals as goal
