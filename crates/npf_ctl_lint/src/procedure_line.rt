@@ -28,15 +28,16 @@ pub(crate) fn write_procedures(
 }
 
 // Appends the line of a procedure, if it isn't used.
-fn write_procedure(
-    into: &mut Vec<u8>,
-    procedure: &Procedure,
-    used: bool,
-) -> Result<(), NoMemory>
+fn write_procedure(into: &mut Vec<u8>, procedure: &Procedure, used: bool) -> Result<(), NoMemory>
     ensures { OnOk result (into.new.items ≡ into.old.items ++ found_procedure_line (procedure.now, used)) }
 {
     if used {
         return Ok(());
     }
-    write_line(into, "procedure \"", procedure.name.as_slice(), "\" unused\n")
+    write_line(
+        into,
+        "procedure \"",
+        procedure.name.as_slice(),
+        "\" unused\n",
+    )
 }

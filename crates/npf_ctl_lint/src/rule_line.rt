@@ -24,10 +24,7 @@ pub(crate) fn some_idle_rule(findings: &[RuleFinding]) -> bool
 }
 
 /// Appends how many rules there are and how many of each kind.
-pub(crate) fn write_counts(
-    into: &mut Vec<u8>,
-    findings: &[RuleFinding],
-) -> Result<(), NoMemory>
+pub(crate) fn write_counts(into: &mut Vec<u8>, findings: &[RuleFinding]) -> Result<(), NoMemory>
     ensures { OnOk result (into.new.items ≡ into.old.items ++ counts_line findings.now) }
 {
     write_counted(into, "rules ", findings.len() as u64)?;

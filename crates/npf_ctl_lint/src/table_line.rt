@@ -38,11 +38,7 @@ pub(crate) fn write_tables(
 }
 
 // Appends the line of a table, if something is told of it.
-fn write_table(
-    into: &mut Vec<u8>,
-    table: &TableDecl,
-    finding: TableFinding,
-) -> Result<(), NoMemory>
+fn write_table(into: &mut Vec<u8>, table: &TableDecl, finding: TableFinding) -> Result<(), NoMemory>
     ensures { OnOk result (into.new.items ≡ into.old.items ++ found_table_line (table.now, finding)) }
 {
     match finding {

@@ -21,8 +21,16 @@ pub(crate) fn findings_text(
 {
     let mut text = Vec::new(alloc);
     write_rules(&mut text, findings.rules.as_slice())?;
-    write_groups(&mut text, model.groups.as_slice(), findings.groups.as_slice())?;
-    write_tables(&mut text, model.tables.as_slice(), findings.tables.as_slice())?;
+    write_groups(
+        &mut text,
+        model.groups.as_slice(),
+        findings.groups.as_slice(),
+    )?;
+    write_tables(
+        &mut text,
+        model.tables.as_slice(),
+        findings.tables.as_slice(),
+    )?;
     write_procedures(
         &mut text,
         model.procedures.as_slice(),

@@ -10,7 +10,7 @@ loop-group-preserved c =
     let found = c.args.found.now in
     let met = c.loop-group.yielded in
     let turn = zip_turn groups found met c.into_iter-group-iterator.result c.loop-group.group-iterator c.next.new.self c.next.result
-        (cc) (cc) c.loop-group.yielded_by (c.in-Some.group, c.in-Some.packet) c.in-Some.is c.next.ensures.steps in
+    (cc) (cc) c.loop-group.yielded_by (c.in-Some.group, c.in-Some.packet) c.in-Some.is c.next.ensures.steps in
     record {
       can = search rules;
       finite = search rules;

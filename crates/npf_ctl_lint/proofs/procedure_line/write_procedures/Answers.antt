@@ -10,7 +10,7 @@ loop-procedure-preserved c =
     let used = c.args.used.now in
     let met = c.loop-procedure.yielded in
     let turn = zip_turn procedures used met c.into_iter-procedure-iterator.result c.loop-procedure.procedure-iterator c.next.new.self c.next.result
-        (cc) (cc) c.loop-procedure.yielded_by (c.in-Some.procedure, c.in-Some.used) c.in-Some.is c.next.ensures.steps in
+    (cc) (cc) c.loop-procedure.yielded_by (c.in-Some.procedure, c.in-Some.used) c.in-Some.is c.next.ensures.steps in
     record {
       can = search rules;
       finite = search rules;

@@ -10,7 +10,7 @@ loop-table-preserved c =
     let found = c.args.found.now in
     let met = c.loop-table.yielded in
     let turn = zip_turn tables found met c.into_iter-table-iterator.result c.loop-table.table-iterator c.next.new.self c.next.result
-        (cc) (cc) c.loop-table.yielded_by (c.in-Some.table, c.in-Some.finding) c.in-Some.is c.next.ensures.steps in
+    (cc) (cc) c.loop-table.yielded_by (c.in-Some.table, c.in-Some.finding) c.in-Some.is c.next.ensures.steps in
     record {
       can = search rules;
       finite = search rules;
