@@ -5,8 +5,8 @@ use Rattle.npf_model.specs.Configuration.{Configuration}
 use Rattle.npf_lint.specs.Finding.{AreFindings}
 use Rattle.npf_dead_groups.specs.Comes.{AreGroupFindings}
 use Rattle.npf_unused.specs.Unused.{procedures_used, table_findings}
-use Rattle.npf_ctl_lint.specs.declared.finding.LintFindings.{LintFindings}
-use Rattle.npf_ctl_lint.specs.RuleLine.{counts_line, finding_lines, some_idle_rule}
+use Rattle.npf_ctl_lint.specs.declared.search.LintFindings.{LintFindings}
+use Rattle.npf_ctl_lint.specs.RuleLine.{rule_counts_line, finding_lines, some_idle_rule}
 use Rattle.npf_ctl_lint.specs.GroupLine.{dead_group_lines, some_dead_group}
 use Rattle.npf_ctl_lint.specs.TableLine.{idle_table_lines, some_idle_table}
 use Rattle.npf_ctl_lint.specs.ProcedureLine.{some_unused_procedure, unused_procedure_lines}
@@ -24,7 +24,7 @@ findings_text model findings =
     finding_lines 0 findings.rules.items
     ++ (dead_group_lines model.groups findings.groups.items
     ++ (idle_table_lines model.tables findings.tables.items
-    ++ (unused_procedure_lines model.procedures findings.procedures.items ++ counts_line findings.rules.items)))
+    ++ (unused_procedure_lines model.procedures findings.procedures.items ++ rule_counts_line findings.rules.items)))
 
 -- one of them does nothing
 abbrev pub some_finding : LintFindings → Bool

@@ -60,7 +60,7 @@ lint_count lint findings = length (filter (λ finding. is_lint lint (lint_of fin
 abbrev pub some_idle_rule : List RuleFinding → Bool
 some_idle_rule findings = nat_lt 0 (lint_count Dead findings) || nat_lt 0 (lint_count Redundant findings)
 
-abbrev pub counts_line : List RuleFinding → List ℕ
-counts_line findings =
+abbrev pub rule_counts_line : List RuleFinding → List ℕ
+rule_counts_line findings =
     (codes "rules " ++ decimal (length findings))
     ++ ((codes " dead " ++ decimal (lint_count Dead findings)) ++ ((codes " redundant " ++ decimal (lint_count Redundant findings)) ++ codes "\n"))

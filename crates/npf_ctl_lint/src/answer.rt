@@ -4,7 +4,7 @@ ghost use Rattle.npf_ruleset.specs.Configuration.{configuration};
 ghost use Rattle.npf_ctl_query.specs.QueryText.{IsStopFault};
 ghost use Rattle.npf_ctl_lint.specs.LintText.{IsLintText};
 
-use crate::finding::{findings_of, some_finding};
+use crate::search::{findings_of, some_finding};
 use crate::text::findings_text;
 use npf_ctl_messages::CommandFault;
 use npf_ruleset::Config;

@@ -3,19 +3,19 @@
 // address; for each procedure that no rule calls; and how many rules there are and how many of each kind.
 //
 // The contract (specs/LintText): the findings are those of the configuration (npf_lint, npf_dead_groups, npf_unused), the text is theirs, and something was
-// found exactly where a line but the last is told, of a rule only where no rule answers in its place or others would do the same.
+// found exactly where a rule is dead or redundant, a group dead, a table empty or unused, or a procedure unused. All searches share their steps.
 #![tactic(auto)]
 
 mod answer;
-mod finding;
 mod group_line;
 mod line;
 mod loaded;
 mod procedure_line;
 mod rule_line;
+mod search;
 mod table_line;
 mod text;
 
 pub use answer::{LintAnswer, lint_text};
-pub use finding::LintFindings;
 pub use loaded::lint_loaded;
+pub use search::LintFindings;

@@ -1,6 +1,6 @@
 // The lines of rules that do nothing, and the line that counts them.
 ghost use Rattle.std.specs.Prelude.{◌≡◌, ◌<◌, ◌||◌, ◌++◌, OnOk, nat_lt};
-ghost use Rattle.npf_ctl_lint.specs.RuleLine.{counts_line, lint_count, finding_line, finding_lines, lint_of, none_words, places_text, redundant_line, some_idle_rule};
+ghost use Rattle.npf_ctl_lint.specs.RuleLine.{rule_counts_line, lint_count, finding_line, finding_lines, lint_of, none_words, places_text, redundant_line, some_idle_rule};
 
 use npf_ctl_query::write_ordinal;
 use npf_lint::{Replacement, RuleFinding};
@@ -25,7 +25,7 @@ pub(crate) fn some_idle_rule(findings: &[RuleFinding]) -> bool
 
 /// Appends how many rules there are and how many of each kind.
 pub(crate) fn write_counts(into: &mut Vec<u8>, findings: &[RuleFinding]) -> Result<(), NoMemory>
-    ensures { OnOk result (into.new.items ≡ into.old.items ++ counts_line findings.now) }
+    ensures { OnOk result (into.new.items ≡ into.old.items ++ rule_counts_line findings.now) }
 {
     write_counted(into, "rules ", findings.len() as u64)?;
     write_counted(into, " dead ", lint_count(findings, Lint::Dead))?;

@@ -2,10 +2,10 @@
 ghost use Rattle.std.specs.Prelude.{◌≡◌, IfOk};
 ghost use Rattle.npf_ctl_lint.specs.LintText.{findings_text};
 
-use crate::finding::LintFindings;
 use crate::group_line::write_groups;
 use crate::procedure_line::write_procedures;
 use crate::rule_line::{write_counts, write_rules};
+use crate::search::LintFindings;
 use crate::table_line::write_tables;
 use npf_model::Model;
 use npf_types::NoMemory;

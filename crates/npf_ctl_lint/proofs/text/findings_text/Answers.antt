@@ -1,5 +1,5 @@
 use Rattle.std.proofs.Common.{◌++◌, [], ap, ap₂, ◌∙◌}
-use Rattle.npf_ctl_lint.specs.RuleLine.{counts_line, finding_lines}
+use Rattle.npf_ctl_lint.specs.RuleLine.{rule_counts_line, finding_lines}
 use Rattle.npf_ctl_lint.specs.GroupLine.{dead_group_lines}
 use Rattle.npf_ctl_lint.specs.TableLine.{idle_table_lines}
 use Rattle.npf_ctl_lint.specs.ProcedureLine.{unused_procedure_lines}
@@ -14,7 +14,7 @@ returns c =
     let groups = dead_group_lines model.groups findings.groups.items in
     let tables = idle_table_lines model.tables findings.tables.items in
     let procedures = unused_procedure_lines model.procedures findings.procedures.items in
-    let counts = counts_line findings.rules.items in
+    let counts = rule_counts_line findings.rules.items in
     then_rest [] rules (groups ++ (tables ++ (procedures ++ counts)))
     (c.in_ok-write_rules.ensures ∙ ap₂ (λ text all. text ++ finding_lines 0 all) c.new-text.ensures.items c.as_slice.ensures.value)
     (then_rest _ groups (tables ++ (procedures ++ counts))
@@ -24,4 +24,4 @@ returns c =
     (then_rest _ procedures counts
     (c.in_ok-write_procedures.ensures
     ∙ ap₂ (λ all used. c.write_tables.new.into.items ++ unused_procedure_lines all used) c.as_slice-6.ensures c.as_slice-7.ensures.value)
-    (c.in_ok-write_counts.ensures ∙ ap (λ all. c.write_procedures.new.into.items ++ counts_line all) c.as_slice-8.ensures.value))))
+    (c.in_ok-write_counts.ensures ∙ ap (λ all. c.write_procedures.new.into.items ++ rule_counts_line all) c.as_slice-8.ensures.value))))
