@@ -21,7 +21,6 @@ returns-in_err-new-clause-ends g c =
     let middle = g.F.Files.moment c.load_both.new.files in
     let last = g.F.Files.moment c.load_file.new.files in
     let out = g.O.Sink.moment c.args.out.now in
-    let words = c.args.words in
     let loaded = c.in_ok-loaded.loaded in
     let fault = c.in_err-new.field-0.0 in
     let same : c.from_residual-in_err-new.result ≡ Err fault = search rules in
@@ -29,7 +28,7 @@ returns-in_err-new-clause-ends g c =
     let loads = rw c.load_of_compare.ensures at
     (c.in_ok-loaded.ensures.loads first last (around_first first first middle last last (around_itself first last) c.load_file.ensures.reads)) in
     let comes = c.in_err-new.ensures.comes first last (around_next first first middle last last (around_itself first last) c.load_both.ensures.reads) in
-    rw same (λ texts pass said. unloaded_new texts (moment first out pass) (moment last out pass) words said loaded.ifaces.list (configuration loaded.config)
+    rw same (λ texts pass said. unloaded_new texts (moment first out pass) (moment last out pass) c.args.words said loaded.ifaces.list (configuration loaded.config)
     (record { reads = loads.0; loads = loads.1; idle = refl }) (record { put = nothing_put out; files = files; idle = refl }) fault comes)
 
 pub returns-in_err-told-clause-ends : goal.returns-in_err-told-clause-ends
