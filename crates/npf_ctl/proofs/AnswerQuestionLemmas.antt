@@ -2,7 +2,10 @@
 use Rattle.std.proofs.Common.{◌≡◌, ℕ, false, Some, Ok, Err, OnOk, IfOk, IfErr, Result, List, refl, subst, sym}
 use Rattle.npf_model.specs.{Configuration.Configuration, declared.iface.Iface.Iface}
 use Rattle.npf_types.specs.Stages.{goes_on}
-use Rattle.npf_outside.specs.{Files.FilesMoment, Sink.{Appends, AppendsFront}}
+use Rattle.npf_config.specs.Reading.{OnlyReads}
+use Rattle.npf_connections.specs.Pass.{Pass}
+use Rattle.npf_engine.specs.Histories.{FlowEntry}
+use Rattle.npf_outside.specs.{Files.FilesMoment, Sink.{Appends, AppendsFront, SinkMoment}}
 use Rattle.npf_ctl_input.{specs.{Interfaces.ReadsInterfaces, Loads.{LoadsAlone, LoadsFile}, Unless.IfTold}, proofs.UnlessLemmas.told_lasts}
 use Rattle.npf_ctl_messages.specs.declared.fault.CommandFault.{CommandFault}
 use Rattle.npf_ctl_output.specs.SinkText.{HasPutFault}
@@ -12,9 +15,10 @@ use Rattle.npf_ctl_input.specs.File.{ReadsFile}
 use Rattle.npf_ctl_words.specs.declared.command.{CheckWords.CheckWords, CompareWords.CompareWords, Invocation.TheVariants.{Check, Compare}}
 use Rattle.npf_ctl.specs.declared.{questions.ConfigQuestion.ConfigQuestion, findings.Finding.Finding}
 use Rattle.npf_ctl.specs.declared.questions.ConfigQuestion.TheVariants as Asked
-use Rattle.npf_ctl.specs.{Questions.{AnswersQuestion, RefusesQuestion, asking_command, loaded_of_question}, Checks.RefusesCheck, Comparisons.RefusesComparison, Commands.{load_of_check, load_of_compare, loaded_by}, Ends.AnswersIn}
-use Rattle.npf_ctl.specs.{Faults.{ChangesNoFile, IsUntouched, MeetsFault, PutsNothing}, Reasons.is_explained, Run.Moment, Texts.{IsAskedOf, TextOf}, Top.{DoesCommand, DoesWords, PutsText}}
-use Rattle.npf_ctl.proofs.EndLemmas.{early, unput}
+use Rattle.npf_ctl.specs.{Questions.{AnswersQuestion, RefusesQuestion, asking_command, loaded_of_question}, Checks.RefusesCheck, Comparisons.RefusesComparison, Ends.AnswersIn}
+use Rattle.npf_ctl.specs.Commands.{load_of_check, load_of_compare, loaded_by}
+use Rattle.npf_ctl.specs.{Faults.{ChangesNoFile, IsUntouched, MeetsFault, PutsNothing}, Reasons.is_explained, Run.{Moment, moment}, Texts.{IsAskedOf, TextOf}, Top.{DoesCommand, DoesWords, PutsText}}
+use Rattle.npf_ctl.proofs.{EndLemmas.{early, unput}, FileLemmas.{nothing_put, only_read}}
 
 pub asks_load : (question : ConfigQuestion) → loaded_by (asking_command question) ≡ Some (loaded_of_question question)
 asks_load (Asked.Explain words) = refl
@@ -84,3 +88,12 @@ module _ (words : List (List ℕ)) (before after : Moment) (command : Invocation
         )
     answer_ends finding text put answers same (Err why) is whole flushed front fault =
         unput words before after command finding text said (TextOf.answer loads asked answers) front same why fault
+
+-- the files were only read, and the configuration isn't loaded
+pub load_ends : (words : List (List ℕ)) (first last : FilesMoment) (out : SinkMoment) (pass : Pass FlowEntry) (command : Invocation) (load : Load) →
+    loaded_by command ≡ Some load → SaysCommand words command → ((why : CommandFault) → is_explained command why ≡ false) → OnlyReads first last →
+    (fault : CommandFault) → IfTold (λ why. LoadsAlone first last (given_text load.ifaces) load.conf.now (Err why)) fault →
+    MeetsFault words (moment first out pass) (moment last out pass) fault
+load_ends words first last out pass command load loads said plain reads fault told =
+    unloaded words (moment first out pass) (moment last out pass) command load loads said plain
+    (record { put = nothing_put out; files = only_read first last reads; idle = refl }) fault told

@@ -107,3 +107,7 @@ pub extents_named : (packets sliced : List Packet) (extents lent : List IpExtent
     AreExtentsOf packets lent
 extents_named packets sliced extents lent same_packets same_extents are =
     subst (λ (e : List IpExtent). AreExtentsOf packets e) (sym same_extents) (subst (λ (p : List Packet). AreExtentsOf p extents) same_packets are)
+
+-- files were read, and read again
+pub read_twice : (first middle last : FilesMoment) → OnlyReads first middle → OnlyReads middle last → SameFiles first.contents last.contents
+read_twice first middle last one two = same_through first.contents middle.contents last.contents (only_read first middle one) (only_read middle last two)

@@ -10,7 +10,8 @@ use Rattle.npf_show.specs.Rule.{rule_pieces}
 use Rattle.npf_explain.specs.declared.told.GroupTold.{GroupTold}
 use Rattle.npf_explain.specs.declared.told.MapTold.{MapTold}
 use Rattle.npf_explain.specs.declared.told.RuleTold.{RuleTold}
-use Rattle.npf_ctl_explain.specs.Word.{group_words, map_words, ordinal_text, rule_words}
+use Rattle.npf_ctl_explain.specs.Word.{group_words, map_words, rule_words}
+use Rattle.npf_ctl_query.specs.QueryText.{ordinal_text}
 
 -- a group's name in quotes, or that it is the default group
 abbrev pub group_name_text : Bool → List ℕ → List ℕ

@@ -9,7 +9,7 @@ use Rattle.npf_model.specs.declared.rule.StateOpt.{StateOpt}
 use Rattle.npf_model.specs.Verdict.{rule_at}
 use Rattle.npf_show.specs.Piece.{spelled}
 use Rattle.npf_show.specs.Rule.{return_pieces, state_pieces}
-use Rattle.npf_ctl_explain.specs.Word.{ordinal_text}
+use Rattle.npf_ctl_query.specs.QueryText.{ordinal_text}
 
 -- only what passes is translated
 abbrev pub translated_text : Option ℕ → List ℕ

@@ -1,6 +1,5 @@
 -- The words in which an explanation tells of groups, rules and maps.
-use Rattle.std.specs.Prelude.{ℕ, ◌+◌, List, ◌++◌, codes}
-use Rattle.std.specs.Fmt.{decimal}
+use Rattle.std.specs.Prelude.{ℕ, List, ◌++◌, codes}
 use Rattle.npf_ruleset.specs.declared.misfit.Part.{Part}
 use Rattle.npf_ruleset.specs.declared.misfit.Part.TheVariants.{Direction, Interface, Family, Protocol, Flags, Icmp, Source, SourcePort, Destination, DestinationPort}
 use Rattle.npf_explain.specs.declared.told.GroupTold.{GroupTold}
@@ -11,10 +10,7 @@ use Rattle.npf_explain.specs.declared.told.RuleTold.{RuleTold}
 use Rattle.npf_explain.specs.declared.told.RuleTold.TheVariants as RuleSays
 use Rattle.npf_explain.specs.declared.told.Unasked.{Unasked}
 use Rattle.npf_explain.specs.declared.told.Unasked.TheVariants.{BehindFinal, GroupElsewhere, GroupAnswered}
-
--- a place, which counts from 0, by its number from 1
-unfoldable pub ordinal_text : ℕ → List ℕ
-ordinal_text place = decimal (place + 1)
+use Rattle.npf_ctl_query.specs.QueryText.{ordinal_text}
 
 abbrev pub part_word : Part → List ℕ
 part_word Direction = codes "direction"

@@ -4,7 +4,8 @@ ghost use Rattle.npf_precedence.specs.Entry.{ordered_rule};
 ghost use Rattle.npf_ctl_explain.specs.Beside.{beside, each_beside};
 ghost use Rattle.npf_ctl_explain.specs.Line.{group_line, group_name_text, rule_line, told_map_line};
 
-use crate::words::{group_words, write_map_words, write_ordinal, write_rule_words};
+use crate::words::{group_words, write_map_words, write_rule_words};
+use npf_ctl_query::write_ordinal;
 use npf_explain::{GroupTold, MapTold, RuleTold};
 use npf_model::{Group, Map, Model};
 use npf_precedence::RuleEntry;

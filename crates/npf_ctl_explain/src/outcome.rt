@@ -5,7 +5,7 @@ ghost use Rattle.npf_show.specs.Piece.{spelled};
 ghost use Rattle.npf_show.specs.Rule.{return_pieces, state_pieces};
 ghost use Rattle.npf_ctl_explain.specs.Outcome.{decided_text, decision_text, translated_text, verdict_words};
 
-use crate::words::write_ordinal;
+use npf_ctl_query::write_ordinal;
 use npf_model::{Rule, StateOpt};
 use npf_ruleset::Config;
 use npf_text::write_text;

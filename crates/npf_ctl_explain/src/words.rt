@@ -1,22 +1,12 @@
 // The words for what is told.
 ghost use Rattle.std.specs.Prelude.{◌≡◌, ◌++◌, OnOk};
-ghost use Rattle.npf_ctl_explain.specs.Word.{group_words, map_words, ordinal_text, part_word, rule_words, unasked_words};
+ghost use Rattle.npf_ctl_explain.specs.Word.{group_words, map_words, part_word, rule_words, unasked_words};
 
-use itoa::Buffer;
+use npf_ctl_query::write_ordinal;
 use npf_explain::{GroupTold, MapTold, RuleTold, Unasked};
 use npf_ruleset::Part;
 use npf_text::write_text;
 use npf_types::NoMemory;
-
-/// Appends the number, from 1, of a place that counts from 0.
-#[tactic(auto, unfolding(crate::specs::Word::ordinal_text))]
-pub(crate) fn write_ordinal(into: &mut Vec<u8>, place: usize) -> Result<(), NoMemory>
-    ensures { OnOk result (into.new.items ≡ into.old.items ++ ordinal_text place) }
-{
-    let mut digits = Buffer::new();
-    into.extend_from_slice(digits.format(place as u128 + 1).as_bytes())?;
-    Ok(())
-}
 
 pub(crate) fn group_words(told: GroupTold) -> &'static str
     ensures { result.now ≡ group_words told }

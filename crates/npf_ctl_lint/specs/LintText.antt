@@ -1,72 +1,40 @@
--- What is told of a configuration's rules.
-use Rattle.std.specs.Prelude.{◌≡◌, ◌+◌, ◌||◌, ℕ, Bool, true, false, Option, Some, None, List, [], ◌∷◌, ◌++◌, codes, length, nat_lt}
-use Rattle.std.specs.Fmt.{decimal}
-use Rattle.std.specs.List.{filter, flat_map}
+-- What is told of a configuration: the lines of rules, of groups, of tables and of procedures that do nothing, and how many rules there are.
+use Rattle.std.specs.Prelude.{◌≡◌, ◌||◌, ℕ, Bool, List, ◌++◌}
+use Rattle.npf_model.specs.declared.model.Model.{Model}
 use Rattle.npf_model.specs.Configuration.{Configuration}
-use Rattle.npf_lint.specs.declared.found.Replacement.{Replacement}
-use Rattle.npf_lint.specs.declared.found.RuleFinding.{RuleFinding}
-use Rattle.npf_lint.specs.declared.found.RuleFinding.TheVariants as Found
 use Rattle.npf_lint.specs.Finding.{AreFindings}
-use Rattle.npf_ctl_query.specs.QueryText.{ordinal_text}
-use Rattle.npf_ctl_lint.specs.declared.text.Lint.{Lint}
-use Rattle.npf_ctl_lint.specs.declared.text.Lint.TheVariants.{Dead, Redundant}
+use Rattle.npf_dead_groups.specs.Comes.{AreGroupFindings}
+use Rattle.npf_unused.specs.Unused.{procedures_used, table_findings}
+use Rattle.npf_ctl_lint.specs.declared.search.LintFindings.{LintFindings}
+use Rattle.npf_ctl_lint.specs.RuleLine.{rule_counts_line, finding_lines, some_idle_rule}
+use Rattle.npf_ctl_lint.specs.GroupLine.{dead_group_lines, some_dead_group}
+use Rattle.npf_ctl_lint.specs.TableLine.{idle_table_lines, some_idle_table}
+use Rattle.npf_ctl_lint.specs.ProcedureLine.{some_unused_procedure, unused_procedure_lines}
 
-abbrev pub places_text : List ℕ → List ℕ
-places_text places = flat_map (λ place. codes " " ++ ordinal_text place) places
+-- of each kind of thing what its library finds
+pub record AreLintFindings (config : Configuration) (findings : LintFindings) : Type 0 where
+  pub rules : AreFindings config findings.rules.items
+  pub groups : AreGroupFindings config findings.groups.items
+  pub tables : findings.tables.items ≡ table_findings config
+  pub procedures : findings.procedures.items ≡ procedures_used config.model
 
-abbrev pub none_words : Bool → List ℕ
-none_words true = codes " none"
-none_words false = []
+-- the text of what is found of a model's rules, groups, tables and procedures
+abbrev pub findings_text : Model → LintFindings → List ℕ
+findings_text model findings =
+    finding_lines 0 findings.rules.items
+    ++ (dead_group_lines model.groups findings.groups.items
+    ++ (idle_table_lines model.tables findings.tables.items
+    ++ (unused_procedure_lines model.procedures findings.procedures.items ++ rule_counts_line findings.rules.items)))
 
--- what would answer in the rule's place: these rules, or none
-abbrev pub redundant_line : ℕ → Replacement → List ℕ
-redundant_line place replacement =
-    codes "rule "
-    ++ (ordinal_text place ++ (codes " redundant by" ++ (places_text replacement.others.items ++ (none_words replacement.none ++ codes "\n"))))
+-- one of them does nothing
+abbrev pub some_finding : LintFindings → Bool
+some_finding findings =
+    some_idle_rule findings.rules.items
+    || (some_dead_group findings.groups.items || (some_idle_table findings.tables.items || some_unused_procedure findings.procedures.items))
 
--- nothing is told of a rule that is needed
-abbrev pub finding_line : ℕ → RuleFinding → List ℕ
-finding_line place (Found.Reached packet) = []
-finding_line place (Found.Redundant replacement) = redundant_line place replacement
-finding_line place Found.Impossible = codes "rule " ++ (ordinal_text place ++ codes " dead impossible\n")
-finding_line place (Found.Covered others) = codes "rule " ++ (ordinal_text place ++ (codes " dead covered" ++ (places_text others.items ++ codes "\n")))
-
--- the lines of rules of which the first has this place
-abbrev pub finding_lines : ℕ → List RuleFinding → List ℕ
-finding_lines place [] = []
-finding_lines place (finding ∷ others) = finding_line place finding ++ finding_lines (place + 1) others
-
--- other rules would do the same, where there are some: what none would answer is blocked, so a rule that blocks it says what holds without it
-abbrev pub lint_by : List ℕ → Option Lint
-lint_by [] = None
-lint_by (other ∷ others) = Some Redundant
-
--- what is found of a rule, if it is worth a look
-abbrev pub lint_of : RuleFinding → Option Lint
-lint_of (Found.Reached packet) = None
-lint_of (Found.Redundant replacement) = lint_by replacement.others.items
-lint_of Found.Impossible = Some Dead
-lint_of (Found.Covered others) = Some Dead
-
-abbrev pub is_lint : Lint → Option Lint → Bool
-is_lint lint None = false
-is_lint Dead (Some Dead) = true
-is_lint Redundant (Some Redundant) = true
-is_lint Dead (Some Redundant) = false
-is_lint Redundant (Some Dead) = false
-
-abbrev pub lint_count : Lint → List RuleFinding → ℕ
-lint_count lint findings = length (filter (λ finding. is_lint lint (lint_of finding)) findings)
-
-abbrev pub findings_text : List RuleFinding → List ℕ
-findings_text findings =
-    finding_lines 0 findings
-    ++ ((codes "rules " ++ decimal (length findings))
-    ++ ((codes " dead " ++ decimal (lint_count Dead findings)) ++ ((codes " redundant " ++ decimal (lint_count Redundant findings)) ++ codes "\n")))
-
--- the text is that of the configuration's findings, of which one is worth a look, or none is
+-- the text is that of the configuration's findings, of which one does nothing, or none does
 pub record IsLintText (config : Configuration) (found : Bool) (text : List ℕ) : Type 0 where
-  pub findings : List RuleFinding
-  pub are : AreFindings config findings
-  pub told : text ≡ findings_text findings
-  pub says : found ≡ (nat_lt 0 (lint_count Dead findings) || nat_lt 0 (lint_count Redundant findings))
+  pub findings : LintFindings
+  pub are : AreLintFindings config findings
+  pub told : text ≡ findings_text config.model findings
+  pub says : found ≡ some_finding findings

@@ -11,7 +11,7 @@ use npf_ruleset::Config;
 use npf_types::limits::MAX_INTERFACES;
 use std::alloc::Global;
 
-/// What is found of the rules of a configuration, beside the interfaces that were given with it: packets may pass on these and on those that it names; all
+/// What of a configuration does nothing, beside the interfaces that were given with it: packets may pass on these and on those that it names; all
 /// others are alike. The search may take `most` steps, or 2^64 - 2 where that is less.
 ///
 /// # Errors

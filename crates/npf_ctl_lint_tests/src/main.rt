@@ -1,8 +1,8 @@
 // What `lint` tells of configurations, row by row.
 //
 // Standard input has a line each. `config TEXT` is the configuration from there on, in which `\n` ends a line. `lint` is printed with what is told of it;
-// `steps MOST` alike, where the search may take so many steps. The interfaces are wm0 and wm1; the table file b has two entries. What stdout wants was
-// found by hand.
+// `steps MOST` alike, where the search may take so many steps. The interfaces are wm0 and wm1; the table files are b, few and odd. What stdout wants was
+// found by hand, and of the last rows by checks/every_packet.
 #![tactic(auto)]
 
 mod loads;

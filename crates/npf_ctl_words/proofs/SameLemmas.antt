@@ -4,7 +4,8 @@ use Rattle.clap.specs.Words.{Row, Text}
 use Rattle.npf_shelf.proofs.OptionLemmas.{Some-injective}
 use Rattle.npf_ctl_words.specs.CommandLine.{SaysCommand, TellsCheck, TellsCommand, TellsCompare, TellsExplain, TellsLint, TellsLoad, TellsQuery, TellsRun, command_name, rows_in}
 use Rattle.npf_ctl_words.specs.Laws.{IsSameCheck, IsSameCommand, IsSameCompare, IsSameExplain, IsSameLint, IsSameLoad, IsSameQuery, IsSameRun}
-use Rattle.npf_ctl_words.specs.declared.command.{CheckWords.CheckWords, CompareWords.CompareWords, ExplainWords.ExplainWords, Invocation.Invocation, LintWords.LintWords, Load.Load, QueryWords.QueryWords, RunWords.RunWords}
+use Rattle.npf_ctl_words.specs.declared.command.{CheckWords.CheckWords, CompareWords.CompareWords, ExplainWords.ExplainWords, Invocation.Invocation}
+use Rattle.npf_ctl_words.specs.declared.command.{LintWords.LintWords, Load.Load, QueryWords.QueryWords, RunWords.RunWords}
 use Rattle.npf_ctl_words.specs.declared.command.Invocation.TheVariants as command
 
 same_run : (rows : List Row) (a b : RunWords) → TellsRun rows a → TellsRun rows b → IsSameRun a b

@@ -1,6 +1,6 @@
 -- Which tables and procedures of a model are used: those that some rule, or the filter of some map, names (npf.conf(5), "Tables", "Procedures").
-use Rattle.std.specs.Prelude.{ℕ, ◌==◌, ◌||◌, Bool, true, false, Option, Some, None, List, [], ◌∷◌, slice_get}
-use Rattle.std.specs.List.{list_any}
+use Rattle.std.specs.Prelude.{ℕ, ◌==◌, ◌||◌, Bool, true, false, Option, Some, None, List, [], ◌∷◌, length, map, slice_get}
+use Rattle.std.specs.List.{list_any, range_with_len}
 use Rattle.npf_types.specs.declared.prefix.Prefix.{Prefix}
 use Rattle.npf_model.specs.declared.ends.AddrItem.{AddrItem}
 use Rattle.npf_model.specs.declared.ends.AddrItem.TheVariants.{Net, InTable}
@@ -65,3 +65,11 @@ finding_by false filled = Unused
 
 abbrev pub table_finding : Configuration → ℕ → TableFinding
 table_finding config number = finding_by (is_used config.model (Table number)) (has_entries (slice_get config.tables number))
+
+-- that of each table, in the order in which the model declares them
+abbrev pub table_findings : Configuration → List TableFinding
+table_findings config = map (table_finding config) (range_with_len 0 (length config.model.tables))
+
+-- ---- and of a procedure: whether some rule calls it, of each in the order in which the model declares them
+abbrev pub procedures_used : Model → List Bool
+procedures_used model = map (λ place. is_used model (Procedure place)) (range_with_len 0 (length model.procedures))

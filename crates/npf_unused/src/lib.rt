@@ -6,8 +6,10 @@
 // The contract (specs/Unused): something is used exactly where some rule or some map names it; of a table that is used it is said whether it has a block.
 #![tactic(auto)]
 
+mod procedure;
 mod table;
 mod usable;
 
-pub use table::{TableFinding, table_finding};
+pub use procedure::procedures_used;
+pub use table::{TableFinding, table_finding, table_findings};
 pub use usable::{Usable, is_used};

@@ -1,10 +1,11 @@
 // What is found of a table.
-ghost use Rattle.std.specs.Prelude.{◌≡◌, slice_get};
-ghost use Rattle.npf_unused.specs.Unused.{finding_by, has_entries, table_finding};
+ghost use Rattle.std.specs.Prelude.{◌≡◌, IfOk, slice_get};
+ghost use Rattle.npf_unused.specs.Unused.{finding_by, has_entries, table_finding, table_findings};
 
 use crate::usable::{Usable, is_used};
 use npf_model::Model;
-use npf_types::{List, Prefix};
+use npf_types::{List, NoMemory, Prefix};
+use std::alloc::Global;
 
 /// What is found of a table.
 #[derive(Clone, Copy, Debug, PartialEq, Eq)]
@@ -15,6 +16,21 @@ pub enum TableFinding {
     Empty,
     /// No rule and no map names it.
     Unused,
+}
+
+/// What is found of each table of a model with these tables' blocks, in the order in which the model declares them.
+pub fn table_findings(
+    alloc: Global,
+    model: &Model,
+    tables: &[List<Prefix>],
+) -> Result<Vec<TableFinding>, NoMemory>
+    ensures { IfOk result (λ found. found.items ≡ table_findings (record { model = model.now; tables = tables.now })) }
+{
+    let mut found = Vec::new(alloc);
+    for number in 0..model.tables.as_slice().len() {
+        found.push(table_finding(model, tables, number))?;
+    }
+    Ok(found)
 }
 
 /// What is found of the table of this number, counted from 0, of a model with these tables' blocks.

@@ -4,7 +4,7 @@ use Rattle.npf_outside.specs.Sink.{Appends, AppendsFront}
 use Rattle.npf_ctl_lint.specs.Loaded.{AnswersLint}
 use Rattle.npf_ctl_words.specs.declared.command.Invocation.TheVariants.{Lint}
 use Rattle.npf_ctl.specs.{Commands.load_of_lint, Questions.{AnswersQuestion, RefusesQuestion}, Run.moment}
-use Rattle.npf_ctl.proofs.AnswerQuestionLemmas.{answer_ends, unanswered, unloaded}
+use Rattle.npf_ctl.proofs.AnswerQuestionLemmas.{answer_ends, load_ends, unanswered}
 use Rattle.npf_ctl.proofs.FileLemmas.{around_work, nothing_put, only_read, read_on}
 use Rattle.npf_ctl.proofs.lints.lint.Goals as goal
 
@@ -12,13 +12,9 @@ pub returns-in_err-loaded-clause-ends : goal.returns-in_err-loaded-clause-ends
 returns-in_err-loaded-clause-ends g c =
     let first = g.F.Files.moment c.args.files.now in
     let last = g.F.Files.moment c.load_both.new.files in
-    let out = g.O.Sink.moment c.args.out.now in
-    let words = c.args.words in
-    let fault = c.in_err-loaded.field-0.0 in
-    let same : c.from_residual.result ≡ Err fault = search rules in
-    rw same (λ texts pass said. unloaded texts (moment first out pass) (moment last out pass) (Lint words) (load_of_lint words) refl said (λ why. refl)
-    (record { put = nothing_put out; files = only_read first last c.load_both.ensures.reads; idle = refl }) fault
-    (rw c.load_of_lint.ensures at (c.in_err-loaded.ensures.loads first last (around_work first last last (read_on last)))))
+    let same : c.from_residual.result ≡ Err c.in_err-loaded.field-0.0 = search rules in
+    rw same (λ texts pass said. load_ends texts first last (g.O.Sink.moment c.args.out.now) pass (Lint c.args.words) (load_of_lint c.args.words) refl said (λ why. refl)
+    c.load_both.ensures.reads c.in_err-loaded.field-0.0 (rw c.load_of_lint.ensures at (c.in_err-loaded.ensures.loads first last (around_work first last last (read_on last)))))
 
 pub returns-in_err-told-clause-ends : goal.returns-in_err-told-clause-ends
 returns-in_err-told-clause-ends g c =

@@ -1,6 +1,7 @@
 use Rattle.std.proofs.Common.{◌≡◌, ◌∙◌, ◌++◌, ap, codes}
 use Rattle.npf_show.specs.{Map.map_line, Piece.spelled}
-use Rattle.npf_ctl_explain.{specs.Word.{map_words, ordinal_text}, proofs.TextLemmas.piece_first}
+use Rattle.npf_ctl_query.specs.QueryText.{ordinal_text}
+use Rattle.npf_ctl_explain.{specs.Word.map_words, proofs.TextLemmas.piece_first}
 use Rattle.npf_ctl_explain.proofs.lines.write_map_line.Goals as goal
 
 pub returns : goal.returns

@@ -1,6 +1,7 @@
 use Rattle.std.proofs.Common.{◌≡◌, ◌∙◌, ◌++◌, ap, codes}
 use Rattle.npf_show.specs.{Piece.spelled, Rule.rule_pieces}
-use Rattle.npf_ctl_explain.{specs.Word.{ordinal_text, rule_words}, proofs.TextLemmas.piece_first}
+use Rattle.npf_ctl_query.specs.QueryText.{ordinal_text}
+use Rattle.npf_ctl_explain.{specs.Word.rule_words, proofs.TextLemmas.piece_first}
 use Rattle.npf_ctl_explain.proofs.lines.write_rule_line.Goals as goal
 
 pub returns : goal.returns

@@ -1,5 +1,6 @@
 use Rattle.std.proofs.Common.{codes}
-use Rattle.npf_ctl_explain.{specs.Word.ordinal_text, proofs.TextLemmas.piece_first}
+use Rattle.npf_ctl_query.specs.QueryText.{ordinal_text}
+use Rattle.npf_ctl_explain.proofs.TextLemmas.{piece_first}
 use Rattle.npf_ctl_explain.proofs.words.write_overridden.Goals as goal
 
 pub returns : goal.returns

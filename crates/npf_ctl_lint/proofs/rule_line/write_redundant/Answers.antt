@@ -1,8 +1,8 @@
 use Rattle.std.proofs.Common.{◌++◌, codes, ap, ◌∙◌}
-use Rattle.npf_ctl_lint.specs.LintText.{none_words, places_text}
+use Rattle.npf_ctl_lint.specs.RuleLine.{none_words, places_text}
 use Rattle.npf_ctl_query.specs.QueryText.{ordinal_text}
 use Rattle.npf_ctl_lint.proofs.TextLemmas.{then_rest}
-use Rattle.npf_ctl_lint.proofs.text.write_redundant.Goals as goal
+use Rattle.npf_ctl_lint.proofs.rule_line.write_redundant.Goals as goal
 
 pub returns : goal.returns
 returns c =

@@ -1,8 +1,8 @@
 use Rattle.std.proofs.Common.{◌++◌, codes, sym, ap, ◌∙◌}
-use Rattle.npf_ctl_lint.specs.LintText.{finding_line, places_text}
+use Rattle.npf_ctl_lint.specs.RuleLine.{finding_line, places_text}
 use Rattle.npf_ctl_query.specs.QueryText.{ordinal_text}
 use Rattle.npf_ctl_lint.proofs.TextLemmas.{then_rest}
-use Rattle.npf_ctl_lint.proofs.text.write_finding.Goals as goal
+use Rattle.npf_ctl_lint.proofs.rule_line.write_finding.Goals as goal
 
 pub returns-in_ok-write_text-in-Impossible-2 : goal.returns-in_ok-write_text-in-Impossible-2
 returns-in_ok-write_text-in-Impossible-2 c =

@@ -1,7 +1,7 @@
 use Rattle.std.proofs.Common.{◌++◌, arith}
-use Rattle.npf_ctl_lint.specs.LintText.{finding_lines}
+use Rattle.npf_ctl_lint.specs.RuleLine.{finding_lines}
 use Rattle.npf_ctl_lint.proofs.TextLemmas.{lines_done, lines_more}
-use Rattle.npf_ctl_lint.proofs.text.write_findings.Goals as goal
+use Rattle.npf_ctl_lint.proofs.rule_line.write_rules.Goals as goal
 
 pub loop-place-preserved : goal.loop-place-preserved
 loop-place-preserved c =

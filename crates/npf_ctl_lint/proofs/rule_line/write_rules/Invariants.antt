@@ -1,6 +1,6 @@
 use Rattle.std.proofs.Common.{◌≡◌, ◌++◌, drop}
-use Rattle.npf_ctl_lint.specs.LintText.{finding_lines}
-use Rattle.npf_ctl_lint.proofs.text.write_findings.Given as goal
+use Rattle.npf_ctl_lint.specs.RuleLine.{finding_lines}
+use Rattle.npf_ctl_lint.proofs.rule_line.write_rules.Given as goal
 
 -- what was told, and then the lines of the rules that are left
 abbrev pub invariant-loop-place : goal.invariant-loop-place
