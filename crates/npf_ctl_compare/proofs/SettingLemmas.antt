@@ -97,14 +97,14 @@ equal_times : (one other : Timeouts) → one.tcp_new ≡ other.tcp_new → one.t
     → one.tcp_time_wait ≡ other.tcp_time_wait → one.tcp_close ≡ other.tcp_close → one.other_new ≡ other.other_new → one.other_established ≡ other.other_established → one ≡ other
 equal_times one other a b c d e f g =
     let fields : times one.tcp_new one.tcp_established one.tcp_half_close one.tcp_time_wait one.tcp_close one.other_new one.other_established
-        ≡ times other.tcp_new other.tcp_established other.tcp_half_close other.tcp_time_wait other.tcp_close other.other_new other.other_established = cc in
+    ≡ times other.tcp_new other.tcp_established other.tcp_half_close other.tcp_time_wait other.tcp_close other.other_new other.other_established = cc in
     fields
 
 equal_settings : (one other : Settings) → one.strict_rst ≡ other.strict_rst → one.key_interface ≡ other.key_interface → one.min_port ≡ other.min_port
     → one.max_port ≡ other.max_port → one.timeouts ≡ other.timeouts → one ≡ other
 equal_settings one other a b c d e =
     let fields : settings one.strict_rst one.key_interface one.min_port one.max_port one.timeouts
-        ≡ settings other.strict_rst other.key_interface other.min_port other.max_port other.timeouts = cc in
+    ≡ settings other.strict_rst other.key_interface other.min_port other.max_port other.timeouts = cc in
     fields
 
 module _ (old new : Settings) (none : changed_parameters old new ≡ []) where
