@@ -41,5 +41,11 @@ module _ (old new : Model) (ifaces : List Iface) (differences : Differences) whe
 -- pieces that were put one behind the other
 pub together : (rules maps parameters alg count : List ℕ) {lines start one two three four five : List ℕ} → lines ≡ rules ++ (maps ++ (parameters ++ alg)) → start ≡ []
     → one ≡ start ++ rules → two ≡ one ++ maps → three ≡ two ++ parameters → four ≡ three ++ alg → five ≡ four ++ count → five ≡ lines ++ count
-together rules maps parameters alg count are a b c d e f = f ∙ ap (λ t. t ++ count) (e ∙ ap (λ t. t ++ alg) (d ∙ ap (λ t. t ++ parameters) (c ∙ ap (λ t. t ++ maps) (b ∙ ap (λ t. t ++ rules) a)))
-    ∙ simp append_assoc ∙ sym are)
+together rules maps parameters alg count are a b c d e f =
+    f
+    ∙ ap (λ t. t ++ count)
+    (e ∙ ap (λ t. t ++ alg) (d ∙ ap (λ t. t ++ parameters) (c ∙ ap (λ t. t ++ maps) (b ∙ ap (λ t. t ++ rules) a)))
+    ∙ regrouped ∙ sym are)
+  where
+    regrouped : ((rules ++ maps) ++ parameters) ++ alg ≡ rules ++ (maps ++ (parameters ++ alg))
+    regrouped = simp append_assoc
