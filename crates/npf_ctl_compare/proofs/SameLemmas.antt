@@ -43,7 +43,10 @@ none_of (x ∷ xs) none = absurd (omega arith)
 is_zero : (n : ℕ) → true ≡ (n == 0) → n ≡ 0
 is_zero n is = grind (arith, nat_tests)
 
-no_switch : (b : Bool) → (if b then 1 else 0) ≡ 0 → b ≡ false
+abbrev count : Bool → ℕ
+count b = if b then 1 else 0
+
+no_switch : (b : Bool) → count b ≡ 0 → b ≡ false
 no_switch true is = cc
 no_switch false is = refl
 
@@ -66,7 +69,7 @@ no_line differences is =
     let rules : length differences.rules.items ≡ 0 = ap length is.rules in
     let maps : length differences.maps.items ≡ 0 = ap length is.maps in
     let parameters : length differences.parameters.items ≡ 0 = ap length is.parameters in
-    let alg : (if differences.alg_icmp then 1 else 0) ≡ 0 = ap (λ b. if b then 1 else 0) is.alg_icmp in
+    let alg : count differences.alg_icmp ≡ 0 = ap count is.alg_icmp in
     omega arith
 
 module _ (old new : Configuration) (differences : Differences) (are : AreDifferences old new differences) where
