@@ -1,7 +1,7 @@
 -- Why two configurations aren't compared, beside the interfaces that were given with them.
 use Rattle.std.proofs.Common.{◌≡◌, List, ℕ, Result, Ok, Err, IfErr, subst}
 use Rattle.npf_model.specs.{declared.iface.Iface.Iface, Configuration.Configuration}
-use Rattle.npf_ctl_messages.specs.declared.fault.{CommandFault.CommandFault, Quantity.Quantity}
+use Rattle.npf_ctl_messages.specs.declared.fault.{CommandFault.CommandFault}
 use Rattle.npf_ctl_messages.specs.declared.fault.CommandFault.TheVariants as Fault
 use Rattle.npf_ctl_messages.specs.declared.fault.Quantity.TheVariants.{Interfaces}
 use Rattle.npf_ctl_compare.specs.{Differences.IsCompareFault, Loaded.{RefusesCompare, new_numbered, old_numbered}}

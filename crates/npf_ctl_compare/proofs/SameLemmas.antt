@@ -1,14 +1,12 @@
 -- No line is told exactly where both configurations agree.
-use Rattle.std.proofs.Common.{◌≡◌, ◌+◌, ◌<◌, ◌∙◌, ℕ, Bool, true, false, List, [], ◌∷◌, Option, Some, None, length, refl, sym, ap, subst, arith}
+use Rattle.std.proofs.Common.{◌≡◌, ◌∙◌, ℕ, Bool, true, false, List, [], ◌∷◌, Option, length, refl, sym, ap, subst, arith}
 use Rattle.std.specs.Prelude.{◌==◌, if◌then◌else◌}
 use Rattle.std.specs.List.{All}
 use Rattle.std.proofs.lemmas.Bool.Decides.{nat_tests}
-use Rattle.npf_types.specs.declared.{direction.Dir.Dir, facts.Facts.Facts, interface.IfId.IfId}
 use Rattle.npf_model.specs.{declared.iface.Iface.Iface, Configuration.Configuration}
-use Rattle.npf_reach.specs.Kinds.{IsPacket}
 use Rattle.npf_treatment.specs.declared.{map.MapEffect.MapEffect, rule.RuleEffect.RuleEffect}
 use Rattle.npf_treatment.specs.declared.rule.RuleEffect.TheVariants.{Blocked, Passed}
-use Rattle.npf_treatment.specs.Treatment.{Treatment, treatment, treatment_by}
+use Rattle.npf_treatment.specs.Treatment.{Treatment, treatment_by}
 use Rattle.npf_compare.specs.declared.difference.RuleDifference.{RuleDifference}
 use Rattle.npf_compare.specs.Difference.{AreRuleDifferences, IsRuleDifference, NoDifferenceIsAlike, rule_effect_on}
 use Rattle.npf_compare_maps.specs.declared.difference.MapDifference.{MapDifference}

@@ -5,12 +5,11 @@ use Rattle.std.proofs.lemmas.Bool.Decides.{nat_tests}
 use Rattle.std.proofs.lemmas.List.{append-nil}
 use Rattle.std.proofs.lemmas.List.Elements.{filter_more}
 use Rattle.std.specs.List.{filter}
-use Rattle.npf_model.specs.declared.settings.{Choice.Choice, Parameter.Parameter, PortBound.TheVariants.{Least, Greatest}, Settings.Settings, Switch.TheVariants.{StrictRst, KeyInterface}}
+use Rattle.npf_model.specs.declared.settings.{Parameter.Parameter, PortBound.TheVariants.{Least, Greatest}, Settings.Settings, Switch.TheVariants.{StrictRst, KeyInterface}}
 use Rattle.npf_model.specs.declared.settings.Parameter.TheVariants as Of
-use Rattle.npf_model.specs.Settings.{choice_in, parameters}
+use Rattle.npf_model.specs.Settings.{parameters}
 use Rattle.npf_timeouts.specs.declared.timeouts.{Timeout.{Timeout, TheVariants.{TcpNew, TcpEstablished, TcpHalfClose, TcpTimeWait, TcpClose, OtherNew, OtherEstablished}}, Timeouts.Timeouts}
 use Rattle.npf_timeouts.specs.Timeouts.{timeout_of}
-use Rattle.npf_show.specs.Setting.{has_same_value}
 use Rattle.npf_ctl_compare.specs.Setting.{changed_parameters, is_changed, is_other_switch}
 
 module _ {X : Type 0} (test : X → Bool) where

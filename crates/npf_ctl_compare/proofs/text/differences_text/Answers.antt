@@ -3,7 +3,7 @@ use Rattle.std.specs.List.{flat_map}
 use Rattle.npf_compare.specs.declared.difference.RuleDifference.{RuleDifference}
 use Rattle.npf_compare_maps.specs.declared.difference.MapDifference.{MapDifference}
 use Rattle.npf_model.specs.declared.settings.Parameter.{Parameter}
-use Rattle.npf_ctl_compare.specs.{CompareText.{alg_lines, count_line, map_difference_line, parameter_line, rule_difference_line}, Differences.line_count}
+use Rattle.npf_ctl_compare.specs.{CompareText.{alg_lines, count_line, map_difference_line, parameter_line, rule_difference_line}}
 use Rattle.npf_ctl_compare.proofs.TextLemmas.{lines_counted, lines_joined, together}
 use Rattle.npf_ctl_compare.proofs.text.differences_text.Goals as goal
 
