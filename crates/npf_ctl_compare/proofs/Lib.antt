@@ -1,2 +1,4 @@
+pub mod FaultLemmas
+pub mod SameLemmas
 pub mod SettingLemmas
 pub mod TextLemmas

@@ -5,12 +5,11 @@ use Rattle.std.proofs.lemmas.Bool.Decides.{nat_tests}
 use Rattle.std.proofs.lemmas.List.{append-nil}
 use Rattle.std.proofs.lemmas.List.Elements.{filter_more}
 use Rattle.std.specs.List.{filter}
-use Rattle.npf_model.specs.declared.settings.{Choice.Choice, Parameter.Parameter, PortBound.TheVariants.{Least, Greatest}, Settings.Settings, Switch.TheVariants.{StrictRst, KeyInterface}}
+use Rattle.npf_model.specs.declared.settings.{Parameter.Parameter, PortBound.TheVariants.{Least, Greatest}, Settings.Settings, Switch.TheVariants.{StrictRst, KeyInterface}}
 use Rattle.npf_model.specs.declared.settings.Parameter.TheVariants as Of
-use Rattle.npf_model.specs.Settings.{choice_in, parameters}
+use Rattle.npf_model.specs.Settings.{parameters}
 use Rattle.npf_timeouts.specs.declared.timeouts.{Timeout.{Timeout, TheVariants.{TcpNew, TcpEstablished, TcpHalfClose, TcpTimeWait, TcpClose, OtherNew, OtherEstablished}}, Timeouts.Timeouts}
 use Rattle.npf_timeouts.specs.Timeouts.{timeout_of}
-use Rattle.npf_show.specs.Setting.{has_same_value}
 use Rattle.npf_ctl_compare.specs.Setting.{changed_parameters, is_changed, is_other_switch}
 
 module _ {X : Type 0} (test : X → Bool) where
@@ -97,14 +96,14 @@ equal_times : (one other : Timeouts) → one.tcp_new ≡ other.tcp_new → one.t
     → one.tcp_time_wait ≡ other.tcp_time_wait → one.tcp_close ≡ other.tcp_close → one.other_new ≡ other.other_new → one.other_established ≡ other.other_established → one ≡ other
 equal_times one other a b c d e f g =
     let fields : times one.tcp_new one.tcp_established one.tcp_half_close one.tcp_time_wait one.tcp_close one.other_new one.other_established
-        ≡ times other.tcp_new other.tcp_established other.tcp_half_close other.tcp_time_wait other.tcp_close other.other_new other.other_established = cc in
+    ≡ times other.tcp_new other.tcp_established other.tcp_half_close other.tcp_time_wait other.tcp_close other.other_new other.other_established = cc in
     fields
 
 equal_settings : (one other : Settings) → one.strict_rst ≡ other.strict_rst → one.key_interface ≡ other.key_interface → one.min_port ≡ other.min_port
     → one.max_port ≡ other.max_port → one.timeouts ≡ other.timeouts → one ≡ other
 equal_settings one other a b c d e =
     let fields : settings one.strict_rst one.key_interface one.min_port one.max_port one.timeouts
-        ≡ settings other.strict_rst other.key_interface other.min_port other.max_port other.timeouts = cc in
+    ≡ settings other.strict_rst other.key_interface other.min_port other.max_port other.timeouts = cc in
     fields
 
 module _ (old new : Settings) (none : changed_parameters old new ≡ []) where

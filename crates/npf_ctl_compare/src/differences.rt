@@ -3,9 +3,10 @@ ghost use Rattle.std.specs.Prelude.{◌≡◌, ◌≤◌, IfOk, IfErr};
 ghost use Rattle.npf_ruleset.specs.Configuration.{configuration};
 ghost use Rattle.npf_compare.specs.Difference.{AreRuleDifferences};
 ghost use Rattle.npf_compare_maps.specs.MapDifference.{AreMapDifferences};
+ghost use Rattle.npf_ctl_query.specs.QueryText.{IsStopFault};
 ghost use Rattle.npf_ctl_compare.specs.Differences.{AreDifferences, AreFew, IsCompareFault, IsStopOf};
 
-use crate::setting::changed_parameters;
+use crate::setting::{changed_parameters, is_other_switch};
 use npf_compare::{RuleDifference, compare_rules};
 use npf_compare_maps::{MapDifference, MapSide, compare_maps};
 use npf_ctl_class::{stop_fault, tables_of};
@@ -59,17 +60,7 @@ pub(crate) fn differences_of(
     ensures few { IfOk result AreFew }
     ensures err { IfErr result (IsCompareFault (configuration old.now) (configuration new.now) most) }
 {
-    let mut steps = Steps::new(most);
-    let rules = rule_differences(alloc, old, new, &mut steps)?;
-    let maps = map_differences(alloc, old, new, &mut steps)?;
-    let old = old.model();
-    let new = new.model();
-    let differences = Differences {
-        rules,
-        maps,
-        parameters: changed_parameters(alloc, old.settings, new.settings)?,
-        alg_icmp: old.alg_icmp != new.alg_icmp,
-    };
+    let differences = found(alloc, old, new, most)?;
     let count = differences.pairs();
     if count > MAX_PAIRS {
         return Err(CommandFault::Many {
@@ -78,6 +69,26 @@ pub(crate) fn differences_of(
         });
     }
     Ok(differences)
+}
+
+// The same, however many pairs there are.
+fn found(alloc: Global, old: &Config, new: &Config, most: u64) -> Result<Differences, CommandFault>
+    ensures ok { IfOk result (AreDifferences (configuration old.now) (configuration new.now)) }
+    ensures err { IfErr result (IsStopFault most) }
+{
+    let mut steps = Steps::new(most);
+    let rules = rule_differences(alloc, old, new, &mut steps)?;
+    let maps = map_differences(alloc, old, new, &mut steps)?;
+    let old = old.model();
+    let new = new.model();
+    let parameters = changed_parameters(alloc, old.settings, new.settings)?;
+    let alg_icmp = is_other_switch(old.alg_icmp, new.alg_icmp);
+    Ok(Differences {
+        rules,
+        maps,
+        parameters,
+        alg_icmp,
+    })
 }
 
 fn rule_differences(

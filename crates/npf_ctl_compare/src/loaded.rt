@@ -40,8 +40,7 @@ pub fn compare_loaded(
     }
     old.number(&ifaces);
     new.number(&ifaces);
-    let answer = compare_text(alloc, ifaces.list.as_slice(), &old, &new, most)?;
-    Ok(answer)
+    compare_text(alloc, ifaces.list.as_slice(), &old, &new, most)
 }
 
 /// The interfaces, and behind them those that the model names.

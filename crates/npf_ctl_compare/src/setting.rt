@@ -2,7 +2,7 @@
 ghost use Rattle.std.specs.Prelude.{◌≡◌, ◌++◌, IfOk, OnOk};
 ghost use Rattle.npf_model.specs.Settings.{choice_in};
 ghost use Rattle.npf_show.specs.Setting.{has_same_value, switch_text};
-ghost use Rattle.npf_ctl_compare.specs.Setting.{changed_parameters, is_changed, value_text};
+ghost use Rattle.npf_ctl_compare.specs.Setting.{changed_parameters, is_changed, is_other_switch, value_text};
 
 use npf_model::{Choice, Parameter, Settings};
 use npf_text::{write_number, write_text};
@@ -41,6 +41,13 @@ fn has_same_value(one: Choice, other: Choice) -> bool
         (Choice::Timeout(_, one), Choice::Timeout(_, other)) => one == other,
         _ => false,
     }
+}
+
+/// Whether one of two switches alone is on.
+pub(crate) fn is_other_switch(old: bool, new: bool) -> bool
+    ensures { result ≡ is_other_switch old new }
+{
+    old != new
 }
 
 /// Appends what a parameter is set to, as npf.conf has it.

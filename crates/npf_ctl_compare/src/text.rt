@@ -1,5 +1,5 @@
 // The text of differences.
-ghost use Rattle.std.specs.Prelude.{◌≡◌, ◌≤◌, ◌++◌, OnOk, IfOk, MatchOption, None, Some, length, option_and_then};
+ghost use Rattle.std.specs.Prelude.{◌≡◌, ◌≤◌, ◌++◌, OnOk, IfOk, MatchOption, None, Some, option_map};
 ghost use Rattle.std.specs.List.{flat_map};
 ghost use Rattle.npf_model.specs.Verdict.{rule_at};
 ghost use Rattle.npf_treatment.specs.Treatment.{rule_effect};
@@ -13,7 +13,7 @@ use crate::unlike::unlike_word;
 use npf_compare::RuleDifference;
 use npf_compare_maps::MapDifference;
 use npf_ctl_query::{rule_word, write_ordinal, write_packet};
-use npf_model::{Iface, Model, Parameter, Rule};
+use npf_model::{Iface, Parameter, Rule};
 use npf_ruleset::Config;
 use npf_text::{write_counted, write_text};
 use npf_treatment::{NO_RULE, RuleEffect, rule_effect};
@@ -35,13 +35,8 @@ pub(crate) fn differences_text(
     let into = &mut text;
     write_rules(alloc, into, ifaces, old, new, differences.rules.as_slice())?;
     write_maps(alloc, into, ifaces, differences.maps.as_slice())?;
-    write_parameters(
-        into,
-        old.model(),
-        new.model(),
-        differences.parameters.as_slice(),
-    )?;
-    write_alg(into, old.model(), new.model(), differences.alg_icmp)?;
+    write_parameters(into, old, new, differences.parameters.as_slice())?;
+    write_alg(into, old, new, differences.alg_icmp)?;
     write_count(into, differences.lines())?;
     Ok(text)
 }
@@ -160,11 +155,11 @@ fn write_map_line(
 
 fn write_parameters(
     into: &mut Vec<u8>,
-    old: &Model,
-    new: &Model,
+    old: &Config,
+    new: &Config,
     parameters: &[Parameter],
 ) -> Result<(), NoMemory>
-    ensures { OnOk result (into.new.items ≡ into.old.items ++ flat_map (parameter_line old.now new.now) parameters.now) }
+    ensures { OnOk result (into.new.items ≡ into.old.items ++ flat_map (parameter_line old.now.model new.now.model) parameters.now) }
 {
     for parameter in parameters {
         write_parameter_line(into, old, new, *parameter)?;
@@ -174,32 +169,32 @@ fn write_parameters(
 
 fn write_parameter_line(
     into: &mut Vec<u8>,
-    old: &Model,
-    new: &Model,
+    old: &Config,
+    new: &Config,
     parameter: Parameter,
 ) -> Result<(), NoMemory>
-    ensures { OnOk result (into.new.items ≡ into.old.items ++ parameter_line old.now new.now parameter) }
+    ensures { OnOk result (into.new.items ≡ into.old.items ++ parameter_line old.now.model new.now.model parameter) }
 {
     write_text(into, "set ")?;
     write_text(into, parameter.name())?;
     write_text(into, " ")?;
-    write_value(into, old.settings.choice(parameter))?;
+    write_value(into, old.model().settings.choice(parameter))?;
     write_text(into, " ")?;
-    write_value(into, new.settings.choice(parameter))?;
+    write_value(into, new.model().settings.choice(parameter))?;
     write_text(into, "\n")
 }
 
 // Appends the line of the gateway of ICMP, if one configuration alone has it.
-fn write_alg(into: &mut Vec<u8>, old: &Model, new: &Model, is_other: bool) -> Result<(), NoMemory>
-    ensures { OnOk result (into.new.items ≡ into.old.items ++ flat_map (λ line. line) (alg_lines old.now new.now is_other)) }
+fn write_alg(into: &mut Vec<u8>, old: &Config, new: &Config, is_other: bool) -> Result<(), NoMemory>
+    ensures { OnOk result (into.new.items ≡ into.old.items ++ flat_map (λ line. line) (alg_lines old.now.model new.now.model is_other)) }
 {
     if !is_other {
         return Ok(());
     }
     write_text(into, "alg icmp ")?;
-    write_text(into, switch_text(old.alg_icmp))?;
+    write_text(into, switch_text(old.model().alg_icmp))?;
     write_text(into, " ")?;
-    write_text(into, switch_text(new.alg_icmp))?;
+    write_text(into, switch_text(new.model().alg_icmp))?;
     write_text(into, "\n")
 }
 

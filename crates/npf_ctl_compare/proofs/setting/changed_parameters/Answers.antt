@@ -1,4 +1,4 @@
-use Rattle.std.proofs.Common.{◌≡◌, ◌<◌, ◌∙◌, length, arith, sym, ap}
+use Rattle.std.proofs.Common.{◌<◌, ◌∙◌, length, arith, sym, ap}
 use Rattle.npf_model.specs.Settings.{parameters}
 use Rattle.npf_ctl_compare.specs.Setting.{is_changed}
 use Rattle.npf_ctl_compare.proofs.SettingLemmas.{one_kept, one_left}
