@@ -52,7 +52,7 @@ fn records_of(
 // The record of the witness of this number, which is sent at as many seconds.
 fn witness_record(alloc: Global, number: usize, packet: &CellPacket) -> Result<Record, NoMemory>
     requires { number ≤ 256 }
-    ensures record { IfOk result (λ record. record ≡ witness_record (number, packet.now)) }
+    ensures record { IfOk result (λ sent. sent ≡ witness_record (number, packet.now)) }
     ensures fits { IfOk result FitsCapture }
 {
     let bytes = witness_bytes(alloc, &packet.facts)?;
