@@ -17,7 +17,10 @@ pass_alike ifaces one other = (known_number ifaces one.ifid.0 == known_number if
 abbrev pub is_leader : List Iface → List CellPacket → CellPacket → Bool
 is_leader ifaces earlier packet = not (list_any (pass_alike ifaces packet) earlier)
 
+-- the packet at its place does so among these
+abbrev pub leads : List Iface → List CellPacket → ℕ × CellPacket → Bool
+leads ifaces packets placed = is_leader ifaces (take placed.0 packets) placed.1
+
 -- the first packet of each interface and direction
 abbrev pub leaders : List Iface → List CellPacket → List CellPacket
-leaders ifaces packets =
-    map (λ placed. placed.1) (filter (λ placed. is_leader ifaces (take placed.0 packets) placed.1) (enumerate_from 0 packets))
+leaders ifaces packets = map (λ placed. placed.1) (filter (leads ifaces packets) (enumerate_from 0 packets))

@@ -1,5 +1,5 @@
 -- The files of an answer's packets: captures of them, and a script for `npfctl run` (docs/npfctl.8, "Scripts") that plays them one by one.
-use Rattle.std.specs.Prelude.{ℕ, ◌*◌, ◌^◌, List, [], ◌∷◌, ◌++◌, codes, map}
+use Rattle.std.specs.Prelude.{ℕ, Bool, ◌*◌, ◌^◌, List, [], ◌∷◌, ◌++◌, codes, map}
 use Rattle.std.specs.Fmt.{decimal}
 use Rattle.std.specs.List.{enumerate_from, filter, flat_map}
 use Rattle.npf_types.specs.declared.direction.Dir.{Dir}
@@ -18,9 +18,13 @@ use Rattle.npf_ctl_witnesses.specs.Alike.{leaders, pass_alike}
 abbrev pub witness_record : ℕ × CellPacket → Record
 witness_record numbered = record_with (numbered.0 * 10 ^ 9) (witness_bytes numbered.1.facts)
 
--- the packets that pass as this one does, each by its number from 1 on
+-- the numbered packet passes as this one does
+abbrev pub passes_with : List Iface → CellPacket → ℕ × CellPacket → Bool
+passes_with ifaces one numbered = pass_alike ifaces one numbered.1
+
+-- the packets that do, each by its number from 1 on
 abbrev pub records_of : List Iface → List CellPacket → CellPacket → List Record
-records_of ifaces packets one = map witness_record (filter (λ numbered. pass_alike ifaces one numbered.1) (enumerate_from 1 packets))
+records_of ifaces packets one = map witness_record (filter (passes_with ifaces one) (enumerate_from 1 packets))
 
 abbrev pub capture_name : List ℕ → ℕ → List ℕ
 capture_name prefix number = prefix ++ ((codes "." ++ decimal number) ++ codes ".pcap")

@@ -1,5 +1,6 @@
 // Which witnesses pass on one interface in one direction.
 ghost use Rattle.std.specs.Prelude.{◌≡◌, IfOk, length};
+ghost use Rattle.std.specs.List.{list_any};
 ghost use Rattle.npf_ctl_witnesses.specs.Alike.{is_leader, known_number, leaders, pass_alike};
 ghost use Rattle.npf_model.specs.Place.{is_dir};
 
@@ -29,7 +30,13 @@ pub(crate) fn leaders(
 fn is_leader(ifaces: &[Iface], earlier: &[CellPacket], packet: &CellPacket) -> bool
     ensures { result ≡ is_leader ifaces.now earlier.now packet.now }
 {
-    !earlier
+    !is_among(ifaces, earlier, packet)
+}
+
+fn is_among(ifaces: &[Iface], packets: &[CellPacket], packet: &CellPacket) -> bool
+    ensures { result ≡ list_any (pass_alike ifaces.now packet.now) packets.now }
+{
+    packets
         .iter()
         .any(|other| pass_alike(ifaces, packet, other))
 }

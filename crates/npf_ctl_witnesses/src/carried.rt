@@ -113,14 +113,20 @@ fn pseudo_sum(alloc: Global, facts: &Facts) -> Result<u16, NoMemory>
 fn write_pseudo(out: &mut Vec<u8>, facts: &Facts) -> Result<(), NoMemory>
     ensures { OnOk result (out.new.items ≡ out.old.items ++ pseudo_bytes facts.now) }
 {
-    write_address(out, facts.src)?;
-    write_address(out, facts.dst)?;
+    write_addresses(out, facts)?;
     write_u16(out, u16::from(facts.proto))?;
     write_u16(out, upper_len(&facts.l4))
 }
 
-/// Appends an address.
-pub(crate) fn write_address(out: &mut Vec<u8>, addr: Addr) -> Result<(), NoMemory>
+/// Appends both addresses.
+pub(crate) fn write_addresses(out: &mut Vec<u8>, facts: &Facts) -> Result<(), NoMemory>
+    ensures { OnOk result (out.new.items ≡ out.old.items ++ (address_bytes facts.now.src ++ address_bytes facts.now.dst)) }
+{
+    write_address(out, facts.src)?;
+    write_address(out, facts.dst)
+}
+
+fn write_address(out: &mut Vec<u8>, addr: Addr) -> Result<(), NoMemory>
     ensures { OnOk result (out.new.items ≡ out.old.items ++ address_bytes addr) }
 {
     match addr {

@@ -1,0 +1,3 @@
+pub mod AnyPacket
+pub mod ChecksumLemmas
+pub mod NumberedLemmas
