@@ -43,6 +43,7 @@ module _ {X Y : Type 0} (test : ℕ × X → Bool) (f : ℕ × X → Y) (n : ℕ
       ap (λ all. map f (filter test all)) (numbered_more n xs i number d within is)
       ∙ ap (map f) (filter-left test (enumerate_from n (take i xs)) (number, get_or xs i d) fails)
 
+module _ {X Y : Type 0} (f : ℕ × X → Y) (n : ℕ) (xs : List X) (i number : ℕ) (d : X) (within : i < length xs) (is : number ≡ n + i) where
   pub mapped_more : map f (enumerate_from n (take (i + 1) xs)) ≡ map f (enumerate_from n (take i xs)) ++ f (number, get_or xs i d) ∷ []
   mapped_more = ap (map f) (numbered_more n xs i number d within is) ∙ map-append f (enumerate_from n (take i xs)) ((number, get_or xs i d) ∷ [])
 
