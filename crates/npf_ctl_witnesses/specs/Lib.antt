@@ -1,3 +1,4 @@
 pub mod Alike
 pub mod WitnessFiles
 pub mod Fault
+pub mod FilesLaw

@@ -16,8 +16,10 @@ mod capture;
 mod carried;
 mod checksum;
 mod files;
+mod laws;
 mod limits;
 mod packet;
 mod script;
 
 pub use files::{WitnessFile, witness_files};
+pub use laws::witnesses_are_in_files;
