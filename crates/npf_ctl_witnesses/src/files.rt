@@ -2,9 +2,11 @@
 ghost use Rattle.std.specs.Prelude.{◌≡◌, ◌≤◌, IfErr, IfOk, OnOk, length};
 ghost use Rattle.npf_ctl_witnesses.specs.WitnessFiles.{capture_file, files_of, script_file, witness_files};
 ghost use Rattle.npf_ctl_witnesses.specs.Fault.{IsWitnessFault};
+ghost use Rattle.npf_ctl_witnesses.specs.FilesLaw.{AreInFiles};
 
 use crate::alike::leaders;
 use crate::capture::capture_of;
+use crate::laws::witnesses_are_in_files;
 use crate::limits::{test_captures, test_witnesses};
 use crate::script::{witness_script, write_capture_name};
 use npf_ctl_messages::CommandFault;
@@ -34,8 +36,10 @@ pub fn witness_files(
     prefix: &[u8],
 ) -> Result<Vec<WitnessFile>, CommandFault>
     ensures files { IfOk result (λ files. files.items ≡ witness_files ifaces.now.list packets.now prefix.now) }
+    ensures packets { IfOk result (λ files. AreInFiles ifaces.now.list packets.now prefix.now files.items) }
     ensures err { IfErr result (IsWitnessFault ifaces.now.list packets.now) }
 {
+    witnesses_are_in_files();
     let ifaces = ifaces.list.as_slice();
     test_witnesses(packets.len())?;
     let leaders = leaders(alloc, ifaces, packets)?;
