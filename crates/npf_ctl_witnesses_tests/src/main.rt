@@ -3,8 +3,8 @@
 //
 // Standard input has a line each. `packet ..` is a packet, as src/packet.rt reads it. `write PREFIX` writes all packets since the last such
 // line: the script is printed, and of each capture the name, and by second what its records decode to, where the script has it come.
-// `repeat N` writes the last packet N times, and prints how many files there are or the fault. The interfaces are wm0 and wm1. What stdout wants was found
-// by hand.
+// `repeat N` writes the last packet N times, and `spread N` once on each of N interfaces; each prints how many files there are, or the fault. Else the
+// interfaces are wm0 and wm1. What stdout wants was found by hand.
 #![tactic(auto)]
 
 mod packet;
@@ -15,7 +15,7 @@ use npf_ctl_messages::{CommandFault, message};
 use npf_ctl_witnesses::witness_files;
 use npf_model::{Iface, Ifaces};
 use npf_products::CellPacket;
-use npf_types::{List, Name};
+use npf_types::{IfId, List, Name};
 use packet::read_packet;
 use reading::written_again;
 use std::alloc::Global;
@@ -45,7 +45,7 @@ fn answer_line(
     match line.split_once(' ') {
         Some(("packet", words)) => Ok(packets.push(read_packet(alloc, words)?)?),
         Some(("write", prefix)) => {
-            let ifaces = ifaces(alloc)?;
+            let ifaces = ifaces(alloc, 2)?;
             match witness_files(alloc, &ifaces, packets.as_slice(), prefix.as_bytes()) {
                 Ok(files) => print!(rt; "{}", written_again(alloc, &ifaces, files.as_slice())?)?,
                 Err(fault) => println!(rt; "  {}", fault_text(alloc, &fault)?)?,
@@ -60,6 +60,13 @@ fn answer_line(
             )?;
             Ok(())
         }
+        Some(("spread", count)) => {
+            println!(rt;
+                "  {}",
+                spread(alloc, packets.as_slice(), count.parse::<u16>()?)?
+            )?;
+            Ok(())
+        }
         _ => bail!("no such row"),
     }
 }
@@ -71,7 +78,24 @@ fn repeated(alloc: Global, packets: &[CellPacket], count: usize) -> Result<Strin
     for _ in 0..count {
         all.push(*packet)?;
     }
-    match witness_files(alloc, &ifaces(alloc)?, all.as_slice(), b"p") {
+    count_text(alloc, &ifaces(alloc, 2)?, all.as_slice())
+}
+
+/// How many there are of it on each of so many interfaces.
+fn spread(alloc: Global, packets: &[CellPacket], count: u16) -> Result<String> {
+    let packet = packets.last().context("no packet")?;
+    let mut all = Vec::new(alloc);
+    for number in 0..count {
+        all.push(CellPacket {
+            ifid: IfId(number.saturating_add(1)),
+            ..*packet
+        })?;
+    }
+    count_text(alloc, &ifaces(alloc, count)?, all.as_slice())
+}
+
+fn count_text(alloc: Global, ifaces: &Ifaces, packets: &[CellPacket]) -> Result<String> {
+    match witness_files(alloc, ifaces, packets, b"p") {
         Ok(files) => Ok(format!(in alloc; "{} files", files.len())?),
         Err(fault) => fault_text(alloc, &fault),
     }
@@ -86,12 +110,13 @@ fn fault_text(alloc: Global, fault: &CommandFault) -> Result<String> {
     )?)
 }
 
-/// The interfaces of every row.
-fn ifaces(alloc: Global) -> Result<Ifaces> {
+/// The interfaces wm0, wm1 and so on.
+fn ifaces(alloc: Global, count: u16) -> Result<Ifaces> {
     let mut list = Vec::new(alloc);
-    for name in [b"wm0", b"wm1"] {
+    for number in 0..count {
+        let name = format!(in alloc; "wm{number}")?;
         list.push(Iface {
-            name: Name::of(name).context("no name")?,
+            name: Name::of(name.as_bytes()).context("no name")?,
             addrs: List::of_vec(Vec::new(alloc)),
         })?;
     }
