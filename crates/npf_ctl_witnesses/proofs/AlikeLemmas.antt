@@ -1,12 +1,12 @@
 -- Packets that pass alike, and the first of them.
-use Rattle.std.proofs.Common.{◌≡◌, ◌≤◌, ◌<◌, ℕ, zero, suc, ◌+◌, ◌++◌, Bool, true, false, not, cond, Some, None, List, [], ◌∷◌, length, map, take, get_or, refl, sym, ap, ◌∙◌, subst, arith}
-use Rattle.std.specs.{List.{enumerate_from, filter, list_any}, Option.option_map, Prelude.{◌==◌, ◌&&◌, nat_le, slice_get}}
-use Rattle.std.proofs.lemmas.{Bool.Decides.nat_tests, Option.{slice_get_past, slice_get_within}}
+use Rattle.std.proofs.Common.{◌≡◌, ◌≤◌, ℕ, zero, suc, Bool, true, false, cond, List, length, refl, sym, ap, ◌∙◌, arith}
+use Rattle.std.specs.{Option.option_map, Prelude.{◌==◌, ◌&&◌, nat_le}}
+use Rattle.std.proofs.lemmas.{Bool.Decides.nat_tests, Option.{slice_get_past}}
 use Rattle.npf_types.specs.declared.direction.Dir.{Dir, TheVariants.{In, Out}}
 use Rattle.npf_model.specs.{declared.iface.Iface.Iface, Place.is_dir}
 use Rattle.npf_products.specs.declared.packet.CellPacket.{CellPacket}
 use Rattle.npf_witness.specs.WitnessText.{interface_text, name_at, naming_text}
-use Rattle.npf_ctl_witnesses.specs.Alike.{is_leader, known_number, leaders, leads, pass_alike}
+use Rattle.npf_ctl_witnesses.specs.Alike.{known_number, pass_alike}
 
 -- what passing alike says
 pub record PassAlike (ifaces : List Iface) (one other : CellPacket) : Type 0 where

@@ -1,5 +1,5 @@
 -- The sum of words, byte by byte.
-use Rattle.std.proofs.Common.{◌≡◌, ◌≤◌, ◌<◌, ℕ, zero, suc, ◌+◌, ◌*◌, ◌%◌, ◌^◌, ◌++◌, List, [], ◌∷◌, if◌then◌else◌, length, take, get_or, refl, sym, ap, ◌∙◌, arith}
+use Rattle.std.proofs.Common.{◌≡◌, ◌≤◌, ◌<◌, ℕ, suc, ◌+◌, ◌*◌, ◌%◌, ◌^◌, ◌++◌, List, [], ◌∷◌, if◌then◌else◌, length, take, get_or, sym, ap, ◌∙◌, arith}
 use Rattle.std.{specs.Prelude.◌==◌, proofs.lemmas.{Bool.Decides.nat_tests, List.{length-take, take_more}}}
 use Rattle.npf_possible.specs.Witness.{sum_of_pairs}
 

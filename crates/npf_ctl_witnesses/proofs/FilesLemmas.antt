@@ -1,5 +1,5 @@
 -- Each packet is in the files.
-use Rattle.std.proofs.Common.{◌≡◌, ◌≤◌, ℕ, suc, ◌+◌, ◌-◌, ◌++◌, true, Some, List, [], ◌∷◌, codes, length, map, refl, sym, ap, ◌∙◌, subst, arith}
+use Rattle.std.proofs.Common.{◌≡◌, ◌≤◌, ℕ, ◌+◌, ◌-◌, ◌++◌, true, Some, List, [], ◌∷◌, codes, length, map, refl, ap, ◌∙◌, subst, arith}
 use Rattle.std.{specs.{List.{enumerate_from, filter, flat_map}, Prelude.slice_get}, proofs.lemmas.{List.length-append, Option.slice_get_within}}
 use Rattle.npf_types.specs.declared.direction.Dir.{Dir}
 use Rattle.npf_model.specs.declared.iface.Iface.{Iface}

@@ -1,5 +1,5 @@
 -- What is written of packets fits a capture.
-use Rattle.std.proofs.Common.{◌≡◌, ◌≤◌, ℕ, ◌+◌, ◌*◌, ◌^◌, List, [], ◌∷◌, get_or, length, arith}
+use Rattle.std.proofs.Common.{◌≤◌, ℕ, ◌+◌, List, [], ◌∷◌, get_or, length, arith}
 use Rattle.std.{specs.{List.{enumerate_from, filter}, Prelude.All}, proofs.lemmas.List.{length-append, Elements.{All-cons, All-filter, All-map, All-nil}}}
 use Rattle.npf_types.specs.declared.{address.Addr.{Addr, TheVariants.{V4, V6}}, facts.{Facts.Facts, L4.{L4, TheVariants.{Tcp, Udp, Icmp, Icmp6, Other}}}}
 use Rattle.npf_types.specs.declared.link.Link.TheVariants.{Raw}

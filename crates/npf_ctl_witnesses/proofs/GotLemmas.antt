@@ -1,5 +1,5 @@
 -- Elements at places, of lists that were made from others.
-use Rattle.std.proofs.Common.{◌≡◌, ◌≤◌, ◌<◌, ℕ, zero, suc, ◌+◌, ◌++◌, Bool, true, false, Option, Some, None, List, [], ◌∷◌, cond, length, map, take, refl, sym, ap, ◌∙◌, append_assoc, arith}
+use Rattle.std.proofs.Common.{◌≡◌, ◌<◌, ℕ, zero, suc, ◌+◌, ◌++◌, Bool, true, false, Option, Some, None, List, [], ◌∷◌, cond, length, map, take, refl, sym, ap, ◌∙◌, append_assoc, arith}
 use Rattle.std.specs.{List.{enumerate_from, filter, flat_map, list_any}, Prelude.{◌||◌, slice_get}}
 use Rattle.npf_ctl_witnesses.specs.FilesLaw.{IsTextWithin}
 

@@ -1,10 +1,10 @@
 -- Each packet passes as one of the first ones does.
-use Rattle.std.proofs.Common.{◌≡◌, ◌<◌, ℕ, zero, suc, ◌+◌, Bool, true, false, not, Some, List, map, take, refl, sym, ap, ◌∙◌, arith}
+use Rattle.std.proofs.Common.{◌≡◌, ◌<◌, ℕ, zero, suc, ◌+◌, Bool, true, false, not, Some, List, take, refl, ap, ◌∙◌, arith}
 use Rattle.std.specs.{List.{enumerate_from, filter, list_any}, Prelude.slice_get}
 use Rattle.npf_model.specs.declared.iface.Iface.{Iface}
 use Rattle.npf_products.specs.declared.packet.CellPacket.{CellPacket}
 use Rattle.npf_ctl_witnesses.specs.Alike.{leaders, leads, pass_alike}
-use Rattle.npf_ctl_witnesses.proofs.{AlikeLemmas.{alike_through, own_alike}, GotLemmas.{Got, got-enumerate, got-filter, got-map, got-take, passing}}
+use Rattle.npf_ctl_witnesses.proofs.{AlikeLemmas.{alike_through, own_alike}, GotLemmas.{got-enumerate, got-filter, got-map, got-take, passing}}
 
 pub record Leading (ifaces : List Iface) (packets : List CellPacket) (packet : CellPacket) : Type 0 where
   pub place : ℕ
