@@ -6,47 +6,43 @@ use Rattle.npf_types.specs.declared.direction.Dir.{Dir, TheVariants.{In, Out}}
 use Rattle.npf_model.specs.{declared.iface.Iface.Iface, Place.is_dir}
 use Rattle.npf_products.specs.declared.packet.CellPacket.{CellPacket}
 use Rattle.npf_witness.specs.WitnessText.{interface_text, name_at, naming_text}
-use Rattle.npf_ctl_witnesses.specs.Alike.{known_number, pass_alike}
+use Rattle.npf_ctl_witnesses.specs.Alike.{run_number, pass_alike}
 
 -- what passing alike says
 pub record PassAlike (ifaces : List Iface) (one other : CellPacket) : Type 0 where
-  pub interface : known_number ifaces one.ifid.0 ≡ known_number ifaces other.ifid.0
+  pub interface : run_number ifaces one.ifid.0 ≡ run_number ifaces other.ifid.0
   pub direction : one.dir ≡ other.dir
 
-same_dir : (one other : Dir) → is_dir one other ≡ true → one ≡ other
-same_dir In In e = refl
-same_dir Out Out e = refl
-same_dir In Out e = absurd (cc)
-same_dir Out In e = absurd (cc)
+two_parts : (numbers : Bool) (one other : Dir) → (numbers && is_dir one other) ≡ true → (numbers ≡ true) × (one ≡ other)
+two_parts true In In e = (refl, refl)
+two_parts true Out Out e = (refl, refl)
+two_parts true In Out e = absurd (cc)
+two_parts true Out In e = absurd (cc)
+two_parts false one other e = absurd (cc)
 
-own_dir : (dir : Dir) → is_dir dir dir ≡ true
-own_dir In = refl
-own_dir Out = refl
-
-both_true : (a b : Bool) → (a && b) ≡ true → (a ≡ true) × (b ≡ true)
-both_true true b e = (refl, e)
-both_true false b e = absurd (cc)
-
-equal_numbers : (m n : ℕ) → (m == n) ≡ true → m ≡ n
-equal_numbers m n e = grind (arith, nat_tests)
-
-own_number : (n : ℕ) → (n == n) ≡ true
-own_number n = grind (arith, nat_tests)
+in_own_direction : (numbers : Bool) (dir : Dir) → numbers ≡ true → (numbers && is_dir dir dir) ≡ true
+in_own_direction true In e = refl
+in_own_direction true Out e = refl
+in_own_direction false dir e = absurd (cc)
 
 module _ (ifaces : List Iface) where
+  equal_numbers : (m n : ℕ) → (m == n) ≡ true → m ≡ n
+  equal_numbers m n e = grind (arith, nat_tests)
+
   alike_says : (one other : CellPacket) → pass_alike ifaces one other ≡ true → PassAlike ifaces one other
   alike_says one other e =
-      let parts = both_true (known_number ifaces one.ifid.0 == known_number ifaces other.ifid.0) (is_dir one.dir other.dir) e in record {
-        interface = equal_numbers (known_number ifaces one.ifid.0) (known_number ifaces other.ifid.0) parts.0;
-        direction = same_dir one.dir other.dir parts.1;
-      }
+      let m = run_number ifaces one.ifid.0 in
+      let n = run_number ifaces other.ifid.0 in
+      let parts = two_parts (m == n) one.dir other.dir e in
+      record { interface = equal_numbers m n parts.0; direction = parts.1 }
 
   says_alike : (one other : CellPacket) → PassAlike ifaces one other → pass_alike ifaces one other ≡ true
   says_alike one other same =
-      ap (λ n. (n == known_number ifaces other.ifid.0) && is_dir one.dir other.dir) same.interface
-      ∙ ap (λ dir. (known_number ifaces other.ifid.0 == known_number ifaces other.ifid.0) && is_dir dir other.dir) same.direction
-      ∙ ap (λ b. b && is_dir other.dir other.dir) (own_number (known_number ifaces other.ifid.0))
-      ∙ own_dir other.dir
+      let n = run_number ifaces other.ifid.0 in
+      let own : (n == n) ≡ true = grind (arith, nat_tests) in
+      ap (λ m. (m == n) && is_dir one.dir other.dir) same.interface
+      ∙ ap (λ dir. (n == n) && is_dir dir other.dir) same.direction
+      ∙ in_own_direction (n == n) other.dir own
 
   -- packets that pass alike have one name for their interface
   name_within : (number : ℕ) (within : Bool) → nat_le number (length ifaces) ≡ within → name_at ifaces number ≡ name_at ifaces (cond within number 0)
@@ -55,7 +51,7 @@ module _ (ifaces : List Iface) where
   name_within (suc place) false e =
       let past : length ifaces ≤ place = grind (arith, nat_tests) in ap (option_map (λ (iface : Iface). iface.name)) (slice_get_past ifaces place past)
 
-  name_known : (number : ℕ) → name_at ifaces number ≡ name_at ifaces (known_number ifaces number)
+  name_known : (number : ℕ) → name_at ifaces number ≡ name_at ifaces (run_number ifaces number)
   name_known number = name_within number (nat_le number (length ifaces)) refl
 
   pub same_name : (one other : CellPacket) → pass_alike ifaces one other ≡ true → interface_text ifaces one.ifid ≡ interface_text ifaces other.ifid

@@ -1,5 +1,5 @@
 -- What is written of packets fits a capture.
-use Rattle.std.proofs.Common.{◌≤◌, ℕ, ◌+◌, List, [], ◌∷◌, get_or, length, arith}
+use Rattle.std.proofs.Common.{◌<◌, ◌≤◌, ℕ, ◌+◌, List, [], ◌∷◌, get_or, length, arith}
 use Rattle.std.{specs.{List.{enumerate_from, filter}, Prelude.All}, proofs.lemmas.List.{length-append, Elements.{All-cons, All-filter, All-map, All-nil}}}
 use Rattle.npf_types.specs.declared.{address.Addr.{Addr, TheVariants.{V4, V6}}, facts.{Facts.Facts, L4.{L4, TheVariants.{Tcp, Udp, Icmp, Icmp6, Other}}}}
 use Rattle.npf_types.specs.declared.link.Link.TheVariants.{Raw}
@@ -13,12 +13,12 @@ address_size : (addr : Addr) → length (address_bytes addr) ≤ 16
 address_size (V4 a) = omega arith
 address_size (V6 a) = omega arith
 
-upper_size : (l4 : L4) (sum : ℕ) → length (upper_bytes l4 sum) ≤ 20
-upper_size (Tcp sport dport segment mss_at) sum = omega arith
-upper_size (Udp sport dport) sum = omega arith
-upper_size (Icmp kind code echo) sum = omega arith
-upper_size (Icmp6 kind code echo) sum = omega arith
-upper_size Other sum = omega arith
+length-upper : (l4 : L4) (sum : ℕ) → length (upper_bytes l4 sum) < 21
+length-upper (Tcp sport dport segment mss_at) sum = omega arith
+length-upper (Udp sport dport) sum = omega arith
+length-upper (Icmp kind code echo) sum = omega arith
+length-upper (Icmp6 kind code echo) sum = omega arith
+length-upper Other sum = omega arith
 
 header_size : (src : Addr) (facts : Facts) → length (ip_header src facts) ≤ 44
 header_size (V4 a) facts =
@@ -29,7 +29,7 @@ header_size (V6 a) facts =
 witness_size : (facts : Facts) → length (witness_bytes facts) ≤ 64
 witness_size facts =
     let sum = carried_checksum facts facts.l4 in
-    omega (arith, length-append (ip_header facts.src facts) (upper_bytes facts.l4 sum), header_size facts.src facts, upper_size facts.l4 sum)
+    omega (arith, length-append (ip_header facts.src facts) (upper_bytes facts.l4 sum), header_size facts.src facts, length-upper facts.l4 sum)
 
 numbers_within : {X : Type 0} (n most : ℕ) (xs : List X) → n + length xs ≤ most + 1 → All (λ (numbered : ℕ × X). numbered.0 ≤ most) (enumerate_from n xs)
 numbers_within {X} n most [] fits = All-nil (λ (numbered : ℕ × X). numbered.0 ≤ most)

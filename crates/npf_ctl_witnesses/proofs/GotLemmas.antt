@@ -26,14 +26,15 @@ got-map f [] i x e = nothing_there x e
 got-map f (y ∷ ys) zero x e = let same : y ≡ x = cc in ap (λ z. Some (f z)) same
 got-map f (y ∷ ys) (suc i) x e = got-map f ys i x e
 
-pub got-append : {X : Type 0} (xs ys : List X) (i : ℕ) (x : X) → slice_get xs i ≡ Some x → slice_get (xs ++ ys) i ≡ Some x
-got-append [] ys i x e = nothing_there x e
-got-append (z ∷ xs) ys zero x e = e
-got-append (z ∷ xs) ys (suc i) x e = got-append xs ys i x e
+module _ {X : Type 0} where
+  pub got-append : (xs ys : List X) (i : ℕ) (x : X) → slice_get xs i ≡ Some x → slice_get (xs ++ ys) i ≡ Some x
+  got-append [] ys i x e = nothing_there x e
+  got-append (z ∷ xs) ys zero x e = e
+  got-append (z ∷ xs) ys (suc i) x e = got-append xs ys i x e
 
-pub got-last : {X : Type 0} (xs : List X) (x : X) → slice_get (xs ++ x ∷ []) (length xs) ≡ Some x
-got-last [] x = refl
-got-last (y ∷ ys) x = got-last ys x
+  pub got-last : (xs : List X) (x : X) → slice_get (xs ++ x ∷ []) (length xs) ≡ Some x
+  got-last [] x = refl
+  got-last (y ∷ ys) x = got-last ys x
 
 kept_or_left : {X : Type 0} (b : Bool) (y x : X) (ys : List X) → Got ys x → Got (cond b (y ∷ ys) ys) x
 kept_or_left true y x ys found = record { place = suc found.place; there = found.there }

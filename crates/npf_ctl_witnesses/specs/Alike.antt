@@ -6,12 +6,12 @@ use Rattle.npf_model.specs.Place.{is_dir}
 use Rattle.npf_products.specs.declared.packet.CellPacket.{CellPacket}
 
 -- the number of an interface of the run; what is none of them counts as 0
-abbrev pub known_number : List Iface → ℕ → ℕ
-known_number ifaces number = if nat_le number (length ifaces) then number else 0
+abbrev pub run_number : List Iface → ℕ → ℕ
+run_number ifaces number = if nat_le number (length ifaces) then number else 0
 
 -- both pass on one interface, or on none of the run, and in one direction
 abbrev pub pass_alike : List Iface → CellPacket → CellPacket → Bool
-pass_alike ifaces one other = (known_number ifaces one.ifid.0 == known_number ifaces other.ifid.0) && is_dir one.dir other.dir
+pass_alike ifaces one other = (run_number ifaces one.ifid.0 == run_number ifaces other.ifid.0) && is_dir one.dir other.dir
 
 -- none of the earlier ones passes as this one does
 abbrev pub is_leader : List Iface → List CellPacket → CellPacket → Bool

@@ -1,7 +1,7 @@
 // Which witnesses pass on one interface in one direction.
 ghost use Rattle.std.specs.Prelude.{◌≡◌, IfOk, length};
 ghost use Rattle.std.specs.List.{list_any};
-ghost use Rattle.npf_ctl_witnesses.specs.Alike.{is_leader, known_number, leaders, pass_alike};
+ghost use Rattle.npf_ctl_witnesses.specs.Alike.{is_leader, run_number, leaders, pass_alike};
 ghost use Rattle.npf_model.specs.Place.{is_dir};
 
 use npf_model::Iface;
@@ -45,12 +45,12 @@ fn is_among(ifaces: &[Iface], packets: &[CellPacket], packet: &CellPacket) -> bo
 pub(crate) fn pass_alike(ifaces: &[Iface], one: &CellPacket, other: &CellPacket) -> bool
     ensures { result ≡ pass_alike ifaces.now one.now other.now }
 {
-    known_number(ifaces, one.ifid) == known_number(ifaces, other.ifid) && is_dir(one.dir, other.dir)
+    run_number(ifaces, one.ifid) == run_number(ifaces, other.ifid) && is_dir(one.dir, other.dir)
 }
 
 // The number of an interface of the run; what is none of them counts as 0.
-fn known_number(ifaces: &[Iface], ifid: IfId) -> u16
-    ensures { result ≡ known_number ifaces.now ifid.0 }
+fn run_number(ifaces: &[Iface], ifid: IfId) -> u16
+    ensures { result ≡ run_number ifaces.now ifid.0 }
 {
     if ifid.0 as usize <= ifaces.len() {
         ifid.0

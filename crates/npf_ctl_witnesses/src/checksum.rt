@@ -1,6 +1,6 @@
 // The Internet checksum (RFC 1071).
 ghost use Rattle.std.specs.Prelude.{◌≡◌, ◌≤◌, ◌*◌, ◌^◌, ◌%◌, ◌==◌, if◌then◌else◌, length};
-ghost use Rattle.npf_fields.specs.Checksum.{with_carries as once_carried};
+ghost use Rattle.npf_fields.specs.Checksum.{end_around};
 ghost use Rattle.npf_possible.specs.Witness.{checksum_of};
 
 /// The sum that a header carries for these bytes, of which there may be 65,536.
@@ -12,7 +12,7 @@ pub(crate) fn checksum_of(bytes: &[u8]) -> u16
     for (place, byte) in bytes.iter().enumerate() {
         total += in_word(place, *byte);
     }
-    !(with_carries(with_carries(total)) as u16)
+    !end_around(total)
 }
 
 // What the byte at a place counts in its word of 16 bits, the higher byte of which comes first.
@@ -26,9 +26,10 @@ fn in_word(place: usize, byte: u8) -> u32
     }
 }
 
-// The carries above 16 bits added to the 16 bits below them.
-fn with_carries(total: u32) -> u32
-    ensures { result ≡ once_carried total }
+// The carries above 16 bits, added until 16 bits are left.
+fn end_around(total: u32) -> u16
+    ensures { result ≡ end_around total }
 {
-    (total & 0xffff) + (total >> 16)
+    let once = total % 65_536 + total / 65_536;
+    (once % 65_536 + once / 65_536) as u16
 }

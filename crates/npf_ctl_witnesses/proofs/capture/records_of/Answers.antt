@@ -19,7 +19,8 @@ loop-place-preserved c =
                 pushed
                 ∙ ap (λ sent. c.loop-place.records.items ++ sent ∷ []) w.in_ok-witness_record.ensures.record
                 ∙ ap (λ all. all ++ witness_record (i + 1, get_or packets i any_packet) ∷ []) c.loop-place.invariant.told
-                ∙ sym (kept_more (passes_with ifaces one) witness_record 1 packets i (i + 1) any_packet (omega (arith, c.loop-place-test.true)) (omega arith) (sym c.pass_alike.ensures ∙ w.if-pass_alike.true));
+                ∙ sym (kept_more (passes_with ifaces one) witness_record 1 packets i (i + 1) any_packet (omega (arith, c.loop-place-test.true)) (omega arith)
+                (sym c.pass_alike.ensures ∙ w.if-pass_alike.true));
             fit =
                 subst (λ (all : List Record). All FitsCapture all) (sym pushed)
                 (All-append FitsCapture c.loop-place.records.items (w.in_ok-witness_record.field-0 ∷ []) c.loop-place.invariant.fit
@@ -29,7 +30,8 @@ loop-place-preserved c =
           let same = ap (λ v. v.items) w.records-is in record {
             told =
                 same ∙ c.loop-place.invariant.told
-                ∙ sym (left_more (passes_with ifaces one) witness_record 1 packets i (i + 1) any_packet (omega (arith, c.loop-place-test.true)) (omega arith) (sym c.pass_alike.ensures ∙ w.if-pass_alike.false));
+                ∙ sym (left_more (passes_with ifaces one) witness_record 1 packets i (i + 1) any_packet (omega (arith, c.loop-place-test.true)) (omega arith)
+                (sym c.pass_alike.ensures ∙ w.if-pass_alike.false));
             fit = subst (λ (all : List Record). All FitsCapture all) (sym same) c.loop-place.invariant.fit;
           }
     ]
