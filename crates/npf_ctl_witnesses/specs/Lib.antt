@@ -1,0 +1,4 @@
+pub mod Alike
+pub mod WitnessFiles
+pub mod Fault
+pub mod FilesLaw
