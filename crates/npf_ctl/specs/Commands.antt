@@ -2,7 +2,7 @@
 use Rattle.std.specs.Prelude.{Bool, true, false, Option, Some, None}
 use Rattle.npf_types.specs.declared.direction.Dir.{Dir}
 use Rattle.npf_types.specs.declared.name.Name.{Name}
-use Rattle.npf_ctl_input.specs.declared.tap.Tap.{Tap}
+use Rattle.npf_ctl_input.specs.declared.tap.NamedTap.{NamedTap}
 use Rattle.npf_ctl_input.specs.Source.{first_tap}
 use Rattle.npf_ctl_prepare.specs.Prepares.{RunNames}
 use Rattle.npf_traffic.specs.declared.phase.Spread.{Spread}
@@ -21,7 +21,7 @@ use Rattle.npf_ctl_words.specs.declared.command.SpreadWord.TheVariants as Said
 use Rattle.npf_ctl_words.specs.CommandLine.{given_text}
 
 -- where a capture alone was recorded: where either is said, the other is that of a capture of which nothing is
-abbrev pub tap_said : Option Name → Option Dir → Option Tap
+abbrev pub tap_said : Option Name → Option Dir → Option NamedTap
 tap_said None None = None
 tap_said (Some name) None = Some (record first_tap { name = name })
 tap_said None (Some dir) = Some (record first_tap { dir = dir })

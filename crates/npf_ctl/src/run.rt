@@ -27,7 +27,7 @@ use crate::fragments::put_together;
 use crate::saves::save_connections;
 use npf_connections::Connections;
 use npf_ctl_arrivals::Captures;
-use npf_ctl_input::Tap;
+use npf_ctl_input::NamedTap;
 use npf_ctl_messages::CommandFault;
 use npf_ctl_output::{PassedPackets, ip_extents, put_report, write_parts};
 use npf_ctl_prepare::{Prepared, RunFiles, prepare_run};
@@ -198,20 +198,20 @@ fn write_passed<F: Files>(
 }
 
 /// Where a capture alone was recorded, if an interface or a direction is said.
-fn tap_said(on: Option<Name>, dir: Option<Dir>) -> Option<Tap>
+fn tap_said(on: Option<Name>, dir: Option<Dir>) -> Option<NamedTap>
     ensures { result ≡ tap_said on dir }
 {
-    let first = Tap::first();
+    let first = NamedTap::first();
     match (on, dir) {
         (None, None) => None,
-        (Some(name), None) => Some(Tap {
+        (Some(name), None) => Some(NamedTap {
             name,
             dir: first.dir,
         }),
-        (None, Some(dir)) => Some(Tap {
+        (None, Some(dir)) => Some(NamedTap {
             name: first.name,
             dir,
         }),
-        (Some(name), Some(dir)) => Some(Tap { name, dir }),
+        (Some(name), Some(dir)) => Some(NamedTap { name, dir }),
     }
 }

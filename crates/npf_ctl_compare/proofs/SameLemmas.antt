@@ -21,12 +21,12 @@ same_treatment (Blocked answer log) other map other_map same maps = ap (λ effec
 same_treatment (Passed state action) other map other_map same maps =
     ap (λ written. treatment_by (Passed state action) written) (maps tt) ∙ ap (λ effect. treatment_by effect other_map) same
 
-rule_of : (effect : RuleEffect) (map : Option MapEffect) → (treatment_by effect map).rule ≡ effect
-rule_of (Blocked answer log) map = refl
-rule_of (Passed state action) map = refl
-
 same_rule : (one other : RuleEffect) (map other_map : Option MapEffect) → treatment_by one map ≡ treatment_by other other_map → one ≡ other
-same_rule one other map other_map same = sym (rule_of one map) ∙ ap (λ (t : Treatment). t.rule) same ∙ rule_of other other_map
+same_rule one other map other_map same = sym (by one map) ∙ ap (λ (t : Treatment). t.rule) same ∙ by other other_map
+  where
+    by : (effect : RuleEffect) (map : Option MapEffect) → (treatment_by effect map).rule ≡ effect
+    by (Blocked answer log) map = refl
+    by (Passed state action) map = refl
 
 same_map : (one other : RuleEffect) (map other_map : Option MapEffect) → IsPassing one → one ≡ other → treatment_by one map ≡ treatment_by other other_map → map ≡ other_map
 same_map (Blocked answer log) other map other_map passes alike same = absurd passes

@@ -13,7 +13,7 @@ use Rattle.npf_ctl_script.specs.Lines.{IsScript, RefusesScript}
 use Rattle.npf_ctl_messages.specs.declared.fault.CommandFault.{CommandFault}
 use Rattle.npf_ctl_messages.specs.declared.fault.CommandFault.TheVariants.{Line, Long}
 use Rattle.npf_ctl_messages.specs.declared.fault.LineFault.TheVariants.{BadLine}
-use Rattle.npf_ctl_input.specs.declared.tap.Tap.{Tap}
+use Rattle.npf_ctl_input.specs.declared.tap.NamedTap.{NamedTap}
 
 pub data Source : Type 0 where
   -- the bytes of a capture
@@ -35,23 +35,23 @@ pub data ReadsEither (file bytes : List ℕ) : Result Source CommandFault → Ty
       ReadsEither file bytes (Err (Line file line BadLine))
 
 -- where one is told, they are a capture's
-abbrev pub ReadsSource : Option Tap → List ℕ → List ℕ → Stage Source CommandFault
+abbrev pub ReadsSource : Option NamedTap → List ℕ → List ℕ → Stage Source CommandFault
 ReadsSource None file bytes = ReadsEither file bytes
 ReadsSource (Some tap) file bytes = gives (Alone bytes)
 
 -- that of a capture alone: where none is told, its packets came in on the interface cap0
-abbrev pub first_tap : Tap
+abbrev pub first_tap : NamedTap
 first_tap = record { name = named (codes "cap0"); dir = In }
 
-abbrev pub tap_of_capture : Option Tap → Tap
+abbrev pub tap_of_capture : Option NamedTap → NamedTap
 tap_of_capture None = first_tap
 tap_of_capture (Some tap) = tap
 
 -- the command that names a capture of this tap
-abbrev pub line_of_tap : Tap → List ℕ → ScriptLine
+abbrev pub line_of_tap : NamedTap → List ℕ → ScriptLine
 line_of_tap tap file = Said.Capture tap.name tap.dir file
 
 -- the commands of the second file
-abbrev pub lines_of_source : Option Tap → List ℕ → Source → List (ℕ × ScriptLine)
+abbrev pub lines_of_source : Option NamedTap → List ℕ → Source → List (ℕ × ScriptLine)
 lines_of_source tap file (Alone bytes) = (1, line_of_tap (tap_of_capture tap) file) ∷ []
 lines_of_source tap file (Scripted lines) = lines

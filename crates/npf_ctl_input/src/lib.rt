@@ -18,4 +18,4 @@ pub use file::{read_file, text_of};
 pub use interfaces::{interfaces_of, read_interfaces};
 pub use loads::{load_alone, load_file, load_text, told_fault};
 pub use source::{RunSource, read_source};
-pub use tap::Tap;
+pub use tap::NamedTap;

@@ -6,7 +6,7 @@ ghost use Rattle.npf_ctl_input.specs.Unless.{UnlessMemory};
 ghost use Rattle.npf_ctl_input.specs.View.{source_view};
 
 use crate::file::text_of;
-use crate::tap::Tap;
+use crate::tap::NamedTap;
 use npf_ctl_messages::{CommandFault, LineFault};
 use npf_ctl_script::{Script, ScriptFault, read_script};
 use npf_fields::get32;
@@ -27,7 +27,7 @@ pub enum RunSource {
 /// are no capture's and longer than a text may be (`Long`), or for the script's first bad line; or for want of memory.
 pub fn read_source(
     alloc: Global,
-    tap: Option<Tap>,
+    tap: Option<NamedTap>,
     file: &str,
     bytes: Vec<u8>,
 ) -> Result<RunSource, CommandFault>

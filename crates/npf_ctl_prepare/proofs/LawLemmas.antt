@@ -11,7 +11,7 @@ use Rattle.npf_ctl_messages.specs.declared.fault.CommandFault.{CommandFault}
 use Rattle.npf_ctl_input.specs.{File.{ReadsFile, ReadsWell, told_files}, Interfaces.ReadsInterfaces}
 use Rattle.npf_ctl_input.specs.{Laws.{ConfigurationsAreOfContents, FilesAreOfContents, InterfacesAreOfContents}, Loads.LoadsFile}
 use Rattle.npf_ctl_input.{specs.Source.{Source, Alone, Scripted, ReadsSource, lines_of_source}, proofs.ReadingLemmas.meets_told}
-use Rattle.npf_ctl_input.specs.declared.tap.Tap.{Tap}
+use Rattle.npf_ctl_input.specs.declared.tap.NamedTap.{NamedTap}
 use Rattle.npf_ctl_prepare.specs.{Captures.{GathersCaptures, GathersLine, ReadsCaptureFile, interface_id}, Configurations.{MakesConfigurations, MakesNext}}
 use Rattle.npf_ctl_prepare.specs.Prepares.{KeepsScriptLimits, RunPlan, Plans, PreparesRun, PreparesSource, RunNames, numbered_by}
 use Rattle.npf_ctl_prepare.proofs.ReloadingLemmas.{reload_lasts}
@@ -64,7 +64,7 @@ module _ (tree : Tree) (before after : FilesMoment) (told : before.contents ≡ 
         (λ next. MakesConfigurations alone alone ifaces script lines (cond (makes_change line.1) (made ++ next ∷ []) made) next)
         (next_lasts last line) (λ next. configs_last lines (cond (makes_change line.1) (made ++ next ∷ []) made) next) result is
 
-  source_lasts : (tap : Option Tap) (script : List ℕ) (given : List Iface) (first : Configuration) (source : Source) (result : Result RunPlan CommandFault) →
+  source_lasts : (tap : Option NamedTap) (script : List ℕ) (given : List Iface) (first : Configuration) (source : Source) (result : Result RunPlan CommandFault) →
       PreparesSource before after tap script given first source result → PreparesSource alone alone tap script given first source result
   source_lasts tap script given first source =
       let numbered_lines = lines_of_source tap script source in

@@ -11,7 +11,7 @@ use Rattle.npf_ctl_schedule.specs.Schedule.{run_interfaces, unnumbered, with_int
 use Rattle.npf_ctl_arrivals.specs.Within.{IsInterfaceNumber}
 use Rattle.npf_table.specs.TableFile.{lines as text_lines}
 use Rattle.npf_ctl_input.specs.Source.{Alone, ReadsEither, ReadsSource, Scripted, alone, lines_of_source, scripted}
-use Rattle.npf_ctl_input.specs.declared.tap.Tap.{Tap}
+use Rattle.npf_ctl_input.specs.declared.tap.NamedTap.{NamedTap}
 use Rattle.npf_ctl_prepare.specs.{Captures.interface_id, Known.{NamesKnownInterface, NamesTextFile}, View.{source_ordered, source_with}}
 use Rattle.npf_ctl_prepare.specs.declared.orders.Orders.{Orders}
 
@@ -120,17 +120,17 @@ line_and_rest lines i line within is = drop_more lines i line within ∙ ap (λ 
 either_names : (file bytes : List ℕ) (lines : List (ℕ × ScriptLine)) → ReadsEither file bytes (Ok (Scripted lines)) → All (λ line. NamesTextFile line.1) lines
 either_names file bytes lines (scripted not_capture fits is) = read_names (text_lines bytes) lines is
 
-pub script_names : (tap : Option Tap) (file bytes : List ℕ) (lines : List (ℕ × ScriptLine)) → ReadsSource tap file bytes (Ok (Scripted lines)) →
+pub script_names : (tap : Option NamedTap) (file bytes : List ℕ) (lines : List (ℕ × ScriptLine)) → ReadsSource tap file bytes (Ok (Scripted lines)) →
     All (λ line. NamesTextFile line.1) lines
 script_names None file bytes lines is = either_names file bytes lines is
 script_names (Some tap) file bytes lines is = cc
 
 -- a capture alone has the bytes of the file
-pub alone_bytes : (tap : Option Tap) (file bytes got : List ℕ) → ReadsSource tap file bytes (Ok (Alone got)) → got ≡ bytes
+pub alone_bytes : (tap : Option NamedTap) (file bytes got : List ℕ) → ReadsSource tap file bytes (Ok (Alone got)) → got ≡ bytes
 alone_bytes None file bytes got (alone begins) = refl
 alone_bytes (Some tap) file bytes got is = cc
 
-one_if : (tap : Option Tap) (script : List ℕ) (lines : List (ℕ × ScriptLine)) (alone : Option (Vec ℕ Global)) →
+one_if : (tap : Option NamedTap) (script : List ℕ) (lines : List (ℕ × ScriptLine)) (alone : Option (Vec ℕ Global)) →
     lines ≡ lines_of_source tap script (source_with (option_map (λ bytes. bytes.items) alone) lines) → IfSome alone (λ _. length lines ≡ 1)
 one_if tap script lines None are = tt
 one_if tap script lines (Some bytes) are = ap length are

@@ -9,7 +9,7 @@ use Rattle.npf_ctl_script.specs.declared.script.ScriptLine.{ScriptLine}
 use Rattle.npf_traffic.specs.declared.{packet.Packet.Packet, phase.Phase.Phase}
 use Rattle.npf_ctl_messages.specs.declared.fault.CommandFault.{CommandFault}
 use Rattle.npf_ctl_input.specs.{File.ReadsFile, Interfaces.ReadsInterfaces, Loads.LoadsFile, Source.{Source, ReadsSource, lines_of_source}}
-use Rattle.npf_ctl_input.specs.declared.tap.Tap.{Tap}
+use Rattle.npf_ctl_input.specs.declared.tap.NamedTap.{NamedTap}
 use Rattle.npf_ctl_input.{specs.Unless.{IfTold, UnlessMemory}, proofs.UnlessLemmas.{unless_lasts, told_lasts}}
 use Rattle.npf_ctl_prepare.specs.{Captures.GathersCaptures, Configurations.MakesConfigurations}
 use Rattle.npf_ctl_prepare.specs.Prepares.{KeepsScriptLimits, RunPlan, Plans, planned, PreparesRun, PreparesSource, RunNames, numbered_by}
@@ -26,7 +26,7 @@ plans_with ifaces configs gathered lines packets phases by_time are =
     subst (λ (list : List Phase). Plans ifaces configs gathered lines (Ok (record { ifaces = ifaces; configs = configs; packets = packets; phases = list }))) (sym are)
     (planned by_time)
 
-module _ (before after : FilesMoment) (tap : Option Tap) (script : List ℕ) (given : List Iface) (first : Configuration) (source : Source) (numbered_lines : List (ℕ × ScriptLine))
+module _ (before after : FilesMoment) (tap : Option NamedTap) (script : List ℕ) (given : List Iface) (first : Configuration) (source : Source) (numbered_lines : List (ℕ × ScriptLine))
     (lines_are : numbered_lines ≡ lines_of_source tap script source) where
   abbrev Prepares : Result RunPlan CommandFault → Type 0
   Prepares = PreparesSource before after tap script given first source

@@ -22,7 +22,7 @@ use Rattle.npf_ctl_input.specs.File.{ReadsFile}
 use Rattle.npf_ctl_input.specs.Interfaces.{ReadsInterfaces}
 use Rattle.npf_ctl_input.specs.Loads.{LoadsFile}
 use Rattle.npf_ctl_input.specs.Source.{Source, ReadsSource, lines_of_source}
-use Rattle.npf_ctl_input.specs.declared.tap.Tap.{Tap}
+use Rattle.npf_ctl_input.specs.declared.tap.NamedTap.{NamedTap}
 use Rattle.npf_ctl_prepare.specs.Captures.{GathersCaptures}
 use Rattle.npf_ctl_prepare.specs.Configurations.{MakesConfigurations}
 
@@ -32,7 +32,7 @@ pub record RunNames : Type 0 where
   pub conf : List ℕ
   pub script : List ℕ
   pub ifaces : Option (List ℕ)
-  pub tap : Option Tap
+  pub tap : Option NamedTap
 
 -- a run that can be played: its interfaces, its configurations by their numbers, its packets by time, and its phases
 pub record RunPlan : Type 0 where
@@ -65,7 +65,7 @@ pub data Plans (ifaces : List Iface) (configs : List Configuration) (gathered : 
 
 module _ (before after : FilesMoment) where
   -- the run of this script, with these interfaces and this first configuration
-  abbrev pub PreparesSource : Option Tap → List ℕ → List Iface → Configuration → Source → Stage RunPlan CommandFault
+  abbrev pub PreparesSource : Option NamedTap → List ℕ → List Iface → Configuration → Source → Stage RunPlan CommandFault
   PreparesSource tap script given first source =
       let numbered_lines = lines_of_source tap script source in
       let lines = unnumbered numbered_lines in

@@ -6,7 +6,7 @@ ghost use Rattle.npf_ctl_input.specs.Unless.{UnlessMemory};
 ghost use Rattle.npf_ctl_prepare.specs.Known.{NamesTextFile};
 ghost use Rattle.npf_ctl_prepare.specs.View.{source_ordered};
 
-use npf_ctl_input::{RunSource, Tap, read_source};
+use npf_ctl_input::{RunSource, NamedTap, read_source};
 use npf_ctl_messages::CommandFault;
 use npf_ctl_script::{Script, ScriptLine};
 use npf_types::limits::MAX_CAPTURE_BYTES;
@@ -18,13 +18,13 @@ use std::alloc::Global;
 pub(crate) struct Orders {
     pub(crate) lines: List<(u32, ScriptLine)>,
     pub(crate) alone: Option<Vec<u8>>,
-    pub(crate) tap: Option<Tap>,
+    pub(crate) tap: Option<NamedTap>,
 }
 
 /// What the file of this name orders, whose bytes these are.
 pub(crate) fn read_orders(
     alloc: Global,
-    tap: Option<Tap>,
+    tap: Option<NamedTap>,
     file: &str,
     bytes: Vec<u8>,
 ) -> Result<Orders, CommandFault>
@@ -53,13 +53,13 @@ pub(crate) fn read_orders(
 /// The line that a capture alone stands for, which has this name.
 fn line_of_capture(
     alloc: Global,
-    tap: Option<Tap>,
+    tap: Option<NamedTap>,
     file: &str,
 ) -> Result<Vec<(u32, ScriptLine)>, NoMemory>
     ensures value { IfOk result (λ lines. lines.items ≡ lines_of_source tap file.now (Alone [])) }
     ensures text { IfOk result (λ lines. All (λ line. NamesTextFile line.1) lines.items) }
 {
-    let Tap { name, dir } = tap_of_capture(tap);
+    let NamedTap { name, dir } = tap_of_capture(tap);
     let file = List::of_vec(Vec::from_slice(alloc, file.as_bytes())?);
     let mut lines = Vec::new(alloc);
     lines.push((1, ScriptLine::Capture { name, dir, file }))?;
@@ -67,11 +67,11 @@ fn line_of_capture(
 }
 
 /// Where a capture alone was recorded.
-fn tap_of_capture(tap: Option<Tap>) -> Tap
+fn tap_of_capture(tap: Option<NamedTap>) -> NamedTap
     ensures { result ≡ tap_of_capture tap }
 {
     match tap {
         Some(tap) => tap,
-        None => Tap::first(),
+        None => NamedTap::first(),
     }
 }

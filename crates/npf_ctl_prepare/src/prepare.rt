@@ -20,7 +20,7 @@ use crate::interfaces::numbered;
 use crate::limits::keep_limits;
 use crate::orders::{Orders, read_orders};
 use npf_ctl_arrivals::Captures;
-use npf_ctl_input::{Tap, load_file, read_file, read_interfaces};
+use npf_ctl_input::{NamedTap, load_file, read_file, read_interfaces};
 use npf_ctl_messages::CommandFault;
 use npf_ctl_schedule::laws::{packets_add_up, publications_are_in_order};
 use npf_ctl_schedule::schedule;
@@ -41,7 +41,7 @@ pub struct RunFiles<'a> {
     /// The interfaces with their addresses.
     pub ifaces: Option<&'a str>,
     /// Where that capture was recorded; it is a script where this isn't told and its bytes don't begin as a capture's.
-    pub tap: Option<Tap>,
+    pub tap: Option<NamedTap>,
 }
 
 /// A run that can be played.

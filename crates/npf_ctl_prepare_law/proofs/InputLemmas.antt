@@ -15,7 +15,7 @@ use Rattle.npf_ctl_script.specs.Laws.{NoScriptIsRefused, OneScript}
 use Rattle.npf_ctl_messages.specs.declared.fault.CommandFault.{CommandFault, TheVariants.Configuration as Refuses}
 use Rattle.npf_ctl_input.specs.{File.{ReadsFile, failed, longer, told_files, whole}, Interfaces.{NamesInterfaces, ReadsInterfaces, named, refused}}
 use Rattle.npf_ctl_input.specs.Loads.{LoadsAlone, LoadsFile, LoadsText, loaded, longer as long_table, refused as refused_text, told_load, unread}
-use Rattle.npf_ctl_input.specs.declared.tap.Tap.{Tap}
+use Rattle.npf_ctl_input.specs.declared.tap.NamedTap.{NamedTap}
 use Rattle.npf_ctl_input.specs.Source.{Source, Alone, ReadsEither, ReadsSource, Scripted, alone, bad_line, longer as long_script, scripted}
 use Rattle.npf_ctl_prepare_law.{specs.Readings.{Agree, EndAlike, bad_lines, equal, in_text}, proofs.AgreeLemmas.behind_one}
 use Rattle.npf_ctl_prepare_law.proofs.IfaceLemmas.{iface_file_or_bad, one_bad_iface_line, one_iface_file}
@@ -71,7 +71,7 @@ module _ (one_script : OneScript) (none_refused : NoScriptIsRefused) (file bytes
   either_agrees _ _ (bad_line {line = line} _ _ bad) (scripted {lines = lines} _ _ is) = none_refused bytes lines line is bad
   either_agrees _ _ (bad_line _ _ _) (bad_line _ _ _) = bad_lines
 
-  pub sources_agree : (tap : Option Tap) → Agree (λ one other. one ≡ other) (ReadsSource tap file bytes) (ReadsSource tap file bytes)
+  pub sources_agree : (tap : Option NamedTap) → Agree (λ one other. one ≡ other) (ReadsSource tap file bytes) (ReadsSource tap file bytes)
   sources_agree None one other is there = either_agrees one other is there
   sources_agree (Some tap) one other is there =
       subst (λ (it : Result Source CommandFault). AreOne (λ (a b : Source). a ≡ b) EndAlike it other) (sym is)

@@ -13,7 +13,7 @@ use Rattle.npf_ctl_script.specs.{declared.script.ScriptLine.ScriptLine, Laws.{No
 use Rattle.npf_ctl_schedule.specs.Schedule.{phases_of, unnumbered}
 use Rattle.npf_ctl_arrivals.specs.Arrivals.{Gathered, none_gathered}
 use Rattle.npf_ctl_input.specs.{File.{ReadsFile, told_files}, Interfaces.ReadsInterfaces, Loads.LoadsFile, Source.{Source, ReadsSource, lines_of_source}}
-use Rattle.npf_ctl_input.specs.declared.tap.Tap.{Tap}
+use Rattle.npf_ctl_input.specs.declared.tap.NamedTap.{NamedTap}
 use Rattle.npf_ctl_prepare.specs.{Captures.GathersCaptures, Configurations.MakesConfigurations}
 use Rattle.npf_ctl_prepare.specs.Prepares.{KeepsScriptLimits, Plans, PreparesRun, PreparesSource, RunNames, numbered_by, planned}
 use Rattle.npf_ctl_prepare_law.{specs.Readings.{Agree, AreOnePlan, EndAlike}, proofs.{AgreeLemmas.behind_one, CaptureLemmas.one_gathered}}
@@ -35,7 +35,7 @@ numbered_same ifaces one other same = record { model = ap (numbered ifaces) same
 module _ (one_tree : OneTree) (tree_or_halt : TreeOrHalt) (one_place : OnePlace) (one_meaning : OneMeaning) (never_both : NeverBoth)
     (one_addition : OneAddition) (one_removal : OneRemoval) (one_flush : OneFlush) (one_script : OneScript) (none_refused : NoScriptIsRefused)
     (one_capture : OneCapture) (fine : CapturesHaveNoFault) (one_fault : OneFault) (tree : Tree) where
-  module _ (tap : Option Tap) (script : List ℕ) (given : List Iface) (one other : Configuration) (same : AreOneConfiguration one other) (source : Source) where
+  module _ (tap : Option NamedTap) (script : List ℕ) (given : List Iface) (one other : Configuration) (same : AreOneConfiguration one other) (source : Source) where
     made_agree : (ifaces : List Iface) (gathered : Gathered) → Agree AreOnePlan
         (MakesConfigurations (told_files tree) (told_files tree) ifaces script (lines_of_source tap script source) (numbered_by ifaces one ∷ []) (numbered_by ifaces one)
         andthen λ configs. Plans ifaces configs gathered (unnumbered (lines_of_source tap script source)))
@@ -48,7 +48,8 @@ module _ (one_tree : OneTree) (tree_or_halt : TreeOrHalt) (one_place : OnePlace)
         (numbered_by ifaces one ∷ []) (numbered_by ifaces other ∷ []) (numbered_by ifaces one) (numbered_by ifaces other) (first, tt) first)
         (λ configs others _ _ all. plans_agree ifaces configs others gathered (unnumbered (lines_of_source tap script source)) all)
 
-    sources_prepared : Agree AreOnePlan (PreparesSource (told_files tree) (told_files tree) tap script given one source) (PreparesSource (told_files tree) (told_files tree) tap script given other source)
+    sources_prepared : Agree AreOnePlan (PreparesSource (told_files tree) (told_files tree) tap script given one source)
+        (PreparesSource (told_files tree) (told_files tree) tap script given other source)
     sources_prepared =
         let lines = unnumbered (lines_of_source tap script source) in
         behind_one AreOnePlan (KeepsScriptLimits given lines) _ _ (limits_once given lines)

@@ -1,7 +1,7 @@
 // Settings that differ.
 ghost use Rattle.std.specs.Prelude.{◌≡◌, ◌++◌, IfOk, OnOk};
 ghost use Rattle.npf_model.specs.Settings.{choice_in};
-ghost use Rattle.npf_show.specs.Setting.{has_same_value, switch_text};
+ghost use Rattle.npf_show.specs.Setting.{switch_text};
 ghost use Rattle.npf_ctl_compare.specs.Setting.{changed_parameters, is_changed, is_other_switch, value_text};
 
 use npf_model::{Choice, Parameter, Settings};
@@ -26,20 +26,15 @@ pub(crate) fn changed_parameters(
     Ok(changed)
 }
 
+/// Whether a parameter is set to something else.
 fn is_changed(old: Settings, new: Settings, parameter: Parameter) -> bool
     ensures { result ≡ is_changed old new parameter }
 {
-    !has_same_value(old.choice(parameter), new.choice(parameter))
-}
-
-fn has_same_value(one: Choice, other: Choice) -> bool
-    ensures { result ≡ has_same_value one other }
-{
-    match (one, other) {
-        (Choice::Switch(_, one), Choice::Switch(_, other)) => one == other,
-        (Choice::Port(_, one), Choice::Port(_, other)) => one == other,
-        (Choice::Timeout(_, one), Choice::Timeout(_, other)) => one == other,
-        _ => false,
+    match (old.choice(parameter), new.choice(parameter)) {
+        (Choice::Switch(_, old), Choice::Switch(_, new)) => old != new,
+        (Choice::Port(_, old), Choice::Port(_, new)) => old != new,
+        (Choice::Timeout(_, old), Choice::Timeout(_, new)) => old != new,
+        _ => true,
     }
 }
 
