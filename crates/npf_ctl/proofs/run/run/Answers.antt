@@ -22,7 +22,7 @@ returns-in_err-prepared-clause-ends g c =
     let same : c.from_residual.result ≡ Err fault = search rules in
     rw same (λ texts said. run_unprepared texts (moment first out pass) (moment last out pass) c.args.words said
     (record { put = nothing_put out; files = only_read first last c.prepare_run.ensures.reads; idle = refl }) fault
-    (c.in_err-prepared.ensures.comes first last (around_work first last last (read_on last))))
+    (rw c.tap_said.ensures at (c.in_err-prepared.ensures.comes first last (around_work first last last (read_on last)))))
 
 pub returns-in_err-interfaces-clause-ends : goal.returns-in_err-interfaces-clause-ends
 returns-in_err-interfaces-clause-ends g c =
@@ -53,7 +53,7 @@ returns-in_err-load_connections-clause-ends g c =
     let fails = subst (λ (n : List Name). IfTold (FailsLoad first last (given_text c.args.words.load) n old new) fault) names
     (c.in_err-load_connections.ensures.fails first last (around_next first first read last last whole c.prepare_run.ensures.reads)) in
     rw same (λ texts said. run_unloaded texts (moment first out old) (moment last out new) c.args.words said plan
-    (c.in_ok-prepared.ensures.comes first last (around_first first first read last last whole c.load_connections.ensures.reads))
+    (rw c.tap_said.ensures at (c.in_ok-prepared.ensures.comes first last (around_first first first read last last whole c.load_connections.ensures.reads)))
     (nothing_put out) (only_read first last reads) fault fails)
 
 pub returns-in_err-interfaces-clause-files : goal.returns-in_err-interfaces-clause-files
@@ -108,7 +108,7 @@ returns-in_err-run_prepared-clause-ends g c =
     rw same (λ texts said. run_unfollowed texts before after c.args.words said plan begun (record {
       read = prepared;
       whole = has_whole;
-      prepared = c.in_ok-prepared.ensures.comes first last (around_first first first read loaded last whole c.load_connections.ensures.reads);
+      prepared = rw c.tap_said.ensures at (c.in_ok-prepared.ensures.comes first last (around_first first first read loaded last whole c.load_connections.ensures.reads));
       same = c.load_connections.ensures.same;
       begins = subst (λ (n : List Name). BeginsLoaded first last (given_text c.args.words.load) n old begun) names
           (c.in_ok-load_connections.ensures.begins first last (around_next first first read loaded last whole c.prepare_run.ensures.reads));
@@ -157,7 +157,7 @@ returns-clause-ends g c = λ texts said.
     (saving_ends texts before after c.args.words said plan begun (record {
       read = prepared;
       whole = has_whole;
-      prepared = c.in_ok-prepared.ensures.comes first last (around_first first first read loaded last whole c.load_connections.ensures.reads);
+      prepared = rw c.tap_said.ensures at (c.in_ok-prepared.ensures.comes first last (around_first first first read loaded last whole c.load_connections.ensures.reads));
       same = c.load_connections.ensures.same;
       begins = subst (λ (n : List Name). BeginsLoaded first last (given_text c.args.words.load) n old begun) names
           (c.in_ok-load_connections.ensures.begins first last (around_next first first read loaded last whole c.prepare_run.ensures.reads));
