@@ -1,4 +1,4 @@
 pub mod FaultLemmas
+pub mod ParameterLemmas
 pub mod SameLemmas
-pub mod SettingLemmas
 pub mod TextLemmas

@@ -12,8 +12,8 @@ use Rattle.npf_compare.specs.Difference.{AreRuleDifferences, IsRuleDifference, N
 use Rattle.npf_compare_maps.specs.declared.difference.MapDifference.{MapDifference}
 use Rattle.npf_compare_maps.specs.MapDifference.{AreMapDifferences, IsMapDifference, IsPassing, UntoldIsSame, map_effect_on}
 use Rattle.npf_ctl_compare.specs.declared.differences.Differences.{Differences}
-use Rattle.npf_ctl_compare.specs.{Agrees.Agrees, CompareText.{IsCompareText, difference_lines}, Differences.{AreDifferences, line_count}, Setting.is_other_switch}
-use Rattle.npf_ctl_compare.proofs.{SettingLemmas.{no_other_switch, none_changed, same_settings, same_switch}, TextLemmas.lines_counted}
+use Rattle.npf_ctl_compare.specs.{Agrees.Agrees, CompareText.{IsCompareText, difference_lines}, Differences.{AreDifferences, line_count}, Parameter.is_other_switch}
+use Rattle.npf_ctl_compare.proofs.{ParameterLemmas.{no_other_switch, none_changed, same_settings, same_switch}, TextLemmas.lines_counted}
 
 -- ---- what is done to a packet
 same_treatment : (one other : RuleEffect) (map other_map : Option MapEffect) → one ≡ other → (IsPassing one → map ≡ other_map) → treatment_by one map ≡ treatment_by other other_map

@@ -15,7 +15,7 @@ use Rattle.npf_compare.specs.declared.difference.RuleDifference.{RuleDifference}
 use Rattle.npf_compare_maps.specs.declared.difference.MapDifference.{MapDifference}
 use Rattle.npf_ctl_query.specs.{Decision.rule_word, QueryText.{ordinal_text, packet_tail}}
 use Rattle.npf_ctl_compare.specs.declared.differences.Differences.{Differences}
-use Rattle.npf_ctl_compare.specs.{Differences.AreDifferences, Setting.value_text, Unlike.unlike_word}
+use Rattle.npf_ctl_compare.specs.{Differences.AreDifferences, Parameter.value_text, Unlike.unlike_word}
 
 -- a rule or a map by its number, which counts from 1
 abbrev pub number_or_none : Option ℕ → List ℕ

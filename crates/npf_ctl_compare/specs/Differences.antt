@@ -10,7 +10,7 @@ use Rattle.npf_ctl_messages.specs.declared.fault.Quantity.TheVariants.{Pairs}
 use Rattle.npf_ctl_messages.specs.declared.limit.TheConstants.{MAX_PAIRS}
 use Rattle.npf_ctl_query.specs.QueryText.{IsStopFault}
 use Rattle.npf_ctl_compare.specs.declared.differences.Differences.{Differences}
-use Rattle.npf_ctl_compare.specs.Setting.{changed_parameters, is_other_switch}
+use Rattle.npf_ctl_compare.specs.Parameter.{changed_parameters, is_other_switch}
 
 -- pairs of rules and of maps
 abbrev pub pair_count : Differences → ℕ

@@ -2,5 +2,5 @@ pub mod Agrees
 pub mod CompareText
 pub mod Differences
 pub mod Loaded
-pub mod Setting
+pub mod Parameter
 pub mod Unlike

@@ -6,7 +6,7 @@ ghost use Rattle.npf_compare_maps.specs.MapDifference.{AreMapDifferences};
 ghost use Rattle.npf_ctl_query.specs.QueryText.{IsStopFault};
 ghost use Rattle.npf_ctl_compare.specs.Differences.{AreDifferences, AreFew, IsCompareFault, IsStopOf};
 
-use crate::setting::{changed_parameters, is_other_switch};
+use crate::parameter::{changed_parameters, is_other_switch};
 use npf_compare::{RuleDifference, compare_rules};
 use npf_compare_maps::{MapDifference, MapSide, compare_maps};
 use npf_ctl_class::{stop_fault, tables_of};

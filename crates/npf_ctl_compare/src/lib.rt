@@ -12,7 +12,7 @@ mod answer;
 mod differences;
 mod law;
 mod loaded;
-mod setting;
+mod parameter;
 mod text;
 mod unlike;
 

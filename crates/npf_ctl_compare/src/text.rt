@@ -8,7 +8,7 @@ ghost use Rattle.npf_ctl_compare.specs.CompareText.{alg_lines, count_line, numbe
 ghost use Rattle.npf_ctl_compare.specs.Differences.{AreFew};
 
 use crate::differences::Differences;
-use crate::setting::{switch_text, write_value};
+use crate::parameter::{switch_text, write_value};
 use crate::unlike::unlike_word;
 use npf_compare::RuleDifference;
 use npf_compare_maps::MapDifference;

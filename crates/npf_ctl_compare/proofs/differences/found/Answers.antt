@@ -1,6 +1,6 @@
 use Rattle.std.proofs.Common.{◌∙◌, ap}
 use Rattle.npf_model.specs.declared.model.Model.{Model}
-use Rattle.npf_ctl_compare.specs.Setting.{changed_parameters, is_other_switch}
+use Rattle.npf_ctl_compare.specs.Parameter.{changed_parameters, is_other_switch}
 use Rattle.npf_ctl_compare.proofs.differences.found.Goals as goal
 
 pub returns-clause-ok : goal.returns-clause-ok

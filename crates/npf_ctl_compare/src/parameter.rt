@@ -2,7 +2,7 @@
 ghost use Rattle.std.specs.Prelude.{◌≡◌, ◌++◌, IfOk, OnOk};
 ghost use Rattle.npf_model.specs.Settings.{choice_in};
 ghost use Rattle.npf_show.specs.Setting.{has_same_value, switch_text};
-ghost use Rattle.npf_ctl_compare.specs.Setting.{changed_parameters, is_changed, is_other_switch, value_text};
+ghost use Rattle.npf_ctl_compare.specs.Parameter.{changed_parameters, is_changed, is_other_switch, value_text};
 
 use npf_model::{Choice, Parameter, Settings};
 use npf_text::{write_number, write_text};

@@ -10,7 +10,7 @@ use Rattle.npf_model.specs.declared.settings.Parameter.TheVariants as Of
 use Rattle.npf_model.specs.Settings.{parameters}
 use Rattle.npf_timeouts.specs.declared.timeouts.{Timeout.{Timeout, TheVariants.{TcpNew, TcpEstablished, TcpHalfClose, TcpTimeWait, TcpClose, OtherNew, OtherEstablished}}, Timeouts.Timeouts}
 use Rattle.npf_timeouts.specs.Timeouts.{timeout_of}
-use Rattle.npf_ctl_compare.specs.Setting.{changed_parameters, is_changed, is_other_switch}
+use Rattle.npf_ctl_compare.specs.Parameter.{changed_parameters, is_changed, is_other_switch}
 
 module _ {X : Type 0} (test : X → Bool) where
   module _ (all : List X) (i : ℕ) (d : X) (within : i < length all) where

@@ -1,9 +1,9 @@
 use Rattle.std.proofs.Common.{◌<◌, ◌∙◌, length, arith, sym, ap}
 use Rattle.npf_model.specs.Settings.{parameters}
-use Rattle.npf_ctl_compare.specs.Setting.{is_changed}
-use Rattle.npf_ctl_compare.proofs.SettingLemmas.{one_kept, one_left}
-use Rattle.npf_ctl_compare.proofs.setting.changed_parameters.Goals as goal
-use Rattle.npf_ctl_compare.proofs.setting.changed_parameters.Goals.{then-is_changed+in_ok-push, else-is_changed}
+use Rattle.npf_ctl_compare.specs.Parameter.{is_changed}
+use Rattle.npf_ctl_compare.proofs.ParameterLemmas.{one_kept, one_left}
+use Rattle.npf_ctl_compare.proofs.parameter.changed_parameters.Goals as goal
+use Rattle.npf_ctl_compare.proofs.parameter.changed_parameters.Goals.{then-is_changed+in_ok-push, else-is_changed}
 
 pub loop-parameter-preserved : goal.loop-parameter-preserved
 loop-parameter-preserved c =
