@@ -65,10 +65,12 @@ pub fn ifaces_of(alloc: Global, text: &[u8]) -> Result<Ifaces> {
     }
 }
 
-/// The configuration of a text, whose tables may be read from the file b.
+/// The configuration of a text, whose tables may be read from the files b, few and odd.
 pub fn load_text(alloc: Global, ifaces: &Ifaces, text: &[u8]) -> Result<Config> {
     let mut files = MemFiles::new(alloc)?;
     files.put_file("b", b"192.0.2.0/24\n198.51.100.7\n")?;
+    files.put_file("few", b"10.0.0.0/31\n10.0.0.3\n2001:db8::2/127\n")?;
+    files.put_file("odd", b"10.0.0.1\n10.0.0.3\n2001:db8::1\n")?;
     if text.len() > MAX_TEXT_BYTES {
         bail!("the text is too long");
     }
