@@ -65,7 +65,7 @@ abbrev pub finding_of_packet : Bool → Finding
 finding_of_packet true = Nothing
 finding_of_packet false = Something
 
--- `lint` looks for rules that do nothing
+-- `lint` looks for what does nothing
 abbrev pub finding_of_lint : Bool → Finding
 finding_of_lint true = Something
 finding_of_lint false = Nothing

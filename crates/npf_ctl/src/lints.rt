@@ -1,4 +1,4 @@
-// The command that looks for rules that do nothing.
+// The command that looks for what of a configuration does nothing.
 ghost use Rattle.std.specs.Prelude.{◌≡◌, ℕ, List};
 ghost use Rattle.npf_connections.specs.Pass.{Pass};
 ghost use Rattle.npf_engine.specs.Histories.{FlowEntry};
@@ -18,7 +18,7 @@ use npf_ctl_words::{LintWords, Load};
 use npf_outside::{Files, Sink};
 use std::alloc::Global;
 
-/// Loads a configuration, and puts which of its rules do nothing, in one call.
+/// Loads a configuration, and puts what of it does nothing, in one call.
 pub(crate) fn lint<F: Files, O: Sink>(
     alloc: Global,
     words: LintWords<'_>,
