@@ -1,2 +1,4 @@
+mod OrderLemmas
 mod PartLemmas
+mod SumLemmas
 mod TickLemmas
