@@ -25,5 +25,5 @@ order_of_phases count last ticks [] publish = tt
 order_of_phases count last ticks (phase ∷ phases) publish = (
   publish.0,
   order_from_tick count (last + published_by phase.commands) (take phase.packets ticks) (parts_of_phases (drop phase.packets ticks) phases)
-    (order_of_phases count (last + published_by phase.commands) (drop phase.packets ticks) phases publish.1),
+      (order_of_phases count (last + published_by phase.commands) (drop phase.packets ticks) phases publish.1),
 )

@@ -14,5 +14,5 @@ pub parts_more :
     ≡ (parts ++ parts_of_phase phase.commands (take phase.packets (drop from ticks))) ++ parts_of_phases (drop (from + phase.packets) ticks) phases
 parts_more parts phase phases ticks from =
     ap (λ rest. parts ++ (parts_of_phase phase.commands (take phase.packets (drop from ticks)) ++ parts_of_phases rest phases))
-      (drop-drop phase.packets from ticks)
+    (drop-drop phase.packets from ticks)
     ∙ sym (append_assoc parts (parts_of_phase phase.commands (take phase.packets (drop from ticks))) (parts_of_phases (drop (from + phase.packets) ticks) phases))

@@ -33,6 +33,10 @@ packets_of_phases ticks (phase ∷ phases) within =
     let whole : phase.packets + packets_in phases ≤ length ticks = omega (arith, packets_in-cons phase phases) in
     let has : length first ≡ phase.packets = length-take-le phase.packets ticks (omega arith) in
     omega (
-      arith, packets_in-append (parts_of_phase phase.commands first) (parts_of_phases rest phases), packets_of_phase phase.commands first, has,
-      packets_of_phases rest phases (omega (arith, length-drop phase.packets ticks)), packets_in-cons phase phases,
+      arith,
+      packets_in-append (parts_of_phase phase.commands first) (parts_of_phases rest phases),
+      packets_of_phase phase.commands first,
+      has,
+      packets_of_phases rest phases (omega (arith, length-drop phase.packets ticks)),
+      packets_in-cons phase phases,
     )

@@ -24,4 +24,4 @@ pub ticks_of_part :
     ticks_behind seconds (get_or (times_before packets) from None) (take count (drop from packets)) ≡ take count (drop from (ticks seconds packets))
 ticks_of_part seconds packets from count within =
     sym (ap (take count) (ticks_drop seconds None packets from within)
-        ∙ ticks_take seconds (get_or (times_before packets) from None) (drop from packets) count)
+    ∙ ticks_take seconds (get_or (times_before packets) from None) (drop from packets) count)

@@ -24,8 +24,8 @@ pub loop-phase-preserved : goal.loop-phase-preserved
 loop-phase-preserved c = record {
   all = adds_up _ _ _ _ _ c.in-Some.ensures.steps.0 c.loop-phase.invariant.all;
   said = phase_said c.args.every c.loop-phase.from c.args.packets.now c.split_at.result.1.now c.split_at-in-loop-phase.result.0.now
-    c.time_before-before.result c.in-Some.phase c.loop-phase.phase-iterator.rest.items c.next.new.self.rest.items
-    c.loop-phase.parts.items c.in_ok-parts.parts.items _
-    (omega (arith, c.loop-phase.invariant.all)) c.in-Some.ensures.steps.0 c.loop-phase.invariant.said
-    c.time_before-before.ensures c.split_at.ensures.back c.split_at-in-loop-phase.ensures.front c.in_ok-parts.ensures;
+      c.time_before-before.result c.in-Some.phase c.loop-phase.phase-iterator.rest.items c.next.new.self.rest.items
+      c.loop-phase.parts.items c.in_ok-parts.parts.items _
+      (omega (arith, c.loop-phase.invariant.all)) c.in-Some.ensures.steps.0 c.loop-phase.invariant.said
+      c.time_before-before.ensures c.split_at.ensures.back c.split_at-in-loop-phase.ensures.front c.in_ok-parts.ensures;
 }
