@@ -1,4 +1,4 @@
-use Rattle.std.proofs.Common.{◌≡◌, ◌≤◌, ◌+◌, ◌++◌, ◌∙◌, ℕ, None, Option, List, ◌∷◌, length, get_or, take, drop, sym, ap, arith}
+use Rattle.std.proofs.Common.{◌≡◌, ◌≤◌, ◌+◌, ◌++◌, ◌∙◌, ℕ, None, Option, List, ◌∷◌, length, get_or, take, drop, ap, arith}
 use Rattle.npf_traffic.specs.declared.{packet.Packet.Packet, phase.Phase.Phase}
 use Rattle.npf_traffic.specs.Phases.{packets_in}
 use Rattle.npf_traffic.proofs.PhaseLemmas.{packets_in-cons}
