@@ -1,3 +1,4 @@
+mod CountLemmas
 mod OrderLemmas
 mod PartLemmas
 mod SumLemmas

@@ -1,7 +1,7 @@
 -- The multiples that some of the packets of a run follow.
 use Rattle.std.proofs.Common.{◌≡◌, ◌≤◌, ◌∙◌, ℕ, zero, suc, Option, None, Some, List, [], ◌∷◌, length, take, drop, get_or, refl, sym, ap, arith}
 use Rattle.npf_traffic.specs.declared.packet.Packet.{Packet}
-use Rattle.npf_ctl_aging.specs.Aging.{tick_behind, ticks, ticks_behind, times, times_before}
+use Rattle.npf_ctl_aging.specs.Aging.{packet_times, tick_behind, ticks, ticks_behind, times_before}
 
 pub ticks_take :
     (seconds : ℕ) (before : Option ℕ) (packets : List Packet) (count : ℕ) →
@@ -13,7 +13,7 @@ ticks_take seconds before (packet ∷ packets) (suc count) =
 
 pub ticks_drop :
     (seconds : ℕ) (before : Option ℕ) (packets : List Packet) (from : ℕ) → from ≤ length packets →
-    drop from (ticks_behind seconds before packets) ≡ ticks_behind seconds (get_or (before ∷ times packets) from None) (drop from packets)
+    drop from (ticks_behind seconds before packets) ≡ ticks_behind seconds (get_or (before ∷ packet_times packets) from None) (drop from packets)
 ticks_drop seconds before packets zero within = refl
 ticks_drop seconds before [] (suc from) within = absurd (omega arith)
 ticks_drop seconds before (packet ∷ packets) (suc from) within = ticks_drop seconds (Some packet.time) packets from (omega arith)

@@ -21,16 +21,16 @@ tick_behind seconds (Some before) time =
     if nat_lt (before / period seconds) (time / period seconds) then Some (last_tick seconds time) else None
 
 -- the times of packets
-abbrev pub times : List Packet → List (Option ℕ)
-times packets = map (λ packet. Some packet.time) packets
+abbrev pub packet_times : List Packet → List (Option ℕ)
+packet_times packets = map (λ packet. Some packet.time) packets
 
 -- the time of the packet before each one of a run
 abbrev pub times_before : List Packet → List (Option ℕ)
-times_before packets = None ∷ times packets
+times_before packets = None ∷ packet_times packets
 
 -- the multiples that packets follow, where the one before all of them, if there is one, has that time
 abbrev pub ticks_behind : ℕ → Option ℕ → List Packet → List (Option ℕ)
-ticks_behind seconds before packets = map (λ both. tick_behind seconds both.0 both.1.time) (zip (before ∷ times packets) packets)
+ticks_behind seconds before packets = map (λ both. tick_behind seconds both.0 both.1.time) (zip (before ∷ packet_times packets) packets)
 
 -- those that the packets of a run follow
 abbrev pub ticks : ℕ → List Packet → List (Option ℕ)

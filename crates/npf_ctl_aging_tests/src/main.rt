@@ -1,5 +1,5 @@
 // Where the phases of a run part as connections age, row by row. Standard input has a row a line, and its head tells which there are;
-// each row is printed with its answer. What stdout wants is written out by hand from docs/npfctl.8.
+// each row is printed with its answer. What stdout wants is written out by hand.
 #![tactic(auto)]
 
 mod packets;
