@@ -1,4 +1,5 @@
--- The phases of a run whose connections age: which packets follow a multiple of a period, and how phases part in front of these.
+-- The phases of a run whose connections age: which packets follow a multiple of a period, here called a tick, and how phases part in front of
+-- these packets.
 use Rattle.std.specs.Prelude.{ℕ, ◌+◌, ◌*◌, ◌/◌, nat_lt, if◌then◌else◌, is_some, Option, None, Some, List, [], ◌∷◌, ◌++◌, map, zip, take, drop, count_by}
 use Rattle.npf_traffic.specs.declared.packet.Packet.{Packet}
 use Rattle.npf_traffic.specs.declared.phase.Command.{Command}
