@@ -1,5 +1,5 @@
 -- What is due as of a multiple stays due as of the last one.
-use Rattle.std.proofs.Common.{◌≡◌, ◌↔◌, ◌≤◌, ◌<◌, ◌*◌, ◌/◌, ℕ, arith}
+use Rattle.std.proofs.Common.{◌≤◌, ◌<◌, ◌*◌, ◌/◌, ℕ, arith}
 use Rattle.std.proofs.Math.Nat.{div-mul-le_self, le-div_iff_mul-le, mul-le-mul_right}
 use Rattle.npf_core.specs.{Allowed.IsDue, declared.stage.Stage.{Stage, TheVariants.{Building, Dead, Live, Vacant}}}
 use Rattle.npf_flow.specs.{declared.flow.Flow.Flow, Flows.flow_law, Laws.StaysDue}
