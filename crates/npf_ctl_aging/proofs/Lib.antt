@@ -1,0 +1,5 @@
+mod CountLemmas
+mod OrderLemmas
+mod PartLemmas
+mod SumLemmas
+mod TickLemmas
