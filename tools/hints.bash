@@ -9,7 +9,7 @@
 # Behind a fault of a configuration what `why` says of it below its line, where its file and that of the interfaces can be read again. The fault
 # of a run whose captures bring interfaces of their own may be another.
 tell_why() {
-  local status=$1 said program=$3 command=${4-} conf files ifaces load write workers spread wrong
+  local status=$1 said program=$3 command=${4-} conf files ifaces load write workers spread on wrong
   said=$(cat "$2")
   shift 3
   [ "$status" -eq 3 ] && [ "$command" != why ] && [[ ${said#npfctl: } =~ ^(.*):[0-9]+:[0-9]+:' ' ]] || return 0
@@ -280,7 +280,7 @@ hint_packets() {
 # Whether the packets of a run came by other interfaces than those that the configuration's groups are bound to, so that only the default group
 # was about them. The groups are asked for only where the text has none of the packets' interfaces as a word, but for variables and names of groups.
 hint_interfaces() {
-  local program=$1 conf=${files[0]} script=${files[1]} came=cap0 bound
+  local program=$1 conf=${files[0]} script=${files[1]} came=${on:-cap0} bound
   [ -f "$conf" ] || return
   if [ "$(format_of "$script")" != pcap ]; then
     ! grep -qw '^[[:blank:]]*reload' "$script" || return
@@ -296,7 +296,11 @@ hint_interfaces() {
   esac
   ! grep -qxF "$came" <<<"$bound" || return
   hint "no group but the default one is about ${came//$'\n'/, }, by which the packets came: the others are on ${bound//$'\n'/, }"
-  hint "a script says by which interface they came, by a line such as: capture ${bound%%$'\n'*} in \"FILE\""
+  if [ "$(format_of "$script")" = pcap ]; then
+    hint "--on says by which interface they came, as in: --on ${bound%%$'\n'*}; and --dir out that they went out"
+  else
+    hint "a script says by which interface they came, by a line such as: capture ${bound%%$'\n'*} in \"FILE\""
+  fi
 }
 
 # Of a run that was done: that there were no packets, or none that the rules could decide on as they were meant to.
@@ -631,13 +635,13 @@ hint_limit() {
 
 # About a file that can't be read, where nothing is built: FILE, and then the words.
 hint_unread_file() {
-  local said="cannot read $1" command=$2 files ifaces load write workers spread wrong
+  local said="cannot read $1" command=$2 files ifaces load write workers spread on wrong
   read_words "${@:2}"
   hint_unread
 }
 
 hint_about() {
-  local status=$1 said program=$3 command=${4-} files ifaces load write workers spread wrong is_by_editcap=
+  local status=$1 said program=$3 command=${4-} files ifaces load write workers spread on wrong is_by_editcap=
   said=$(cat "$2")
   said=${said#npfctl: }
   shift 3

@@ -3,7 +3,7 @@
 # The script npfctl sources this.
 # shellcheck disable=SC2034 # hints.bash reads the rest
 
-run_words='run CONF SCRIPT [--ifaces FILE] [--workers N] [--spread rr|flow] [--write FILE] [--load FILE] [--save FILE]'
+run_words='run CONF SCRIPT [--ifaces FILE] [--workers N] [--spread rr|flow] [--on IF] [--dir in|out] [--write FILE] [--load FILE] [--save FILE]'
 text_words='CONF [--ifaces FILE]'
 why_words='why CONF [--all] [--ifaces FILE]'
 explain_words='explain CONF IF in|out CLASS [--ifaces FILE]'
@@ -11,7 +11,7 @@ query_words='query CONF CLASS [--ifaces FILE] [--steps N]'
 check_words='check CONF EXPECTATIONS [--ifaces FILE] [--steps N]'
 lint_words='lint CONF [--ifaces FILE] [--steps N]'
 compare_words='compare OLD NEW [--ifaces FILE] [--steps N]'
-run_options=(--ifaces --workers --spread --write --load --save)
+run_options=(--ifaces --workers --spread --on --dir --write --load --save)
 most_number=18446744073709551615
 
 # A hint is one line, whatever bytes a name in it has.
@@ -105,10 +105,10 @@ judge_value() {
     --spread)
       [ "$2" = rr ] || [ "$2" = flow ] || blame "--spread is rr or flow, and $(printf %q "$2") is neither"
       ;;
-    IF)
-      [[ $2 =~ ^[A-Za-z][A-Za-z0-9._-]{0,14}$ ]] || blame "IF is an interface's name of 1 to 15 bytes, and $(printf %q "$2") is none"
+    IF | --on)
+      [[ $2 =~ ^[A-Za-z][A-Za-z0-9._-]{0,14}$ ]] || blame "$1 is an interface's name of 1 to 15 bytes, and $(printf %q "$2") is none"
       ;;
-    in\|out)
+    in\|out | --dir)
       [ "$2" = in ] || [ "$2" = out ] || blame "the direction is in or out, and $(printf %q "$2") is neither"
       ;;
     --steps | NUMBER)
@@ -117,11 +117,11 @@ judge_value() {
   esac
 }
 
-# Sets `files` to the words that are neither the command nor an option nor the value of one, `ifaces`, `load`, `write`, `workers` and `spread` to the
+# Sets `files` to the words that are neither the command nor an option nor the value of one, `ifaces`, `load`, `write`, `workers`, `spread` and `on` to the
 # values of these options, and `wrong` to what makes the words no command, whatever the files hold: the first such thing, or nothing.
 read_words() {
   local command=$1 names=(CONF) options=(--ifaces) known name value near given=' ' at
-  files=() ifaces='' load='' write='' workers=1 spread=rr wrong=''
+  files=() ifaces='' load='' write='' workers=1 spread=rr on='' wrong=''
   case $command in
     run) names=(CONF SCRIPT) options=("${run_options[@]}") ;;
     why) options=(--all --ifaces) ;;
@@ -162,6 +162,7 @@ read_words() {
             --write) write=$value ;;
             --workers) workers=$value ;;
             --spread) spread=$value ;;
+            --on) on=$value ;;
           esac
         fi
         ;;
@@ -188,7 +189,7 @@ read_words() {
 
 # Whether the words are no command, whatever the files hold.
 are_wrong() {
-  local files ifaces load write workers spread wrong
+  local files ifaces load write workers spread on wrong
   is_command "${1-}" || return 0
   read_words "$@"
   [ -n "$wrong" ]
@@ -196,7 +197,7 @@ are_wrong() {
 
 # The first file that the words of a command name and that can't be read: it isn't there, may not be read, or is a folder.
 unread_file() {
-  local files ifaces load write workers spread wrong it
+  local files ifaces load write workers spread on wrong it
   [ "$1" != gen ] || return 0
   read_words "$@"
   for it in "$ifaces" "${files[@]}" "$load"; do
@@ -258,7 +259,7 @@ hint_command() {
 
 # What is wrong with the words, and what they have to be; where there are none, the help.
 hint_words() {
-  local files ifaces load write workers spread wrong
+  local files ifaces load write workers spread on wrong
   if [ $# -eq 0 ]; then
     usage >&2
     return

@@ -44,8 +44,8 @@ pub type Status = u8;
 
 /// Does what the words ask; they leave out the program's name.
 ///
-/// - `run CONF SCRIPT [--ifaces FILE] [--workers N] [--spread rr|flow] [--write FILE] [--load FILE] [--save FILE]` runs the packets of a script's
-///   captures, or of a capture alone, through a configuration of npf.conf(5), and puts a line for each packet and the total line on `out`
+/// - `run CONF SCRIPT [--ifaces FILE] [--workers N] [--spread rr|flow] [--on IF] [--dir in|out] [--write FILE] [--load FILE] [--save FILE]` runs the
+///   packets of a script's captures, or of a capture alone, through a configuration of npf.conf(5), and puts a line for each packet and the total line on `out`
 /// - `validate CONF`, `show CONF` and `debug CONF`, each with `[--ifaces FILE]`, put the count of a configuration's rules, its canonical text, and
 ///   the programs of its rules
 /// - `why CONF [--ifaces FILE] [--all]` puts what is to be said of a configuration's first fault on `out`, with `--all` also of each that is left
