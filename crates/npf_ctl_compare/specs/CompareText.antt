@@ -15,7 +15,7 @@ use Rattle.npf_compare.specs.declared.difference.RuleDifference.{RuleDifference}
 use Rattle.npf_compare_maps.specs.declared.difference.MapDifference.{MapDifference}
 use Rattle.npf_ctl_query.specs.{Decision.rule_word, QueryText.{ordinal_text, packet_tail}}
 use Rattle.npf_ctl_compare.specs.declared.differences.Differences.{Differences}
-use Rattle.npf_ctl_compare.specs.{Differences.AreDifferences, Setting.value_text, Unlike.unlike_word}
+use Rattle.npf_ctl_compare.specs.{Differences.{AreDifferences, AreFew}, Setting.value_text, Unlike.unlike_word}
 
 -- a rule or a map by its number, which counts from 1
 abbrev pub number_or_none : Option ℕ → List ℕ
@@ -69,9 +69,10 @@ count_line count = if count == 0 then codes "same\n" else codes "differ " ++ (de
 abbrev pub differences_text : List (List ℕ) → List ℕ
 differences_text lines = flat_map (λ line. line) lines ++ count_line (length lines)
 
--- the text is that of how the configurations differ, and says `same` where they don't
+-- the text is that of how the configurations differ, in no more pairs than are told, and says `same` where they don't
 pub record IsCompareText (ifaces : List Iface) (old new : Configuration) (same : Bool) (text : List ℕ) : Type 0 where
   pub differences : Differences
   pub are : AreDifferences old new differences
+  pub few : AreFew differences
   pub told : text ≡ differences_text (difference_lines old.model new.model ifaces differences)
   pub says : same ≡ (length (difference_lines old.model new.model ifaces differences) == 0)

@@ -10,6 +10,7 @@ returns-clause-ok c =
     record {
       differences = differences;
       are = c.in_ok-differences.ensures.ok;
+      few = c.in_ok-differences.ensures.few;
       told = c.in_ok-text.ensures;
       says =
           ap (λ n. n == 0)
