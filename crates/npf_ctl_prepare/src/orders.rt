@@ -6,7 +6,7 @@ ghost use Rattle.npf_ctl_input.specs.Unless.{UnlessMemory};
 ghost use Rattle.npf_ctl_prepare.specs.Known.{NamesTextFile};
 ghost use Rattle.npf_ctl_prepare.specs.View.{source_ordered};
 
-use npf_ctl_input::{RunSource, NamedTap, read_source};
+use npf_ctl_input::{NamedTap, RunSource, read_source};
 use npf_ctl_messages::CommandFault;
 use npf_ctl_script::{Script, ScriptLine};
 use npf_types::limits::MAX_CAPTURE_BYTES;
