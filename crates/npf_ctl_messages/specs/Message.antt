@@ -19,7 +19,7 @@ use Rattle.npf_ctl_messages.specs.declared.fault.Quantity.{Quantity}
 use Rattle.npf_ctl_messages.specs.declared.fault.Quantity.TheVariants as Quantities
 use Rattle.npf_ctl_messages.specs.declared.fault.SavedRefusal.{SavedRefusal}
 use Rattle.npf_ctl_messages.specs.declared.fault.SavedRefusal.TheVariants.{BadSaved, OtherInterfaces, TooManySaved, SavedNoNode}
-use Rattle.npf_ctl_messages.specs.declared.limit.TheConstants.{MAX_PAIRS, MAX_WITNESSES}
+use Rattle.npf_ctl_messages.specs.declared.limit.TheConstants.{MAX_PAIRS, MAX_TICKS, MAX_WITNESSES}
 
 abbrev pub status_of_fault : CommandFault → ℕ
 status_of_fault NoMemory = 1
@@ -56,6 +56,7 @@ most_of Quantities.CaptureBytes = MAX_BYTES_OF_CAPTURES
 most_of Quantities.Packets = MAX_PACKETS
 most_of Quantities.Pairs = MAX_PAIRS
 most_of Quantities.Witnesses = MAX_WITNESSES
+most_of Quantities.Expiries = MAX_TICKS
 
 abbrev pub quantity_name : Quantity → List ℕ
 quantity_name Quantities.Captures = codes "captures"
@@ -66,6 +67,7 @@ quantity_name Quantities.CaptureBytes = codes "capture-bytes"
 quantity_name Quantities.Packets = codes "packets"
 quantity_name Quantities.Pairs = codes "pairs"
 quantity_name Quantities.Witnesses = codes "witnesses"
+quantity_name Quantities.Expiries = codes "expiries"
 
 -- a number and a name, with a space between them
 abbrev pub numbered_text : ℕ → List ℕ → List ℕ

@@ -178,6 +178,8 @@ pub enum Quantity {
     Pairs,
     /// Packets of an answer that are written to files.
     Witnesses,
+    /// Expiries at multiples of a period.
+    Expiries,
 }
 
 impl CommandFault {

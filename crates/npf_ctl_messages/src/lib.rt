@@ -14,5 +14,5 @@ mod messages;
 mod numbered;
 
 pub use fault::{CommandFault, LineFault, Quantity, SavedRefusal};
-pub use limit::{MAX_PAIRS, MAX_WITNESSES};
+pub use limit::{MAX_PAIRS, MAX_TICKS, MAX_WITNESSES};
 pub use messages::message;

@@ -16,6 +16,9 @@ pub const MAX_PAIRS: usize = 65_536;
 /// Packets of an answer that are written to files.
 pub const MAX_WITNESSES: usize = 256;
 
+/// Packets of a run that follow an expiry at a multiple of a period.
+pub const MAX_TICKS: usize = 16_384;
+
 // The most that a configuration may have of it.
 pub(crate) fn most_excess(excess: Excess) -> u64
     ensures { result ≡ most_excess excess }
@@ -46,6 +49,7 @@ pub(crate) fn most_of(what: Quantity) -> u64
         Quantity::Packets => MAX_PACKETS,
         Quantity::Pairs => MAX_PAIRS,
         Quantity::Witnesses => MAX_WITNESSES,
+        Quantity::Expiries => MAX_TICKS,
     };
     most as u64
 }
@@ -62,5 +66,6 @@ pub(crate) fn quantity_name(what: Quantity) -> &'static str
         Quantity::Packets => "packets",
         Quantity::Pairs => "pairs",
         Quantity::Witnesses => "witnesses",
+        Quantity::Expiries => "expiries",
     }
 }

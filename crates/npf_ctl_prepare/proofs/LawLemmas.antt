@@ -64,14 +64,14 @@ module _ (tree : Tree) (before after : FilesMoment) (told : before.contents ≡ 
         (λ next. MakesConfigurations alone alone ifaces script lines (cond (makes_change line.1) (made ++ next ∷ []) made) next)
         (next_lasts last line) (λ next. configs_last lines (cond (makes_change line.1) (made ++ next ∷ []) made) next) result is
 
-  source_lasts : (tap : Option NamedTap) (script : List ℕ) (given : List Iface) (first : Configuration) (source : Source) (result : Result RunPlan CommandFault) →
-      PreparesSource before after tap script given first source result → PreparesSource alone alone tap script given first source result
-  source_lasts tap script given first source =
+  source_lasts : (tap : Option NamedTap) (every : Option ℕ) (script : List ℕ) (given : List Iface) (first : Configuration) (source : Source) (result : Result RunPlan CommandFault) →
+      PreparesSource before after tap every script given first source result → PreparesSource alone alone tap every script given first source result
+  source_lasts tap every script given first source =
       let numbered_lines = lines_of_source tap script source in
       let lines = unnumbered numbered_lines in
       let making : FilesMoment → FilesMoment → List Iface → Gathered → Stage RunPlan CommandFault =
       λ start end ifaces gathered.
-      MakesConfigurations start end ifaces script numbered_lines (numbered_by ifaces first ∷ []) (numbered_by ifaces first) andthen λ configs. Plans ifaces configs gathered lines in
+      MakesConfigurations start end ifaces script numbered_lines (numbered_by ifaces first ∷ []) (numbered_by ifaces first) andthen λ configs. Plans every ifaces configs gathered lines in
       let gathering : FilesMoment → FilesMoment → List Iface → Stage RunPlan CommandFault =
       λ start end ifaces. GathersCaptures start end source ifaces lines none_gathered andthen making start end ifaces in
       andthen_lasts (KeepsScriptLimits given lines) (KeepsScriptLimits given lines) (gathering before after) (gathering alone alone) (λ result is. is)
@@ -79,13 +79,13 @@ module _ (tree : Tree) (before after : FilesMoment) (told : before.contents ≡ 
       (making before after ifaces) (making alone alone ifaces) (captures_last source ifaces lines none_gathered)
       (λ gathered. andthen_lasts (MakesConfigurations before after ifaces script numbered_lines (numbered_by ifaces first ∷ []) (numbered_by ifaces first))
       (MakesConfigurations alone alone ifaces script numbered_lines (numbered_by ifaces first ∷ []) (numbered_by ifaces first))
-      (λ configs. Plans ifaces configs gathered lines) (λ configs. Plans ifaces configs gathered lines)
+      (λ configs. Plans every ifaces configs gathered lines) (λ configs. Plans every ifaces configs gathered lines)
       (configs_last ifaces script numbered_lines (numbered_by ifaces first ∷ []) (numbered_by ifaces first)) (λ configs result is. is)))
 
   pub run_lasts : (names : RunNames) (result : Result RunPlan CommandFault) → PreparesRun before after names result → PreparesRun alone alone names result
   run_lasts names =
       let sourced : FilesMoment → FilesMoment → List Iface → Configuration → List ℕ → Stage RunPlan CommandFault =
-      λ start end given first bytes. ReadsSource names.tap names.script bytes andthen λ source. PreparesSource start end names.tap names.script given first source in
+      λ start end given first bytes. ReadsSource names.tap names.script bytes andthen λ source. PreparesSource start end names.tap names.every names.script given first source in
       let read : FilesMoment → FilesMoment → List Iface → Configuration → Stage RunPlan CommandFault =
       λ start end given first. ReadsFile start end names.script MAX_CAPTURE_BYTES andthen sourced start end given first in
       let loaded : FilesMoment → FilesMoment → List Iface → Stage RunPlan CommandFault =
@@ -98,5 +98,5 @@ module _ (tree : Tree) (before after : FilesMoment) (told : before.contents ≡ 
       (sourced before after given first) (sourced alone alone given first)
       (λ result. files names.script MAX_CAPTURE_BYTES tree before after result told well)
       (λ bytes. andthen_lasts (ReadsSource names.tap names.script bytes) (ReadsSource names.tap names.script bytes)
-      (PreparesSource before after names.tap names.script given first) (PreparesSource alone alone names.tap names.script given first)
-      (λ result is. is) (source_lasts names.tap names.script given first))))
+      (PreparesSource before after names.tap names.every names.script given first) (PreparesSource alone alone names.tap names.every names.script given first)
+      (λ result is. is) (source_lasts names.tap names.every names.script given first))))

@@ -10,7 +10,7 @@ use Rattle.npf_ctl_prepare.specs.declared.prepare.RunFiles.{RunFiles}
 use Rattle.npf_ctl_prepare.specs.Prepares.{RunPlan, RunNames}
 
 abbrev pub names_of : RunFiles → RunNames
-names_of names = record { conf = names.conf.now; script = names.script.now; ifaces = option_map (λ name. name.now) names.ifaces; tap = names.tap }
+names_of names = record { conf = names.conf.now; script = names.script.now; ifaces = option_map (λ name. name.now) names.ifaces; tap = names.tap; every = names.every }
 
 -- the second file: the bytes of a capture alone, or else the lines of a script
 abbrev pub source_with : Option (List ℕ) → List (ℕ × ScriptLine) → Source

@@ -15,6 +15,7 @@ mod interfaces;
 pub mod laws;
 mod limits;
 mod orders;
+mod phases;
 mod prepare;
 mod reloads;
 

@@ -36,7 +36,8 @@ pub(crate) fn keep_limits(
     Ok(ifaces)
 }
 
-fn few(what: Quantity, count: u64, most: usize) -> Result<(), CommandFault>
+/// Whether there is no more of it than a run may have.
+pub(crate) fn few(what: Quantity, count: u64, most: usize) -> Result<(), CommandFault>
     requires { most ≡ most_of what }
     ensures stage { HasFew what count result }
     ensures within { OnOk result (count ≤ most) }

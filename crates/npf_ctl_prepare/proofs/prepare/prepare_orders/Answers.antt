@@ -6,14 +6,14 @@ use Rattle.npf_traffic.specs.{declared.{packet.Packet.Packet, phase.Phase.Phase}
 use Rattle.npf_ctl_script.specs.declared.script.ScriptLine.{ScriptLine}
 use Rattle.npf_ctl_schedule.specs.Schedule.{changes_in, phases_of, unnumbered}
 use Rattle.npf_ctl_prepare.{specs.View.source_ordered, proofs.{AroundLemmas.reads_on, LineLemmas.one_line}}
-use Rattle.npf_ctl_prepare.proofs.PrepareLemmas.{captures_end, limits_end, making_end, planned_at_end, plans_with}
+use Rattle.npf_ctl_prepare.proofs.PrepareLemmas.{captures_end, limits_end, making_end, planned_at_end, schedule_ends}
 use Rattle.npf_ctl_prepare.proofs.prepare.prepare_orders.Goals as goal
 
 pub returns-in_err-ifaces-clause-comes : goal.returns-in_err-ifaces-clause-comes
 returns-in_err-ifaces-clause-comes g c =
     let fault = c.in_err-ifaces.field-0.0 in
     let same : c.from_residual.result ≡ Err fault = search rules in
-    rw same (λ before after around. limits_end before after c.args.orders.tap c.args.script.now c.args.given.list (configuration c.args.first) (source_ordered c.args.orders) c.args.orders.lines
+    rw same (λ before after around. limits_end before after c.args.orders.tap c.args.orders.every c.args.script.now c.args.given.list (configuration c.args.first) (source_ordered c.args.orders) c.args.orders.lines
     c.requires.lines fault (rw c.as_slice-lines.ensures at c.in_err-ifaces.ensures.comes))
 
 pub gather_captures-requires-clause-one : goal.gather_captures-requires-clause-one
@@ -23,7 +23,7 @@ pub returns-in_err-arrivals-clause-comes : goal.returns-in_err-arrivals-clause-c
 returns-in_err-arrivals-clause-comes g c =
     let fault = c.in_err-arrivals.field-0.0 in
     let same : c.from_residual-in_err-arrivals.result ≡ Err fault = search rules in
-    rw same (λ before after around. captures_end before after c.args.orders.tap c.args.script.now c.args.given.list (configuration c.args.first) (source_ordered c.args.orders) c.args.orders.lines
+    rw same (λ before after around. captures_end before after c.args.orders.tap c.args.orders.every c.args.script.now c.args.given.list (configuration c.args.first) (source_ordered c.args.orders) c.args.orders.lines
     c.requires.lines c.in_ok-ifaces.ifaces.list (rw c.as_slice-lines.ensures at c.in_ok-ifaces.ensures.comes) fault
     (rw c.as_slice-lines.ensures at c.in_err-arrivals.ensures.comes before after around))
 
@@ -34,7 +34,7 @@ returns-in_err-configs-clause-comes g c =
     let start = g.F.Files.moment c.args.files.now in
     let one = g.F.Files.moment c.gather_captures.new.files in
     let two = g.F.Files.moment c.make_configurations.new.files in
-    rw same (λ before after around. making_end before after c.args.orders.tap c.args.script.now c.args.given.list (configuration c.args.first) (source_ordered c.args.orders) c.args.orders.lines
+    rw same (λ before after around. making_end before after c.args.orders.tap c.args.orders.every c.args.script.now c.args.given.list (configuration c.args.first) (source_ordered c.args.orders) c.args.orders.lines
     c.requires.lines c.in_ok-ifaces.ifaces.list (rw c.as_slice-lines.ensures at c.in_ok-ifaces.ensures.comes) (gathered_so_far c.in_ok-arrivals.arrivals)
     (rw c.as_slice-lines.ensures at c.in_ok-arrivals.ensures.comes before after (around_first before start one two after around c.make_configurations.ensures.reads))
     (configuration c.numbered-first.result) c.numbered-first.ensures.value fault
@@ -60,38 +60,40 @@ returns-clause-reads g c =
     let moment = g.F.Files.moment in
     reads_on (moment c.args.files.now) (moment c.gather_captures.new.files) (moment c.make_configurations.new.files) c.gather_captures.ensures.reads c.make_configurations.ensures.reads
 
+pub returns-in_err-phases-clause-comes : goal.returns-in_err-phases-clause-comes
+returns-in_err-phases-clause-comes g c =
+    let fault = c.in_err-phases.field-0.0 in
+    let same : c.from_residual-in_err-phases.result ≡ Err fault = search rules in
+    let start = g.F.Files.moment c.args.files.now in
+    let one = g.F.Files.moment c.gather_captures.new.files in
+    let two = g.F.Files.moment c.make_configurations.new.files in
+    rw same (λ before after around. schedule_ends before after c.args.orders.tap c.args.orders.every c.args.script.now c.args.given.list (configuration c.args.first)
+    (source_ordered c.args.orders) c.args.orders.lines c.requires.lines c.in_ok-ifaces.ifaces.list (rw c.as_slice-lines.ensures at c.in_ok-ifaces.ensures.comes)
+    (gathered_so_far c.in_ok-arrivals.arrivals)
+    (rw c.as_slice-lines.ensures at c.in_ok-arrivals.ensures.comes before after (around_first before start one two after around c.make_configurations.ensures.reads))
+    (configuration c.numbered-first.result) c.numbered-first.ensures.value (map configuration c.in_ok-configs.configs.items)
+    (rw c.as_slice-lines.ensures at c.in_ok-configs.ensures.comes before after (around_next before start one two after around c.gather_captures.ensures.reads))
+    c.in_ok-packets.packets.items c.in_ok-packets.ensures.sorted fault (rw (c.as_slice-lines.ensures, c.as_slice.ensures.value) at c.in_err-phases.ensures.comes))
+
 pub returns-clause-comes : goal.returns-clause-comes
 returns-clause-comes g c =
     let start = g.F.Files.moment c.args.files.now in
     let one = g.F.Files.moment c.gather_captures.new.files in
     let two = g.F.Files.moment c.make_configurations.new.files in
-    let lines = c.args.orders.lines in
-    let packets = c.in_ok-packets.packets.items in
-    let phases : c.in_ok-phases.phases.items ≡ phases_of (unnumbered lines) (length packets) =
-    c.in_ok-phases.ensures ∙ ap (λ (list : List (ℕ × ScriptLine)). phases_of (unnumbered list) (length c.as_slice.result.now)) c.as_slice-lines.ensures
-    ∙ ap (λ (list : List Packet). phases_of (unnumbered lines) (length list)) c.as_slice.ensures.value in
-    λ before after around.
-    planned_at_end before after c.args.orders.tap c.args.script.now c.args.given.list (configuration c.args.first) (source_ordered c.args.orders) lines
-    c.requires.lines c.in_ok-ifaces.ifaces.list (rw c.as_slice-lines.ensures at c.in_ok-ifaces.ensures.comes) (gathered_so_far c.in_ok-arrivals.arrivals)
+    λ before after around. planned_at_end before after c.args.orders.tap c.args.orders.every c.args.script.now c.args.given.list (configuration c.args.first)
+    (source_ordered c.args.orders) c.args.orders.lines c.requires.lines c.in_ok-ifaces.ifaces.list (rw c.as_slice-lines.ensures at c.in_ok-ifaces.ensures.comes)
+    (gathered_so_far c.in_ok-arrivals.arrivals)
     (rw c.as_slice-lines.ensures at c.in_ok-arrivals.ensures.comes before after (around_first before start one two after around c.make_configurations.ensures.reads))
     (configuration c.numbered-first.result) c.numbered-first.ensures.value (map configuration c.in_ok-configs.configs.items)
-    (record { ifaces = c.in_ok-ifaces.ifaces.list; configs = map configuration c.in_ok-configs.configs.items; packets = packets; phases = c.in_ok-phases.phases.items })
     (rw c.as_slice-lines.ensures at c.in_ok-configs.ensures.comes before after (around_next before start one two after around c.gather_captures.ensures.reads))
-    (plans_with c.in_ok-ifaces.ifaces.list (map configuration c.in_ok-configs.configs.items) (gathered_so_far c.in_ok-arrivals.arrivals) (unnumbered lines) packets
-    c.in_ok-phases.phases.items c.in_ok-packets.ensures.sorted phases)
+    c.in_ok-packets.packets.items c.in_ok-packets.ensures.sorted c.in_ok-phases.phases.items (rw (c.as_slice-lines.ensures, c.as_slice.ensures.value) at c.in_ok-phases.ensures.comes)
 
 pub returns-clause-playable : goal.returns-clause-playable
-returns-clause-playable g c =
-    let lines = c.as_slice-lines.result.now in
-    let packets = c.in_ok-packets.packets.items in
-    let phases : c.in_ok-phases.phases.items ≡ phases_of (unnumbered lines) (length packets) =
-    c.in_ok-phases.ensures ∙ ap (λ (list : List Packet). phases_of (unnumbered lines) (length list)) c.as_slice.ensures.value in
-    record {
-      short = c.in_ok-packets.ensures.short;
-      phased = ap packets_in phases ∙ c.packets_add_up.ensures (unnumbered lines) (length packets);
-      published = subst (λ n. AreInOrder n c.in_ok-phases.phases.items) (sym c.in_ok-configs.ensures.count)
-          (subst (λ (list : List Phase). AreInOrder (1 + changes_in (unnumbered lines)) list) (sym phases) (c.publications_are_in_order.ensures (unnumbered lines) (length packets)));
-      crosses = c.in_ok-packets.ensures.crosses (length c.in_ok-ifaces.ifaces.list) c.in_ok-arrivals.ensures.crosses;
-      timed = c.in_ok-packets.ensures.timed;
-      count = c.in_ok-packets.ensures.count;
-    }
+returns-clause-playable g c = record {
+  short = c.in_ok-packets.ensures.short;
+  phased = c.in_ok-phases.ensures.phased ∙ ap length c.as_slice.ensures.value;
+  published = subst (λ n. AreInOrder n c.in_ok-phases.phases.items) (sym c.in_ok-configs.ensures.count) c.in_ok-phases.ensures.published;
+  crosses = c.in_ok-packets.ensures.crosses (length c.in_ok-ifaces.ifaces.list) c.in_ok-arrivals.ensures.crosses;
+  timed = c.in_ok-packets.ensures.timed;
+  count = c.in_ok-packets.ensures.count;
+}

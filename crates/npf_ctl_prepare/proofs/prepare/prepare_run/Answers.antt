@@ -93,7 +93,7 @@ returns-clause-comes g c =
     (configuration c.in_ok-first.first) (c.in_ok-first.ensures.comes before after (around_first before one two last after behind_one two_on))
     c.in_ok-bytes.bytes.items (c.in_ok-bytes.ensures.comes before after (around_first before two three last after behind_two c.prepare_orders.ensures.reads))
     run_plan_of c.prepare_orders.result (source_ordered c.in_ok-orders.orders) c.in_ok-orders.ensures.comes
-    (rw c.in_ok-orders.ensures.tap at (c.prepare_orders.ensures.comes before after (around_next before two three last after behind_two c.read_file.ensures.reads)))
+    (rw (c.in_ok-orders.ensures.tap, c.in_ok-orders.ensures.every) at (c.prepare_orders.ensures.comes before after (around_next before two three last after behind_two c.read_file.ensures.reads)))
 
 pub returns-clause-reads : goal.returns-clause-reads
 returns-clause-reads g c =
