@@ -109,7 +109,7 @@ module _ (words : List (List ℕ)) (before after : Moment) (tree : Tree) (told :
     OfRun = StartsRun (told_files tree) (told_files tree) (names_of_run run) (given_text run.load) before.pass.slots
 
     same_names : (b : RunWords) → IsSameRun run b → names_of_run b ≡ names_of_run run
-    same_names b same = rw (same.conf, same.script, same.ifaces, same.on, same.dir) refl
+    same_names b same = rw (same.conf, same.script, same.ifaces, same.on, same.dir, same.expire) refl
 
     starts : (b : RunWords) → SaysCommand words (Words.Run b) → (result : Result RunPlan CommandFault) →
         StartsRun before.files after.files (names_of_run b) (given_text b.load) before.pass.slots result → OfRun result

@@ -28,7 +28,7 @@ tap_said None (Some dir) = Some (record first_tap { dir = dir })
 tap_said (Some name) (Some dir) = Some (record { name = name; dir = dir })
 
 abbrev pub names_of_run : RunWords → RunNames
-names_of_run run = record { conf = run.conf.now; script = run.script.now; ifaces = given_text run.ifaces; tap = tap_said run.on run.dir }
+names_of_run run = record { conf = run.conf.now; script = run.script.now; ifaces = given_text run.ifaces; tap = tap_said run.on run.dir; every = run.expire }
 
 abbrev pub spread_said : SpreadWord → Spread
 spread_said Said.Rr = Dealt.Rr

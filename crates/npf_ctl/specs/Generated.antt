@@ -12,7 +12,7 @@ use Rattle.npf_ctl.specs.declared.generated_files.GeneratedFiles.{GeneratedFiles
 
 -- the script names the capture `g.pcap`
 abbrev pub generated_names : RunNames
-generated_names = record { conf = codes "npf.conf"; script = codes "script"; ifaces = None; tap = None }
+generated_names = record { conf = codes "npf.conf"; script = codes "script"; ifaces = None; tap = None; every = None }
 
 -- files among which are those of the generated run of this number
 pub record HoldsWorkload (number : ℕ) (tree : Tree) : Type 0 where

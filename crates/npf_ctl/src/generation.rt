@@ -80,6 +80,7 @@ fn prepare_generated<'a>(
         script: "script",
         ifaces: None,
         tap: None,
+        every: None,
     };
     prepare_run(alloc, names, &mut files, captures)
 }

@@ -1,7 +1,7 @@
 // A run: it is prepared, its fragments are put together, its connections are loaded, it is played and reported, what passed is written, and
 // its connections are saved.
 // Files are loaded, written and saved where the words name them.
-ghost use Rattle.std.specs.Prelude.{◌≡◌, ◌≤◌, ℕ, List, All, IfOk, IfErr, OnOk, IsErrOf, length};
+ghost use Rattle.std.specs.Prelude.{◌≡◌, ◌≤◌, ◌<◌, ℕ, List, All, IfOk, IfErr, IfSome, OnOk, IsErrOf, length};
 ghost use Rattle.npf_outside.specs.Files.{SameOthers};
 ghost use Rattle.npf_outside.specs.Sink.{Appends};
 ghost use Rattle.npf_ctl_arrivals.specs.Within.{HasCaptureTime};
@@ -58,6 +58,7 @@ pub(crate) fn run<R: Threads + Wait + Sync, F: Files, O: Sink, C: Connections<Fl
     requires out { IsOut flow_law (C.fits conns.now) C.view pass.old }
     requires fresh { IsFresh (C.view pass.old) }
     requires workers { (1 ≤ words.workers) × (words.workers ≤ 64) }
+    requires apart { IfSome words.expire (λ seconds. 0 < seconds) }
     ensures ends { (texts : List (List ℕ)) → SaysCommand texts (CommandType.Run words.entry) → EndsIn texts
         (moment (F.moment files.old) (O.moment out.old) (C.view pass.old)) (moment (F.moment files.new) (O.moment out.new) (C.view pass.new)) result }
     ensures files { (texts : List (List ℕ)) → SaysCommand texts (CommandType.Run words.entry)
@@ -70,6 +71,7 @@ pub(crate) fn run<R: Threads + Wait + Sync, F: Files, O: Sink, C: Connections<Fl
         script: words.script,
         ifaces: words.ifaces,
         tap: tap_said(words.on, words.dir),
+        every: words.expire,
     };
     let mut captures = Captures::new(alloc);
     let mut datagrams = DatagramBytes::new(alloc);

@@ -28,22 +28,23 @@ one_sorted : (gathered : Gathered) → HasOneResult (Sorts gathered)
 one_sorted gathered _ _ (sorted {packets = packets} by_time) (sorted {packets = others} there) =
     ap Ok (one_sorting (λ packet. packet.time) gathered.packets packets others by_time.sorted there.sorted by_time.stable there.stable)
 
+abbrev plan_of : List Iface → List Configuration → List Packet → List Phase → RunPlan
+plan_of ifaces configs packets phases = record { ifaces = ifaces; configs = configs; packets = packets; phases = phases }
+
+both_planned : (ifaces : List Iface) (configs others : List Configuration) → AllZip AreOneConfiguration configs others → (packets : List Packet) (phases : List Phase)
+    (one other : Result RunPlan CommandFault) → one ≡ Ok (plan_of ifaces configs packets phases) → other ≡ Ok (plan_of ifaces others packets phases) →
+    AreOne AreOnePlan EndAlike one other
+both_planned ifaces configs others all packets phases one other is there =
+    subst (λ (it : Result RunPlan CommandFault). AreOne AreOnePlan EndAlike it other) (sym is)
+    (subst (λ (it : Result RunPlan CommandFault). AreOne AreOnePlan EndAlike (Ok (plan_of ifaces configs packets phases)) it) (sym there)
+    (record { ifaces = refl; configs = all; packets = refl; phases = refl }))
+
 plans_agree : (every : Option ℕ) (ifaces : List Iface) (configs others : List Configuration) (gathered : Gathered) (lines : List ScriptLine) →
     AllZip AreOneConfiguration configs others → Agree AreOnePlan (Plans every ifaces configs gathered lines) (Plans every ifaces others gathered lines)
 plans_agree every ifaces configs others gathered lines all =
     behind_one AreOnePlan (Sorts gathered) _ _ (one_sorted gathered)
     (λ packets. behind_one AreOnePlan (Schedules every lines packets) _ _ (one_after _ _ (one_told _) (λ _. one_told _))
-    (λ phases one other is there. both_planned packets phases one other is there))
-  where
-    abbrev plan : List Configuration → List Packet → List Phase → RunPlan
-    plan made packets phases = record { ifaces = ifaces; configs = made; packets = packets; phases = phases }
-
-    both_planned : (packets : List Packet) (phases : List Phase) (one other : Result RunPlan CommandFault) → one ≡ Ok (plan configs packets phases) →
-        other ≡ Ok (plan others packets phases) → AreOne AreOnePlan EndAlike one other
-    both_planned packets phases one other is there =
-        subst (λ (it : Result RunPlan CommandFault). AreOne AreOnePlan EndAlike it other) (sym is)
-        (subst (λ (it : Result RunPlan CommandFault). AreOne AreOnePlan EndAlike (Ok (plan configs packets phases)) it) (sym there)
-        (record { ifaces = refl; configs = all; packets = refl; phases = refl }))
+    (λ phases one other is there. both_planned ifaces configs others all packets phases one other is there))
 
 numbered_same : (ifaces : List Iface) (one other : Configuration) → AreOneConfiguration one other → AreOneConfiguration (numbered_by ifaces one) (numbered_by ifaces other)
 numbered_same ifaces one other same = record { model = ap (numbered ifaces) same.model; tables = same.tables }

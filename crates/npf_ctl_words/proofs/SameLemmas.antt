@@ -17,6 +17,7 @@ same_run rows a b p q = record {
   spread = Some-injective _ _ (sym p.spread ∙ q.spread);
   on = Some-injective _ _ (sym p.on ∙ q.on);
   dir = Some-injective _ _ (sym p.dir ∙ q.dir);
+  expire = Some-injective _ _ (sym p.expire ∙ q.expire);
   output = sym p.output ∙ q.output;
   load = sym p.load ∙ q.load;
   save = sym p.save ∙ q.save;

@@ -1,12 +1,15 @@
 -- What the values of a definition's arguments are to the command that is read of them.
 use Rattle.std.proofs.Common.{◌≡◌, ◌∙◌, ◌≤◌, ◌&&◌, ◌↔◌, if◌then◌else◌, IfSome, IsSome, IsTrue, Bool, true, false, List, [], ◌∷◌, Option, Some, None}
-use Rattle.std.proofs.Common.{Result, Ok, Err, is_some, refl, sym, ap, subst, arith, codes}
-use Rattle.std.specs.{Prelude.{pos, unwrap_or}, Option.option_map_or, Str.Parse.{IsNumeral, starts_with_minus, without_leading_plus}}
+use Rattle.std.proofs.Common.{Result, Ok, Err, ℕ, ◌<◌, is_some, refl, sym, ap, subst, arith, codes}
+use Rattle.std.specs.{Char.{digit_value, is_digit}, List.list_all}
+use Rattle.std.proofs.lemmas.Bool.Decides.{nat_tests}
+use Rattle.clap.proofs.WalkLemmas.{both}
+use Rattle.std.specs.{Prelude.{nat_lt, pos, unwrap_or}, Option.option_map_or, Str.Parse.{AllDigits, IsNumeral, starts_with_minus, without_leading_plus}}
 use Rattle.std.proofs.lemmas.{Bool.ne_eqb, Int.ints}
 use Rattle.clap.specs.{Kinds.{IsAmong, Kinds}, Walk.is_empty, Words.{IsSignedIn, IsUnsignedIn, Row, Rule, Text, first_of, found_of, rows_of}}
 use Rattle.clap.specs.declared.{error.kind.ErrorKind.ErrorKind, parser.matches.ArgMatches.ArgMatches}
 use Rattle.npf_types.specs.{NameText.is_name, Named.named, declared.name.Name.Name}
-use Rattle.npf_ctl_words.specs.CommandLine.{SaysCommand, TellsCommand, command_name, iface_named, is_command_line, knows_names, name_in, rows_in, signed_number, takes_words}
+use Rattle.npf_ctl_words.specs.CommandLine.{SaysCommand, TellsCommand, are_seconds, command_name, iface_named, is_command_line, is_numeral, knows_names, name_in, rows_in, seconds_named, signed_number, takes_words}
 use Rattle.npf_ctl_words.specs.Definitions.{check_command, compare_command, definition_of, explain_command, gen_command, lint_command, loading_command, number_parser, number_rule}
 use Rattle.npf_ctl_words.specs.Definitions.{query_command, reasons_command, run_command, spread_rule, steps_rule, word_rule, workers_parser, workers_rule}
 use Rattle.npf_ctl_words.specs.{Values.{HasEachValue, HasValue, IsMatched}, declared.command.{Invocation.Invocation, CommandName.CommandName}}
@@ -198,6 +201,58 @@ few_digits t h = go (starts_with_minus t) refl
         let low = rw minus at h.2 in
         let high = rw minus at h.3 in
         (numeral, omega (arith, ints), omega (arith, ints))
+
+-- ---- a number that is read by itself
+digit_is : (c : ℕ) → digit_value c < 10 → is_digit c 10 ≡ true
+digit_is c low = grind (arith, nat_tests)
+
+is_a_digit : (c : ℕ) → is_digit c 10 ≡ true → digit_value c < 10
+is_a_digit c is = grind (arith, nat_tests)
+
+all_digits : (text : Text) → AllDigits 10 text → list_all (λ digit. is_digit digit 10) text ≡ true
+all_digits [] each = refl
+all_digits (c ∷ cs) each = rw (digit_is c each.0) (all_digits cs each.1)
+
+each_digit : (text : Text) → list_all (λ digit. is_digit digit 10) text ≡ true → AllDigits 10 text
+each_digit [] all = tt
+each_digit (c ∷ cs) all = let are = both _ _ all in (is_a_digit c are.0, each_digit cs are.1)
+
+pub numeral_is : (text : Text) → IsNumeral 10 text → is_numeral text ≡ true
+numeral_is [] is = (let some = is.0 in absurd (omega arith))
+numeral_is (c ∷ cs) is = all_digits (c ∷ cs) is.1
+
+pub is_one : (text : Text) → is_numeral text ≡ true → IsNumeral 10 text
+is_one [] is = cc
+is_one (c ∷ cs) is = (omega arith, each_digit (c ∷ cs) is)
+
+lower : (n m : ℕ) → n < m → nat_lt n m ≡ true
+lower n m low = grind (arith, nat_tests)
+
+is_lower : (n m : ℕ) → nat_lt n m ≡ true → n < m
+is_lower n m is = grind (arith, nat_tests)
+
+module _ (text : Text) where
+  abbrev Reads : Type 0
+  Reads = IsNumeral 10 (without_leading_plus text) × (signed_number text < 4294967296)
+
+  abbrev picked : Bool → Option ℕ
+  picked b = if b then Some (signed_number text) else None
+
+  pub seconds_read : (n : ℕ) → Reads → n ≡ signed_number text → 0 < n → Some n ≡ seconds_named text
+  seconds_read n reads same positive =
+      let low : nat_lt 0 (signed_number text) ≡ true = lower 0 (signed_number text) (omega (arith, same, positive)) in
+      let are : are_seconds text ≡ true = rw (numeral_is (without_leading_plus text) reads.0, low, lower (signed_number text) 4294967296 reads.1) refl in
+      ap Some same ∙ sym (ap picked are)
+
+  none_picked : (are_seconds text ≡ true → ⊥) → None ≡ seconds_named text
+  none_picked never = go (are_seconds text) refl
+    where
+      go : (b : Bool) → are_seconds text ≡ b → None ≡ picked b
+      go false e = refl
+      go true e = absurd (never e)
+
+  pub seconds_unread : ¬ Reads → None ≡ seconds_named text
+  seconds_unread never = none_picked (λ are. never (is_one (without_leading_plus text) (both _ _ are).0, is_lower (signed_number text) 4294967296 (both _ _ (both _ _ are).1).1))
 
 -- ---- the definition of a name that is known
 

@@ -1,8 +1,10 @@
 -- The words of a command line, and the command that they say.
-use Rattle.std.specs.Prelude.{◌≡◌, ◌≤◌, ◌&&◌, ℕ, Bool, true, false, codes, if◌then◌else◌, List, [], ◌∷◌, Option, Some, None, String, is_some, map, option_and_then, option_map, string_bytes}
+use Rattle.std.specs.Prelude.{◌≡◌, ◌≤◌, ◌<◌, ◌&&◌, ℕ, Bool, true, false, nat_lt, IfSome, codes, if◌then◌else◌, List, [], ◌∷◌, Option, Some, None, String, is_some, map, option_and_then, option_map, string_bytes}
 use Rattle.std.specs.Option.{option_map_or}
 use Rattle.std.specs.Borrow.{Bor}
 use Rattle.std.specs.Global.{Global}
+use Rattle.std.specs.Char.{is_digit}
+use Rattle.std.specs.List.{list_all}
 use Rattle.std.specs.Str.{bytes_eq}
 use Rattle.std.specs.Str.Parse.{digits_value, without_leading_plus}
 use Rattle.clap.specs.Words.{Row, Text, fault_of, first_of, matches_of}
@@ -90,9 +92,29 @@ tap_iface_in rows = given_in iface_named (codes "on") rows
 abbrev pub tap_dir_in : List Row → Option (Option Dir)
 tap_dir_in rows = given_in dir_named (codes "dir") rows
 
--- `run` deals its packets by one of the two spreads, and says of a tap an interface and one of the two directions, if it does; and `explain` is asked of an interface and one of the two directions
+-- the number of digits that may have a plus sign before them
+abbrev pub signed_number : Text → ℕ
+signed_number text = digits_value 10 (without_leading_plus text)
+
+-- decimal digits, one at least
+abbrev pub is_numeral : Text → Bool
+is_numeral [] = false
+is_numeral (digit ∷ digits) = list_all (λ d. is_digit d 10) (digit ∷ digits)
+
+-- the seconds that a text names: a number from 1 to 4294967295, which may have a plus sign before it
+abbrev pub are_seconds : Text → Bool
+are_seconds text = is_numeral (without_leading_plus text) && (nat_lt 0 (signed_number text) && nat_lt (signed_number text) 4294967296)
+
+abbrev pub seconds_named : Text → Option ℕ
+seconds_named text = if are_seconds text then Some (signed_number text) else None
+
+-- those of what `clap` found for `run`
+abbrev pub expire_in : List Row → Option (Option ℕ)
+expire_in rows = given_in seconds_named (codes "expire") rows
+
+-- `run` deals its packets by one of the two spreads, says of expiries how many seconds part them, and of a tap an interface and one of the two directions, if it does; and `explain` is asked of an interface and one of the two directions
 abbrev pub knows_names : CommandName → List Row → Bool
-knows_names name.Run rows = is_some (spread_in rows) && (is_some (tap_iface_in rows) && is_some (tap_dir_in rows))
+knows_names name.Run rows = is_some (spread_in rows) && (is_some (tap_iface_in rows) && (is_some (tap_dir_in rows) && is_some (expire_in rows)))
 knows_names name.Explain rows = is_some (iface_in rows) && is_some (dir_in rows)
 knows_names _ rows = true
 
@@ -126,10 +148,6 @@ command_name (command.Lint _) = name.Lint
 command_name (command.Compare _) = name.Compare
 command_name (command.Gen _) = name.Gen
 
--- the number of digits that may have a plus sign before them
-abbrev pub signed_number : Text → ℕ
-signed_number text = digits_value 10 (without_leading_plus text)
-
 abbrev pub given_text : Option (Bor Text) → Option Text
 given_text = option_map (λ text. text.now)
 
@@ -144,6 +162,8 @@ pub record TellsRun (rows : List Row) (run : RunWords) : Type 0 where
   pub spread : spread_in rows ≡ Some run.spread
   pub on : tap_iface_in rows ≡ Some run.on
   pub dir : tap_dir_in rows ≡ Some run.dir
+  pub expire : expire_in rows ≡ Some run.expire
+  pub apart : IfSome run.expire (λ seconds. 0 < seconds)
   pub output : first_of (codes "write") rows ≡ given_text run.output
   pub load : first_of (codes "load") rows ≡ given_text run.load
   pub save : first_of (codes "save") rows ≡ given_text run.save

@@ -82,14 +82,15 @@ compare_command =
     let words = with_rule (with_rule (new_app (codes "compare")) (word_rule (codes "old"))) (word_rule (codes "new")) in
     with_rule (with_rule words (option_rule (codes "ifaces"))) steps_rule
 
--- run CONF SCRIPT [--ifaces FILE] [--workers N] [--spread NAME] [--on IF] [--dir NAME] [--write FILE] [--load FILE] [--save FILE]
+-- run CONF SCRIPT [--ifaces FILE] [--workers N] [--spread NAME] [--on IF] [--dir NAME] [--expire SECONDS] [--write FILE] [--load FILE] [--save FILE]
 abbrev pub run_command : App
 run_command =
     let words = with_rule (with_rule (new_app (codes "run")) (word_rule (codes "conf"))) (word_rule (codes "script")) in
     let ifaces = with_rule words (option_rule (codes "ifaces")) in
     let dealt = with_rule (with_rule ifaces workers_rule) spread_rule in
     let tapped = with_rule (with_rule dealt (option_rule (codes "on"))) (option_rule (codes "dir")) in
-    with_rule (with_rule (with_rule tapped (option_rule (codes "write"))) (option_rule (codes "load"))) (option_rule (codes "save"))
+    let aging = with_rule tapped (option_rule (codes "expire")) in
+    with_rule (with_rule (with_rule aging (option_rule (codes "write"))) (option_rule (codes "load"))) (option_rule (codes "save"))
 
 -- gen NUMBER
 abbrev pub gen_command : App

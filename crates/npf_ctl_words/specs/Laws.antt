@@ -21,6 +21,7 @@ pub record IsSameRun (a b : RunWords) : Type 0 where
   pub spread : a.spread ≡ b.spread
   pub on : a.on ≡ b.on
   pub dir : a.dir ≡ b.dir
+  pub expire : a.expire ≡ b.expire
   pub output : given_text a.output ≡ given_text b.output
   pub load : given_text a.load ≡ given_text b.load
   pub save : given_text a.save ≡ given_text b.save

@@ -45,6 +45,8 @@ pub struct RunWords<'a> {
     pub on: Option<Name>,
     /// The direction that they passed in.
     pub dir: Option<Dir>,
+    /// At multiples of how many seconds, at least 1, connections expire, if they do.
+    pub expire: Option<u32>,
     /// The file of saved connections that are loaded before the run.
     pub load: Option<&'a str>,
     /// The file that the connections are saved to after the run.

@@ -1,10 +1,10 @@
 // The command that a list of words says. The first word is compared before `clap` is asked, so that one which names no command is refused
 // whether there is memory or not.
-ghost use Rattle.std.specs.Prelude.{◌≡◌, ◌≤◌, ◌&&◌, IfOk, IfSome, IsErrOf, IsNone, None, Some, codes, false, is_some, option_map, pos, true};
+ghost use Rattle.std.specs.Prelude.{◌≡◌, ◌≤◌, ◌<◌, ◌&&◌, IfOk, IfSome, IsErrOf, IsNone, None, Some, codes, false, is_some, option_map, pos, true};
 ghost use Rattle.clap.specs.Words.{IsSignedIn, IsUnsignedIn, first_of, found_of, rows_of};
 ghost use Rattle.npf_ctl_words.specs.CommandLine.{SaysCommand, TellsCheck, TellsCommand, TellsCompare, TellsExplain, TellsLint, TellsLoad, TellsNumber, TellsQuery, TellsRun};
-ghost use Rattle.npf_ctl_words.specs.CommandLine.{asks_all, command_name, command_named, dir_in, dir_named, iface_in, iface_named, is_command_line};
-ghost use Rattle.npf_ctl_words.specs.CommandLine.{knows_names, name_in, signed_number, spread_in, spread_named, takes_words, tap_dir_in, tap_iface_in, word_texts};
+ghost use Rattle.npf_ctl_words.specs.CommandLine.{asks_all, command_name, command_named, dir_in, dir_named, expire_in, iface_in, iface_named, is_command_line};
+ghost use Rattle.npf_ctl_words.specs.CommandLine.{knows_names, name_in, seconds_named, signed_number, spread_in, spread_named, takes_words, tap_dir_in, tap_iface_in, word_texts};
 ghost use Rattle.npf_ctl_words.specs.Definitions.{check_command, compare_command, definition_of, explain_command, gen_command, lint_command, query_command, run_command};
 ghost use Rattle.npf_ctl_words.specs.Values.{HasEachValue, IsMatched};
 ghost use Rattle.npf_ctl_words.specs.declared.command.CommandName.TheVariants.{Why};
@@ -129,7 +129,7 @@ fn command_of<'a>(name: CommandName, matches: &ArgMatches<'a>) -> Option<Invocat
 #[tactic(auto, using(crate::proofs::SayLemmas::conf_of_run, crate::proofs::SayLemmas::script_of_run, crate::proofs::SayLemmas::workers_of_run, crate::proofs::SayLemmas::few_of_run, crate::proofs::SayLemmas::spread_of_run))]
 fn run_of<'a>(matches: &ArgMatches<'a>) -> Option<RunWords<'a>>
     requires { HasEachValue run_command (rows_of (found_of matches.now)) }
-    ensures known { (is_some (spread_in (rows_of (found_of matches.now))) && (is_some (tap_iface_in (rows_of (found_of matches.now))) && is_some (tap_dir_in (rows_of (found_of matches.now))))) ≡ is_some result }
+    ensures known { (is_some (spread_in (rows_of (found_of matches.now))) && (is_some (tap_iface_in (rows_of (found_of matches.now))) && (is_some (tap_dir_in (rows_of (found_of matches.now))) && is_some (expire_in (rows_of (found_of matches.now)))))) ≡ is_some result }
     ensures told { IfSome result (TellsRun (rows_of (found_of matches.now))) }
 {
     let Some(spread) = spread_named(value(matches, "spread")) else {
@@ -141,6 +141,9 @@ fn run_of<'a>(matches: &ArgMatches<'a>) -> Option<RunWords<'a>>
     let Some(dir) = tap_dir(matches) else {
         return None;
     };
+    let Some(expire) = expire(matches) else {
+        return None;
+    };
     Some(RunWords {
         conf: value(matches, "conf"),
         script: value(matches, "script"),
@@ -149,6 +152,7 @@ fn run_of<'a>(matches: &ArgMatches<'a>) -> Option<RunWords<'a>>
         spread,
         on,
         dir,
+        expire,
         output: given(matches, "write"),
         load: given(matches, "load"),
         save: given(matches, "save"),
@@ -175,6 +179,20 @@ fn tap_dir(matches: &ArgMatches) -> Option<Option<Dir>>
     match given(matches, "dir") {
         Some(text) => match dir_named(text) {
             Some(dir) => Some(Some(dir)),
+            None => None,
+        },
+        None => Some(None),
+    }
+}
+
+/// The seconds of `--expire`, at least 1, if it is given; None where its text is no such number.
+fn expire(matches: &ArgMatches) -> Option<Option<u32>>
+    ensures value { result ≡ expire_in (rows_of (found_of matches.now)) }
+    ensures apart { IfSome result (λ given. IfSome given (λ seconds. 0 < seconds)) }
+{
+    match given(matches, "expire") {
+        Some(text) => match seconds_named(text) {
+            Some(seconds) => Some(Some(seconds)),
             None => None,
         },
         None => Some(None),
@@ -324,6 +342,17 @@ fn any_number(text: &str) -> u64
     ensures { result ≡ signed_number text.now }
 {
     text.parse().unwrap()
+}
+
+/// The seconds that a text names.
+fn seconds_named(text: &str) -> Option<u32>
+    ensures value { result ≡ seconds_named text.now }
+    ensures apart { IfSome result (λ seconds. 0 < seconds) }
+{
+    let Ok(seconds) = text.parse::<u32>() else {
+        return None;
+    };
+    if seconds > 0 { Some(seconds) } else { None }
 }
 
 fn iface_named(text: &str) -> Option<Name>

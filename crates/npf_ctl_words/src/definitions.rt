@@ -39,6 +39,7 @@ fn run<'a>(alloc: Global) -> Result<Command<'a>, AllocError>
         .arg(spread(alloc))?
         .arg(option(alloc, "on"))?
         .arg(option(alloc, "dir"))?
+        .arg(option(alloc, "expire"))?
         .arg(option(alloc, "write"))?
         .arg(option(alloc, "load"))?
         .arg(option(alloc, "save"))?;

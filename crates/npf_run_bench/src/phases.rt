@@ -41,6 +41,7 @@ pub fn time_phases<R: Threads + Wait + Sync, C: Connections<FlowLaw>>(
         script: script.as_str(),
         ifaces: None,
         tap: None,
+        every: None,
     };
     let mut captures = Captures::new(host.alloc());
     let mut files = FolderFiles::new(host);
