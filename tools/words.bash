@@ -3,7 +3,7 @@
 # The script npfctl sources this.
 # shellcheck disable=SC2034 # hints.bash reads the rest
 
-run_words='run CONF SCRIPT [--ifaces FILE] [--workers N] [--spread rr|flow] [--on IF] [--dir in|out] [--write FILE] [--load FILE] [--save FILE]'
+run_words='run CONF SCRIPT [--ifaces FILE] [--workers N] [--spread rr|flow] [--on IF] [--dir in|out] [--expire SECONDS] [--write FILE] [--load FILE] [--save FILE]'
 text_words='CONF [--ifaces FILE]'
 why_words='why CONF [--all] [--ifaces FILE]'
 explain_words='explain CONF IF in|out CLASS [--ifaces FILE]'
@@ -11,7 +11,7 @@ query_words='query CONF CLASS [--ifaces FILE] [--steps N]'
 check_words='check CONF EXPECTATIONS [--ifaces FILE] [--steps N]'
 lint_words='lint CONF [--ifaces FILE] [--steps N]'
 compare_words='compare OLD NEW [--ifaces FILE] [--steps N]'
-run_options=(--ifaces --workers --spread --on --dir --write --load --save)
+run_options=(--ifaces --workers --spread --on --dir --expire --write --load --save)
 most_number=18446744073709551615
 
 # A hint is one line, whatever bytes a name in it has.
@@ -104,6 +104,10 @@ judge_value() {
       ;;
     --spread)
       [ "$2" = rr ] || [ "$2" = flow ] || blame "--spread is rr or flow, and $(printf %q "$2") is neither"
+      ;;
+    --expire)
+      is_number "$2" && [ "${#2}" -le 12 ] && [ "$((10#${2#+}))" -ge 1 ] && [ "$((10#${2#+}))" -le 4294967295 ] ||
+        blame "--expire is from 1 to 4294967295 seconds, and $(printf %q "$2") is none of these"
       ;;
     IF | --on)
       [[ $2 =~ ^[A-Za-z][A-Za-z0-9._-]{0,14}$ ]] || blame "$1 is an interface's name of 1 to 15 bytes, and $(printf %q "$2") is none"
