@@ -18,7 +18,8 @@ use Rattle.npf_ctl_prepare.specs.Prepares.{KeepsScriptLimits, RunPlan, Plans, Sc
 abbrev pub Ends : {A : Type 0} → Stage A CommandFault → CommandFault → Type 0
 Ends stage fault = IfTold (λ other. stage (Err other)) fault
 
-module _ (before after : FilesMoment) (tap : Option NamedTap) (every : Option ℕ) (script : List ℕ) (given : List Iface) (first : Configuration) (source : Source) (numbered_lines : List (ℕ × ScriptLine))
+module _ (before after : FilesMoment) (tap : Option NamedTap) (every : Option ℕ) (script : List ℕ) (given : List Iface) (first : Configuration)
+    (source : Source) (numbered_lines : List (ℕ × ScriptLine))
     (lines_are : numbered_lines ≡ lines_of_source tap script source) where
   abbrev Prepares : Result RunPlan CommandFault → Type 0
   Prepares = PreparesSource before after tap every script given first source

@@ -82,4 +82,5 @@ module _ (one_tree : OneTree) (tree_or_halt : TreeOrHalt) (one_place : OnePlace)
       (λ bytes. one_behind (λ (a b : Source). a ≡ b) AreOnePlan EndAlike (ReadsSource names.tap names.script bytes) (ReadsSource names.tap names.script bytes) _ _
       (sources_agree one_script none_refused names.script bytes names.tap)
       (λ source last _ _ sources. subst (λ (s : Source). Agree AreOnePlan (PreparesSource (told_files tree) (told_files tree) names.tap names.every names.script given one source)
-      (PreparesSource (told_files tree) (told_files tree) names.tap names.every names.script given other s)) sources (sources_prepared names.tap names.every names.script given one other same source)))))
+      (PreparesSource (told_files tree) (told_files tree) names.tap names.every names.script given other s)) sources
+      (sources_prepared names.tap names.every names.script given one other same source)))))

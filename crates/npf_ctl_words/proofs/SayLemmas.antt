@@ -9,7 +9,8 @@ use Rattle.std.proofs.lemmas.{Bool.ne_eqb, Int.ints}
 use Rattle.clap.specs.{Kinds.{IsAmong, Kinds}, Walk.is_empty, Words.{IsSignedIn, IsUnsignedIn, Row, Rule, Text, first_of, found_of, rows_of}}
 use Rattle.clap.specs.declared.{error.kind.ErrorKind.ErrorKind, parser.matches.ArgMatches.ArgMatches}
 use Rattle.npf_types.specs.{NameText.is_name, Named.named, declared.name.Name.Name}
-use Rattle.npf_ctl_words.specs.CommandLine.{SaysCommand, TellsCommand, are_seconds, command_name, iface_named, is_command_line, is_numeral, knows_names, name_in, rows_in, seconds_named, signed_number, takes_words}
+use Rattle.npf_ctl_words.specs.CommandLine.{SaysCommand, TellsCommand, are_seconds, command_name, iface_named, is_command_line}
+use Rattle.npf_ctl_words.specs.CommandLine.{is_numeral, knows_names, name_in, rows_in, seconds_named, signed_number, takes_words}
 use Rattle.npf_ctl_words.specs.Definitions.{check_command, compare_command, definition_of, explain_command, gen_command, lint_command, loading_command, number_parser, number_rule}
 use Rattle.npf_ctl_words.specs.Definitions.{query_command, reasons_command, run_command, spread_rule, steps_rule, word_rule, workers_parser, workers_rule}
 use Rattle.npf_ctl_words.specs.{Values.{HasEachValue, HasValue, IsMatched}, declared.command.{Invocation.Invocation, CommandName.CommandName}}

@@ -13,7 +13,8 @@ pub returns-in_err-ifaces-clause-comes : goal.returns-in_err-ifaces-clause-comes
 returns-in_err-ifaces-clause-comes g c =
     let fault = c.in_err-ifaces.field-0.0 in
     let same : c.from_residual.result ≡ Err fault = search rules in
-    rw same (λ before after around. limits_end before after c.args.orders.tap c.args.orders.every c.args.script.now c.args.given.list (configuration c.args.first) (source_ordered c.args.orders) c.args.orders.lines
+    rw same (λ before after around. limits_end before after c.args.orders.tap c.args.orders.every c.args.script.now c.args.given.list (configuration c.args.first)
+    (source_ordered c.args.orders) c.args.orders.lines
     c.requires.lines fault (rw c.as_slice-lines.ensures at c.in_err-ifaces.ensures.comes))
 
 pub gather_captures-requires-clause-one : goal.gather_captures-requires-clause-one
@@ -23,7 +24,8 @@ pub returns-in_err-arrivals-clause-comes : goal.returns-in_err-arrivals-clause-c
 returns-in_err-arrivals-clause-comes g c =
     let fault = c.in_err-arrivals.field-0.0 in
     let same : c.from_residual-in_err-arrivals.result ≡ Err fault = search rules in
-    rw same (λ before after around. captures_end before after c.args.orders.tap c.args.orders.every c.args.script.now c.args.given.list (configuration c.args.first) (source_ordered c.args.orders) c.args.orders.lines
+    rw same (λ before after around. captures_end before after c.args.orders.tap c.args.orders.every c.args.script.now c.args.given.list (configuration c.args.first)
+    (source_ordered c.args.orders) c.args.orders.lines
     c.requires.lines c.in_ok-ifaces.ifaces.list (rw c.as_slice-lines.ensures at c.in_ok-ifaces.ensures.comes) fault
     (rw c.as_slice-lines.ensures at c.in_err-arrivals.ensures.comes before after around))
 
@@ -34,7 +36,8 @@ returns-in_err-configs-clause-comes g c =
     let start = g.F.Files.moment c.args.files.now in
     let one = g.F.Files.moment c.gather_captures.new.files in
     let two = g.F.Files.moment c.make_configurations.new.files in
-    rw same (λ before after around. making_end before after c.args.orders.tap c.args.orders.every c.args.script.now c.args.given.list (configuration c.args.first) (source_ordered c.args.orders) c.args.orders.lines
+    rw same (λ before after around. making_end before after c.args.orders.tap c.args.orders.every c.args.script.now c.args.given.list (configuration c.args.first)
+    (source_ordered c.args.orders) c.args.orders.lines
     c.requires.lines c.in_ok-ifaces.ifaces.list (rw c.as_slice-lines.ensures at c.in_ok-ifaces.ensures.comes) (gathered_so_far c.in_ok-arrivals.arrivals)
     (rw c.as_slice-lines.ensures at c.in_ok-arrivals.ensures.comes before after (around_first before start one two after around c.make_configurations.ensures.reads))
     (configuration c.numbered-first.result) c.numbered-first.ensures.value fault
