@@ -44,8 +44,8 @@ pub type Status = u8;
 
 /// Does what the words ask; they leave out the program's name.
 ///
-/// - `run CONF SCRIPT [--ifaces FILE] [--workers N] [--spread rr|flow] [--on IF] [--dir in|out] [--write FILE] [--load FILE] [--save FILE]` runs the
-///   packets of a script's captures, or of a capture alone, through a configuration of npf.conf(5), and puts a line for each packet and the total line on `out`
+/// - `run CONF SCRIPT [--ifaces FILE] [--workers N] [--spread rr|flow] [--on IF] [--dir in|out] [--expire SECONDS] [--write FILE]
+///   [--load FILE] [--save FILE]` runs the packets of a script's captures, or of a capture alone, through a configuration of npf.conf(5), and puts a line for each packet and the total line on `out`
 /// - `validate CONF`, `show CONF` and `debug CONF`, each with `[--ifaces FILE]`, put the count of a configuration's rules, its canonical text, and
 ///   the programs of its rules
 /// - `why CONF [--ifaces FILE] [--all]` puts what is to be said of a configuration's first fault on `out`, with `--all` also of each that is left
@@ -54,9 +54,9 @@ pub type Status = u8;
 /// - `query CONF CLASS [--ifaces FILE] [--steps N]` puts which of a configuration's rules decide on the packets of a class, each with such a packet
 /// - `check CONF EXPECTATIONS [--ifaces FILE] [--steps N]` puts which expectations of a file a configuration doesn't meet, each with a packet
 /// - `lint CONF [--ifaces FILE] [--steps N]` puts which of a configuration's rules decide on no packet, and without which every packet would be treated
-///   alike
-/// - `compare OLD NEW [--ifaces FILE] [--steps N]` puts by which rules and maps two configurations would treat a packet otherwise, each pair with such a
-///   packet, and which of their settings differ
+///   alike, and which groups, tables and procedures do nothing
+/// - `compare OLD NEW [--ifaces FILE] [--steps N]` puts which rules and maps of two configurations apply to one packet and don't ask the same of it, each
+///   pair with such a packet, and which of their settings differ
 /// - `gen NUMBER` runs the generated input of this number, and puts the total line
 ///
 /// Where it is refused, the line of the first fault met is put on `err`. The table of connections is new, and `pass` is its first pass.

@@ -1,5 +1,5 @@
 -- What a run is prepared from, in the order of the work: the file of interfaces, the configuration, the script or a capture alone, the limits,
--- the captures, and the changes of the configuration. The first fault that is met ends it.
+-- the captures, the changes of the configuration, and the limit on expiries. The first fault that is met ends it.
 -- READ 2 of docs/READING.md
 use Rattle.std.specs.Prelude.{ℕ, nat_le, Option, Some, None, Result, Ok, List, [], ◌∷◌, length}
 use Rattle.npf_types.specs.declared.limits.TheConstants.{MAX_CAPTURE_BYTES}

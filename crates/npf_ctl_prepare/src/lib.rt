@@ -3,7 +3,8 @@
 // order of work"). The first fault that is met ends it.
 //
 // `prepare` is the whole work, and `orders` reads what the run is to do; `limits` tests how much of it there is, `captures` gathers the
-// packets, `making` makes the configurations, `reloading` those of files, and `numbering` gives the first one the numbers of the run's interfaces.
+// packets, `configurations` makes the configurations, `reloads` those of files, `interfaces` gives the first one the numbers of the run's interfaces, and
+// `phases` makes the phases of the packets.
 //
 // The contract: what is prepared is a plan that the stages of specs/Prepares may come to, or the first fault is told, and want of memory
 // says nothing; what is prepared may be played.

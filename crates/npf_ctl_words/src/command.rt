@@ -148,7 +148,7 @@ pub enum Invocation<'a> {
     Query(QueryWords<'a>),
     /// Loads a configuration, and says which expectations it doesn't meet.
     Check(CheckWords<'a>),
-    /// Loads a configuration, and says which of its rules do nothing.
+    /// Loads a configuration, and says what in it does nothing.
     Lint(LintWords<'a>),
     /// Loads two configurations, and says which packets they would treat otherwise.
     Compare(CompareWords<'a>),

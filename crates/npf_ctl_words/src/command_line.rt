@@ -26,7 +26,8 @@ use std::alloc::Global;
 ///
 /// `Usage` exactly where the first word is missing or names no command, `clap`'s definition of the
 /// command refuses the words behind it, a run's spread is neither `rr` nor `flow`, a direction is
-/// neither `in` nor `out`, or an interface is no name; words that ask for help or a version are refused. `NoMemory` where memory runs out.
+/// neither `in` nor `out`, an interface is no name, or the seconds between expiries are no number from 1 to
+/// 4294967295; words that ask for help or a version are refused. `NoMemory` where memory runs out.
 #[tactic(auto, using(crate::proofs::SayLemmas::refused_unnamed, crate::proofs::SayLemmas::refused_words, crate::proofs::SayLemmas::refused_names, crate::proofs::SayLemmas::says))]
 pub fn read_words<'a>(alloc: Global, words: &'a [String]) -> Result<Invocation<'a>, WordsFault>
     ensures read { IfOk result (SaysCommand (word_texts words.entry.now)) }
